@@ -1,0 +1,116 @@
+-- Demand 2: every event that can be written has one word, and that word reads as that event and no other.
+use mathlib.Core.Path.{_≡_, refl, sym, ap, _∙_}
+use Prim.Native.Nat.{ℕ, _+_, _-_, _*_, _^_, _≤_, _<_}
+use native.Mathlib.Omega.{arith}
+use mathlib.Core.Bool.{Bool, true, false, not, _&&_}
+use mathlib.Core.List.{[], _∷_}
+use lib.Dec.{ltb, leb, eqb, lit<}
+use borrow.Author.Tests.{ltb-true, leb-true, eqb-true, eq-eqb}
+use Rattle.model.specs.Choice.{if_then_else_}
+use Rattle.model.specs.WellFormed.{Each, nil, cons}
+use Rattle.model.specs.Fields.{bits, kind, ofKind}
+use Rattle.model.specs.Answers.{isAccepted}
+use Rattle.model.specs.Events.{wordOf, eventOf, partsFit, sameNode, eventAnswer, wordAnswer, readEvent}
+use Rattle.model.specs.declared.answer.Answer.{Answer}
+use Rattle.model.specs.declared.answer.Answer.the-variants.{Accepted, NotAnEvent}
+use Rattle.model.specs.declared.event.Event.{Event}
+use Rattle.model.specs.declared.event.Event.the-variants.{On, Off, Notice, Contact, Timer, Deliver, Lose}
+use Rattle.model.specs.declared.event.Reading.the-variants.{Read, Refused}
+use Rattle.model.proofs.Laws.{clash, and-left, and-right, decide, not-out-false}
+use Rattle.model.proofs.Lists.{first, rest}
+use Rattle.model.proofs.Fields.{field}
+use Rattle.model.proofs.Answers.{accepted-is, none-applies}
+
+-- ---- the named bits of an event's word
+
+kind-is : (k v : ℕ) → k < 16 → v < 2 ^ 28 → kind (ofKind k v) ≡ k
+kind-is k v h l = field 28 4 0 k v (omega arith) l h
+
+low-is : (k width hi v : ℕ) → 2 ^ 28 ≡ hi * 2 ^ width → v < 2 ^ width → bits 0 width (ofKind k v) ≡ v
+low-is k width hi v e h = field 0 width (k * hi) v 0 (ap (λ (w : ℕ). k * w + v) e ∙ omega arith) (lit< tt) h
+
+-- x below another part v, which starts at bit `low`
+record TwoParts (k low width x v : ℕ) : Type 0 where
+  kind-back : kind (ofKind k (v * 2 ^ low + x)) ≡ k
+  low-back : bits 0 6 (ofKind k (v * 2 ^ low + x)) ≡ x
+  high-back : bits low width (ofKind k (v * 2 ^ low + x)) ≡ v
+
+two-nodes : (k x z : ℕ) → k < 16 → x < 64 → z < 64 → TwoParts k 6 6 x z
+two-nodes k x z hk h l =
+    record {
+      kind-back = kind-is k (z * 2 ^ 6 + x) hk (omega arith);
+      low-back = field 0 6 (k * 2 ^ 22 + z) x 0 (omega arith) (lit< tt) h;
+      high-back = field 6 6 (k * 2 ^ 16) z x (omega arith) h l;
+    }
+
+node-and-timer : (x i : ℕ) → x < 64 → i ≤ 4 → TwoParts 13 12 3 x i
+node-and-timer x i h l =
+    record {
+      kind-back = kind-is 13 (i * 2 ^ 12 + x) (lit< tt) (omega arith);
+      low-back = field 0 6 (13 * 2 ^ 22 + i * 2 ^ 6) x 0 (omega arith) (lit< tt) h;
+      high-back = field 12 3 (13 * 2 ^ 13) i x (omega arith) (omega arith) (omega arith);
+    }
+
+-- the named bits of an event's word give that event
+event-of-word : (e : Event) → partsFit e ≡ true → eventOf (wordOf e) ≡ e
+unfolding eventOf wordOf partsFit
+event-of-word (On x) t =
+    let h = ltb-true (x .0) 64 t in
+    rw (kind-is 9 (x .0) (lit< tt) (omega arith), low-is 9 6 (2 ^ 22) (x .0) refl h)
+event-of-word (Off x) t =
+    let h = ltb-true (x .0) 64 t in
+    rw (kind-is 10 (x .0) (lit< tt) (omega arith), low-is 10 6 (2 ^ 22) (x .0) refl h)
+event-of-word (Notice x z) t =
+    let p = two-nodes 11 (x .0) (z .0) (lit< tt) (ltb-true (x .0) 64 (and-left _ _ t)) (ltb-true (z .0) 64 (and-right (ltb (x .0) 64) _ t)) in
+    rw (p .kind-back, p .low-back, p .high-back)
+event-of-word (Contact x y) t =
+    let p = two-nodes 12 (x .0) (y .0) (lit< tt) (ltb-true (x .0) 64 (and-left _ _ t)) (ltb-true (y .0) 64 (and-right (ltb (x .0) 64) _ t)) in
+    rw (p .kind-back, p .low-back, p .high-back)
+event-of-word (Timer x i) t =
+    let p = node-and-timer (x .0) i (ltb-true (x .0) 64 (and-left _ _ t)) (leb-true i 4 (and-right (ltb (x .0) 64) _ t)) in
+    rw (p .kind-back, p .low-back, p .high-back)
+event-of-word (Deliver i) t =
+    let h = ltb-true i 1024 t in
+    rw (kind-is 14 i (lit< tt) (omega arith), low-is 14 10 (2 ^ 18) i refl h)
+event-of-word (Lose i) t =
+    let h = ltb-true i 1024 t in
+    rw (kind-is 15 i (lit< tt) (omega arith), low-is 15 10 (2 ^ 18) i refl h)
+
+-- ---- writing and reading
+
+-- what an event that can be written is
+pub record Writable (e : Event) : Type 0 where
+  pub parts-fit : partsFit e ≡ true
+  pub differ : sameNode e ≡ false
+
+pub writable : (e : Event) → eventAnswer e ≡ Accepted → Writable e
+unfolding eventAnswer
+writable e a =
+    let p = none-applies _ (cons refl (cons refl nil)) a in
+    record { parts-fit = not-out-false (partsFit e) (first p); differ = first (rest p) }
+
+-- an event's word reads as that event
+pub reads : (e : Event) → eventAnswer e ≡ Accepted → readEvent (wordOf e) ≡ Read e
+unfolding readEvent wordAnswer
+reads e a = rw (event-of-word e (writable e a .parts-fit), eq-eqb (wordOf e) (wordOf e) refl, a)
+
+-- what is known of a word that reads as an event
+pub record ReadsAs (w : ℕ) (e : Event) : Type 0 where
+  pub word : w ≡ wordOf e
+  pub accepted : eventAnswer e ≡ Accepted
+
+accepted-word : (w : ℕ) → isAccepted (wordAnswer w) ≡ true → ReadsAs w (eventOf w)
+unfolding wordAnswer
+accepted-word w a = by-word (eqb w (wordOf (eventOf w))) refl a
+  where
+    by-word : (b : Bool) → eqb w (wordOf (eventOf w)) ≡ b → isAccepted (if b then eventAnswer (eventOf w) else NotAnEvent) ≡ true → ReadsAs w (eventOf w)
+    by-word true q k = record { word = eqb-true w (wordOf (eventOf w)) q; accepted = accepted-is (eventAnswer (eventOf w)) k }
+    by-word false q k = clash k refl
+
+pub reads-as : (w : ℕ) (e : Event) → readEvent w ≡ Read e → ReadsAs w e
+unfolding readEvent
+reads-as w e h = by-answer (isAccepted (wordAnswer w)) refl h
+  where
+    by-answer : (b : Bool) → isAccepted (wordAnswer w) ≡ b → (if b then Read (eventOf w) else Refused (wordAnswer w)) ≡ Read e → ReadsAs w e
+    by-answer true a q = let i : eventOf w ≡ e = cc in rw i at (accepted-word w a)
+    by-answer false a q = absurd (let z : _≡_ {A = ℕ} 0 1 = cc in omega arith)

@@ -1,0 +1,117 @@
+-- Laws of the ring's words: the word at a place, and that words that read as a ring are those of the ring that they decode to.
+use mathlib.Core.Path.{_≡_, refl, sym, ap, _∙_}
+use Prim.Native.Nat.{ℕ, _+_, _-_, _*_, _/_, _%_, _<_}
+use native.Mathlib.Omega.{arith}
+use mathlib.Core.Bool.{Bool, true, false, not, _&&_}
+use mathlib.Core.List.{List, [], _∷_}
+use lib.ListN.{length, getD}
+use lib.Seq.{ext-getD}
+use lib.Arith.{digits-mod}
+use lib.Dec.{ltb, eqb}
+use borrow.Author.Tests.{le-ltb, lt-ltb, ltb-true, eqb-true, eqb-false, eq-eqb, ne-eqb}
+use Rattle.model.specs.Leafset.{Table, size}
+use Rattle.model.specs.Ring.{Ring}
+use Rattle.model.specs.WellFormed.{Other, Each, nil, cons}
+use Rattle.model.specs.Words.{isPair, ofNode, ofPair, ofMessage, nodePlace, pairPlace, messagePlace, wordAt, ringLength, encode, decode, ringFits, formatFits, readsAsRing}
+use Rattle.model.proofs.Laws.{and-left, and-right, and-in, not-in, not-out, all-in, all-out, every-in, every-out, length-tabulate, getD-tabulate}
+use Rattle.model.proofs.Lists.{first, rest}
+
+-- ---- the word at a place of an encoded ring
+
+pub length-encode : (r : Ring) → length (encode r) ≡ ringLength
+unfolding encode
+length-encode r = length-tabulate (wordAt r) ringLength
+
+pub encode-at : (r : Ring) (i : ℕ) → i < ringLength → getD (encode r) i 0 ≡ wordAt r i
+unfolding encode
+encode-at r i h = getD-tabulate (wordAt r) 0 ringLength i h
+
+pub node-at : (r : Ring) (s i : ℕ) → s < 64 → i < 2 → wordAt r (nodePlace s + i) ≡ ofNode r s i
+unfolding wordAt
+node-at r s i hs hi =
+    let p : ℕ = nodePlace s + i in
+    let a : ltb p 1 ≡ false = le-ltb p 1 (omega arith) in
+    let b : ltb p 129 ≡ true = lt-ltb p 129 (omega arith) in
+    let q : (p - 1) / 2 ≡ s = omega arith in
+    let e : p - 1 ≡ s * 2 + i = omega arith in
+    let u : (p - 1) % 2 ≡ i = ap (λ (k : ℕ). k % 2) e ∙ digits-mod s hi in
+    rw (a, b, q, u)
+
+pub pair-at : (r : Ring) (x z i : ℕ) → x < 64 → z < 64 → i < 2 → wordAt r (pairPlace x z + i) ≡ ofPair r x z i
+unfolding wordAt
+pair-at r x z i hx hz h =
+    let p : ℕ = pairPlace x z + i in
+    let a : ltb p 1 ≡ false = le-ltb p 1 (omega arith) in
+    let b : ltb p 129 ≡ false = le-ltb p 129 (omega arith) in
+    let c : ltb p 8321 ≡ true = lt-ltb p 8321 (omega arith) in
+    let q : (p - 129) / 2 / 64 ≡ x = omega arith in
+    let e : (p - 129) / 2 ≡ x * 64 + z = omega arith in
+    let f : p - 129 ≡ (64 * x + z) * 2 + i = omega arith in
+    let s : (p - 129) / 2 % 64 ≡ z = ap (λ (k : ℕ). k % 64) e ∙ digits-mod x hz in
+    let u : (p - 129) % 2 ≡ i = ap (λ (k : ℕ). k % 2) f ∙ digits-mod (64 * x + z) h in
+    rw (a, b, c, q, s, u)
+
+pub message-at : (r : Ring) (k i : ℕ) → i < 5 → wordAt r (messagePlace k + i) ≡ ofMessage r k i
+unfolding wordAt
+message-at r k i hi =
+    let p : ℕ = messagePlace k + i in
+    let a : ltb p 1 ≡ false = le-ltb p 1 (omega arith) in
+    let b : ltb p 129 ≡ false = le-ltb p 129 (omega arith) in
+    let c : ltb p 8321 ≡ false = le-ltb p 8321 (omega arith) in
+    let q : (p - 8321) / 5 ≡ k = omega arith in
+    let e : p - 8321 ≡ k * 5 + i = omega arith in
+    let u : (p - 8321) % 5 ≡ i = ap (λ (j : ℕ). j % 5) e ∙ digits-mod k hi in
+    rw (a, b, c, q, u)
+
+-- ---- a pair, as facts
+
+pub pair-in : (t : Table) (x z : ℕ) → x < size t → Other (size t) x z → isPair t x z ≡ true
+pair-in t x z h o =
+    and-in (and-in (lt-ltb x (size t) h) (lt-ltb z (size t) (o .low))) (not-in (ne-eqb x z (λ e. o .differs (sym e))))
+
+pub pair-low : (t : Table) (x z : ℕ) → isPair t x z ≡ true → x < size t
+pair-low t x z e = ltb-true x (size t) (and-left (ltb x (size t)) (ltb z (size t)) (and-left (ltb x (size t) && ltb z (size t)) (not (eqb x z)) e))
+
+pub pair-other : (t : Table) (x z : ℕ) → isPair t x z ≡ true → Other (size t) x z
+pair-other t x z e =
+    record {
+      low = ltb-true z (size t) (and-right (ltb x (size t)) (ltb z (size t)) (and-left (ltb x (size t) && ltb z (size t)) (not (eqb x z)) e));
+      differs = λ i. eqb-false x z (not-out (eqb x z) (and-right (ltb x (size t) && ltb z (size t)) (not (eqb x z)) e)) (sym i);
+    }
+
+-- ---- words that read as a ring
+
+pub record ReadsAsRing (ws : List ℕ) : Type 0 where
+  pub long : length ws ≡ ringLength
+  pub format : formatFits ws ≡ true
+  pub fits : ringFits (decode ws) ≡ true
+
+pub reads-out : (ws : List ℕ) → readsAsRing ws ≡ true → ReadsAsRing ws
+unfolding readsAsRing
+reads-out ws e =
+    let p = every-out (eqb (length ws) ringLength ∷ formatFits ws ∷ ringFits (decode ws) ∷ []) e in
+    record { long = eqb-true (length ws) ringLength (first p); format = first (rest p); fits = first (rest (rest p)) }
+
+pub reads-in : (ws : List ℕ) → ReadsAsRing ws → readsAsRing ws ≡ true
+unfolding readsAsRing
+reads-in ws p = every-in (cons (eq-eqb (length ws) ringLength (p .long)) (cons (p .format) (cons (p .fits) nil)))
+
+-- the format fits exactly the words of the ring that they decode to
+pub format-out : (ws : List ℕ) → length ws ≡ ringLength → formatFits ws ≡ true → ws ≡ encode (decode ws)
+unfolding formatFits
+format-out ws l e =
+    ext-getD 0 ws (encode (decode ws)) (l ∙ sym (length-encode (decode ws)))
+    (λ i h.
+    let k : i < ringLength = omega arith in
+    eqb-true (getD ws i 0) (wordAt (decode ws) i) (all-out ringLength (λ j. eqb (getD ws j 0) (wordAt (decode ws) j)) e i k)
+    ∙ sym (encode-at (decode ws) i k))
+
+pub format-in : (ws : List ℕ) → ws ≡ encode (decode ws) → formatFits ws ≡ true
+unfolding formatFits
+format-in ws e =
+    all-in ringLength (λ i. eqb (getD ws i 0) (wordAt (decode ws) i))
+    (λ i h. eq-eqb (getD ws i 0) (wordAt (decode ws) i) (ap (λ (l : List ℕ). getD l i 0) e ∙ encode-at (decode ws) i h))
+
+-- words that read as a ring are the words of the ring that they decode to
+pub decoded-back : (ws : List ℕ) → readsAsRing ws ≡ true → ws ≡ encode (decode ws)
+decoded-back ws e = let p = reads-out ws e in format-out ws (p .long) (p .format)

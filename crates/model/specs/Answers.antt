@@ -1,0 +1,36 @@
+-- The answers: acceptance and the eleven refusals, with document 01's numbers, and the order in which they are tried.
+use Prim.Native.Nat.{ℕ}
+use mathlib.Core.Bool.{Bool}
+use mathlib.Core.List.{List, [], _∷_}
+use lib.Dec.{eqb}
+use Rattle.model.specs.Choice.{if_then_else_}
+use Rattle.model.specs.declared.answer.Answer.{Answer}
+use Rattle.model.specs.declared.answer.Answer.the-variants.{Accepted, WrongLength, OpeningOutOfRange, BadKey, NotAnEvent, SameNode, NotARing, OutOfTable, NodeOff, AlreadyRunning, ClockSpent, PoolFull}
+
+-- "answer (0 accepted)"; "Refusals from the input", "Refusals from the state": the numbers 1 to 11
+abbrev pub numberOf : Answer → ℕ
+numberOf Accepted = 0
+numberOf WrongLength = 1
+numberOf OpeningOutOfRange = 2
+numberOf BadKey = 3
+numberOf NotAnEvent = 4
+numberOf SameNode = 5
+numberOf NotARing = 6
+numberOf OutOfTable = 7
+numberOf NodeOff = 8
+numberOf AlreadyRunning = 9
+numberOf ClockSpent = 10
+numberOf PoolFull = 11
+
+abbrev pub isAccepted : Answer → Bool
+isAccepted a = eqb (numberOf a) 0
+
+-- a refusal, and the test whether it applies
+pub record Refusal : Type 0 where
+  pub refusal : Answer
+  pub applies : Bool
+
+-- "The lowest number that applies is given, and none otherwise": the refusals stand in rising order
+unfoldable pub firstOf : List Refusal → Answer
+firstOf [] = Accepted
+firstOf (q ∷ qs) = if q .applies then q .refusal else firstOf qs

@@ -1,0 +1,77 @@
+-- Event words: writing one, and reading one.
+use Prim.Native.Nat.{ℕ, _+_, _-_, _*_, _^_}
+use mathlib.Core.Bool.{Bool, false, not, _&&_}
+use mathlib.Core.List.{[], _∷_}
+use lib.ListN.{getD}
+use lib.Dec.{ltb, leb, eqb}
+use Rattle.model.specs.Choice.{if_then_else_}
+use Rattle.model.specs.Fields.{bits, kind, ofKind}
+use Rattle.model.specs.Answers.{firstOf, isAccepted}
+use Rattle.model.specs.declared.answer.Answer.{Answer}
+use Rattle.model.specs.declared.answer.Answer.the-variants.{NotAnEvent, SameNode}
+use Rattle.model.specs.declared.event.Event.{Event}
+use Rattle.model.specs.declared.event.Event.the-variants.{On, Off, Notice, Contact, Timer, Deliver, Lose}
+use Rattle.model.specs.declared.event.Reading.{Reading}
+use Rattle.model.specs.declared.event.Reading.the-variants.{Read, Refused}
+use Rattle.model.specs.declared.values.NodeNumber.{NodeNumber}
+
+-- "One word each: kind 9 on, 10 off, 11 notice, 12 contact, 13 timer, 14 deliver, 15 lose. For kinds 9-13 stand x is in bits 0-5;
+-- for 11 and 12 the other stand .. is in 6-11; for 13 the timer, 0 to 4, is in 12-14. Kinds 14 and 15 have a message position in
+-- bits 0-9, oldest 0."
+unfoldable pub wordOf : Event → ℕ
+wordOf (On x) = ofKind 9 (x .0)
+wordOf (Off x) = ofKind 10 (x .0)
+wordOf (Notice x z) = ofKind 11 (z .0 * 2 ^ 6 + x .0)
+wordOf (Contact x y) = ofKind 12 (y .0 * 2 ^ 6 + x .0)
+wordOf (Timer x k) = ofKind 13 (k * 2 ^ 12 + x .0)
+wordOf (Deliver i) = ofKind 14 i
+wordOf (Lose i) = ofKind 15 i
+
+-- the event that the named bits of a word of kind 9 to 15 give
+unfoldable pub eventOf : ℕ → Event
+eventOf w = getD (On x ∷ Off x ∷ Notice x other ∷ Contact x other ∷ Timer x (bits 12 3 w) ∷ Deliver position ∷ []) (kind w - 9) (Lose position)
+  where
+    x : NodeNumber
+    x = record { 0 = bits 0 6 w }
+
+    other : NodeNumber
+    other = record { 0 = bits 6 6 w }
+
+    position : ℕ
+    position = bits 0 10 w
+
+-- each part of the event has room in its bits, and the timer is 0 to 4
+unfoldable pub partsFit : Event → Bool
+partsFit (On x) = ltb (x .0) 64
+partsFit (Off x) = ltb (x .0) 64
+partsFit (Notice x z) = ltb (x .0) 64 && ltb (z .0) 64
+partsFit (Contact x y) = ltb (x .0) 64 && ltb (y .0) 64
+partsFit (Timer x k) = ltb (x .0) 64 && leb k 4
+partsFit (Deliver i) = ltb i 1024
+partsFit (Lose i) = ltb i 1024
+
+-- "Contact or notice where both stands are one."
+unfoldable pub sameNode : Event → Bool
+sameNode (On x) = false
+sameNode (Off x) = false
+sameNode (Notice x z) = eqb (x .0) (z .0)
+sameNode (Contact x y) = eqb (x .0) (y .0)
+sameNode (Timer x k) = false
+sameNode (Deliver i) = false
+sameNode (Lose i) = false
+
+-- "4. Not an event: .. timer ..; when writing, a part too big. 5. Contact or notice where both stands are one."
+unfoldable pub eventAnswer : Event → Answer
+eventAnswer e = firstOf (record { refusal = NotAnEvent; applies = not (partsFit e) } ∷ record { refusal = SameNode; applies = sameNode e } ∷ [])
+
+-- writing: the word, and "a word writer 0" when refused
+unfoldable pub writeEvent : Event → ℕ
+writeEvent e = if isAccepted (eventAnswer e) then wordOf e else 0
+
+-- "4. Not an event: kind, .. or unnamed bit": the word is not that of the event that its named bits give
+unfoldable pub wordAnswer : ℕ → Answer
+wordAnswer w = if eqb w (wordOf (eventOf w)) then eventAnswer (eventOf w) else NotAnEvent
+
+-- reading: the event; "an event reading no event" when refused
+unfoldable pub readEvent : ℕ → Reading
+readEvent w = if isAccepted (wordAnswer w) then Read (eventOf w) else Refused (wordAnswer w)

@@ -1,0 +1,126 @@
+-- Playing events on a ring: the refusals from the state, and what an accepted event leaves.
+use Prim.Native.Nat.{ℕ, suc, _+_}
+use mathlib.Core.Bool.{Bool, true, false, not, _&&_}
+use mathlib.Core.List.{List, [], _∷_, _++_}
+use lib.ListN.{length, take, drop}
+use lib.Dec.{ltb, eqb}
+use Rattle.model.specs.Choice.{if_then_else_}
+use Rattle.model.specs.Sets.{put}
+use Rattle.model.specs.Leafset.{size}
+use Rattle.model.specs.Ring.{Own, Node, Message, Ring, cleared, isRunning, messageAt}
+use Rattle.model.specs.Steps.{Effect, contact, notice, timer, deliver}
+use Rattle.model.specs.Answers.{Refusal, firstOf, isAccepted}
+use Rattle.model.specs.Events.{readEvent}
+use Rattle.model.specs.declared.answer.Answer.{Answer}
+use Rattle.model.specs.declared.answer.Answer.the-variants.{OutOfTable, NodeOff, AlreadyRunning, ClockSpent, PoolFull}
+use Rattle.model.specs.declared.event.Event.{Event}
+use Rattle.model.specs.declared.event.Event.the-variants.{On, Off, Notice, Contact, Timer, Deliver, Lose}
+use Rattle.model.specs.declared.event.Reading.{Reading}
+use Rattle.model.specs.declared.event.Reading.the-variants.{Read, Refused}
+
+-- the ring with another node x, and with other messages
+abbrev pub setNode : ℕ → Node → Ring → Ring
+setNode x s r = record { table = r .table; node = put (r .node) x s; messages = r .messages }
+
+abbrev pub setMessages : List Message → Ring → Ring
+setMessages ms r = record { table = r .table; node = r .node; messages = ms }
+
+-- "Delivery takes the message out first"; "Lose only takes it out."
+unfoldable pub removeMessage : ℕ → Ring → Ring
+removeMessage i r = setMessages (take i (r .messages) ++ drop (suc i) (r .messages)) r
+
+-- "On sets the running mark", and adds 1 to the clock
+abbrev pub started : Node → Node
+started s = record { running = true; clock = s .clock + 1; own = s .own }
+
+-- "Off clears the mark, its held set, candidates, stamps and spares but keeps its clock."
+abbrev pub stopped : Node → Node
+stopped s = record { running = false; clock = s .clock; own = cleared }
+
+-- "Every accepted event at a stand .. first adds 1 to its clock; the new value is "now"." Then the step;
+-- "New messages go to the end"
+unfoldable pub act : ℕ → (ℕ → Own → Effect) → Ring → Ring
+act x step r =
+    setMessages (r .messages ++ effect .sent)
+    (setNode x (record { running = r .node x .running; clock = now; own = effect .own }) r)
+  where
+    now : ℕ
+    now = r .node x .clock + 1
+
+    effect : Effect
+    effect = step now (r .node x .own)
+
+-- the ring that an accepted event leaves
+unfoldable pub after : Ring → Event → Ring
+after r (On x) = setNode (x .0) (started (r .node (x .0))) r
+after r (Off x) = setNode (x .0) (stopped (r .node (x .0))) r
+after r (Notice x z) = act (x .0) (λ now o. notice (r .table) (x .0) now o (z .0)) r
+after r (Contact x y) = act (x .0) (λ now o. contact (r .table) (x .0) now o (y .0)) r
+after r (Timer x k) = act (x .0) (λ now o. timer (r .table) (x .0) now o k) r
+after r (Deliver i) =
+    let m : Message = messageAt r i in
+    if isRunning r (m .receiver)
+    then act (m .receiver) (λ now o. deliver (r .table) (m .receiver) now o m) (removeMessage i r)
+    else removeMessage i r
+after r (Lose i) = removeMessage i r
+
+-- ---- "Refusals from the state"
+
+module _ (r : Ring) where
+  -- "7. A stand not below n, or a position not below m."
+  abbrev pub noNode : ℕ → Refusal
+  noNode x = record { refusal = OutOfTable; applies = not (ltb x (size (r .table))) }
+
+  abbrev pub noMessage : ℕ → Refusal
+  noMessage i = record { refusal = OutOfTable; applies = not (ltb i (length (r .messages))) }
+
+  -- "8. A notice, contact, timer or off at a stand that is off, or a question about one."
+  abbrev pub nodeOff : ℕ → Refusal
+  nodeOff x = record { refusal = NodeOff; applies = not (isRunning r x) }
+
+  -- "9. On, for a running stand."
+  abbrev pub alreadyRunning : ℕ → Refusal
+  alreadyRunning x = record { refusal = AlreadyRunning; applies = isRunning r x }
+
+  -- "10. The clock is 16,777,215 and must rise."
+  abbrev pub clockSpent : Bool → ℕ → Refusal
+  clockSpent rises x = record { refusal = ClockSpent; applies = rises && eqb (r .node x .clock) 16777215 }
+
+  -- "11. More than 1,024 messages would be left."
+  abbrev pub poolFull : Event → Refusal
+  poolFull e = record { refusal = PoolFull; applies = ltb 1024 (length (after r e .messages)) }
+
+  -- the refusals of each event but the last, in rising order
+  abbrev pub refusals : Event → List Refusal
+  refusals (On x) = noNode (x .0) ∷ alreadyRunning (x .0) ∷ clockSpent true (x .0) ∷ []
+  refusals (Off x) = noNode (x .0) ∷ nodeOff (x .0) ∷ []
+  refusals (Notice x z) = noNode (x .0) ∷ noNode (z .0) ∷ nodeOff (x .0) ∷ clockSpent true (x .0) ∷ []
+  refusals (Contact x y) = noNode (x .0) ∷ noNode (y .0) ∷ nodeOff (x .0) ∷ clockSpent true (x .0) ∷ []
+  refusals (Timer x k) = noNode (x .0) ∷ nodeOff (x .0) ∷ clockSpent true (x .0) ∷ []
+  refusals (Deliver i) = noMessage i ∷ clockSpent (isRunning r (messageAt r i .receiver)) (messageAt r i .receiver) ∷ []
+  refusals (Lose i) = noMessage i ∷ []
+
+  unfoldable pub stateAnswer : Event → Answer
+  stateAnswer e = firstOf (refusals e ++ poolFull e ∷ [])
+
+-- ---- events and words, played
+
+pub record Played : Type 0 where
+  pub answer : Answer
+  pub ring : Ring
+
+-- "nothing is written" when refused
+unfoldable pub playEvent : Ring → Event → Played
+playEvent r e = record { answer = stateAnswer r e; ring = if isAccepted (stateAnswer r e) then after r e else r }
+
+unfoldable pub playRead : Ring → Reading → Played
+playRead r (Read e) = playEvent r e
+playRead r (Refused a) = record { answer = a; ring = r }
+
+-- one word; and a list, "Each word is played on what the one before left, a refused one changing nothing"
+unfoldable pub playWord : Ring → ℕ → Played
+playWord r w = playRead r (readEvent w)
+
+unfoldable pub playAll : Ring → List ℕ → Ring
+playAll r [] = r
+playAll r (w ∷ ws) = playAll (playWord r w .ring) ws

@@ -1,0 +1,33 @@
+-- The questions about a lent buffer: a node's leafset, and whether two nodes are connected.
+use Prim.Native.Nat.{ℕ}
+use mathlib.Core.Bool.{Bool, false}
+use mathlib.Core.List.{List, [], _∷_}
+use Rattle.model.specs.Choice.{if_then_else_}
+use Rattle.model.specs.Sets.{toBits}
+use Rattle.model.specs.Leafset.{leafset}
+use Rattle.model.specs.Ring.{holds}
+use Rattle.model.specs.Answers.{firstOf, isAccepted}
+use Rattle.model.specs.Words.{decode}
+use Rattle.model.specs.Buffer.{wrongLength, notARing}
+use Rattle.model.specs.Play.{noNode, nodeOff}
+use Rattle.model.specs.Connection.{connected}
+use Rattle.model.specs.declared.answer.Answer.{Answer}
+
+-- "about one stand's leafset in its held set": refusals 1, 6, 7 and "8. .. or a question about one"
+unfoldable pub leafsetAnswer : List ℕ → ℕ → Answer
+leafsetAnswer ws x = firstOf (wrongLength ws ∷ notARing ws ∷ noNode (decode ws) x ∷ nodeOff (decode ws) x ∷ [])
+
+-- "its answer is 64 bits, bit s for stand s"; "A refused leafset question returns the empty set"
+unfoldable pub leafsetOf : List ℕ → ℕ → ℕ
+leafsetOf ws x = if isAccepted (leafsetAnswer ws x) then toBits 64 (leafset (decode ws .table) x (holds (decode ws) x)) else 0
+
+-- "about two stands, which may be the same one"
+unfoldable pub connectionAnswer : List ℕ → ℕ → ℕ → Answer
+connectionAnswer ws a b =
+    firstOf
+    (wrongLength ws ∷ notARing ws ∷ noNode (decode ws) a ∷ noNode (decode ws) b
+    ∷ nodeOff (decode ws) a ∷ nodeOff (decode ws) b ∷ [])
+
+-- a refused "connection question no"
+unfoldable pub connectionOf : List ℕ → ℕ → ℕ → Bool
+connectionOf ws a b = if isAccepted (connectionAnswer ws a b) then connected (decode ws) a b else false

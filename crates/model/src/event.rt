@@ -1,0 +1,20 @@
+// Events.
+use super::answer::Answer;
+use super::values::NodeNumber;
+
+// An event: the nodes, the timer or the message position that its word holds.
+pub enum Event {
+    On(NodeNumber),
+    Off(NodeNumber),
+    Notice(NodeNumber, NodeNumber),
+    Contact(NodeNumber, NodeNumber),
+    Timer(NodeNumber, u8),
+    Deliver(u16),
+    Lose(u16),
+}
+
+// What reading an event word gives.
+pub enum Reading {
+    Read(Event),
+    Refused(Answer),
+}
