@@ -6,3 +6,13 @@ pub mod Answers
 pub mod Events
 pub mod Words
 pub mod RoundTrip
+pub mod Fits
+pub mod Decoded
+pub mod Choices
+pub mod WellFormedSteps
+pub mod WellFormedPlay
+pub mod Connection
+pub mod Cut
+pub mod Acting
+pub mod Follows
+pub mod ConnectivityPreserved

@@ -1,0 +1,82 @@
+-- A buffer that holds the words of a well-formed ring follows the ring, call by call and over whole lists.
+use mathlib.Core.Path.{_≡_, refl, ap, _∙_}
+use Prim.Native.Nat.{ℕ}
+use mathlib.Core.Bool.{Bool, true, false}
+use mathlib.Core.List.{List, [], _∷_}
+use lib.ListN.{length}
+use borrow.Author.Tests.{eq-eqb}
+use Rattle.model.specs.Choice.{if_then_else_}
+use Rattle.model.specs.Ring.{Ring, initial}
+use Rattle.model.specs.Leafset.{Table}
+use Rattle.model.specs.WellFormed.{WellFormed}
+use Rattle.model.specs.Answers.{isAccepted}
+use Rattle.model.specs.Events.{readEvent}
+use Rattle.model.specs.Words.{ringLength, encode, decode, readsAsRing}
+use Rattle.model.specs.Play.{Played, after, stateAnswer, playEvent, playRead, playWord, playAll}
+use Rattle.model.specs.Buffer.{Written, unwritten, openAnswer, openBuffer, playEventOn, playReadOn, playBuffer, playBufferAll}
+use Rattle.model.specs.declared.answer.Answer.the-variants.{Accepted}
+use Rattle.model.specs.declared.event.Event.{Event}
+use Rattle.model.specs.declared.event.Reading.{Reading}
+use Rattle.model.specs.declared.event.Reading.the-variants.{Read, Refused}
+use Rattle.model.proofs.Words.{length-encode, decoded-back}
+use Rattle.model.proofs.RoundTrip.{round-trip}
+use Rattle.model.proofs.Fits.{encoded-reads}
+use Rattle.model.proofs.Decoded.{reads-well}
+use Rattle.model.proofs.WellFormedPlay.{table-well, initial-well, word-well}
+
+-- what a buffer holds after what the rules for rings give
+abbrev pub written : Played → Written
+written p = record { answer = p .answer; words = encode (p .ring) }
+
+module _ (r : Ring) (g : WellFormed r) where
+  event-follows : (e : Event) → playEventOn (encode r) e ≡ written (playEvent r e)
+  unfolding playEventOn playEvent
+  event-follows e = rw (round-trip r g) (go (isAccepted (stateAnswer r e)))
+    where
+      played : Bool → Played
+      played b = record { answer = stateAnswer r e; ring = if b then after r e else r }
+
+      go : (b : Bool) → (if b then written (played b) else unwritten (encode r) (stateAnswer r e)) ≡ written (played b)
+      go true = refl
+      go false = refl
+
+  read-follows : (q : Reading) → playReadOn (encode r) q ≡ written (playRead r q)
+  unfolding playReadOn playRead
+  read-follows (Refused a) = refl
+  read-follows (Read e) = rw (encoded-reads r g) (event-follows e)
+
+  -- one word
+  pub follows : (w : ℕ) → playBuffer (encode r) w ≡ written (playWord r w)
+  unfolding playBuffer playWord
+  follows w = rw (eq-eqb (length (encode r)) ringLength (length-encode r)) (read-follows (readEvent w))
+
+-- a list of words
+pub list-follows : (r : Ring) → WellFormed r → (words : List ℕ) → playBufferAll (encode r) words ≡ encode (playAll r words)
+unfolding playAll playBufferAll
+list-follows r g [] = refl
+list-follows r g (w ∷ words) =
+    ap (λ (q : Written). playBufferAll (q .words) words) (follows r g w) ∙ list-follows (playWord r w .ring) (word-well r w g) words
+
+-- ---- opening
+
+module _ (old : List ℕ) (t : Table) (ok : openBuffer old t .answer ≡ Accepted) where
+  opened-table : openAnswer old t ≡ Accepted
+  unfolding openBuffer
+  opened-table = ok
+
+  pub opened-well : WellFormed (initial t)
+  opened-well = initial-well t (table-well old t opened-table)
+
+  pub opened-words : openBuffer old t .words ≡ encode (initial t)
+  unfolding openBuffer
+  opened-words = ap (λ a. if isAccepted a then encode (initial t) else old) opened-table
+
+-- ---- any words that read as a ring
+
+-- after a call they still read as a ring
+pub still-reads : (ws : List ℕ) (w : ℕ) → readsAsRing ws ≡ true → readsAsRing (playBuffer ws w .words) ≡ true
+still-reads ws w e =
+    let g : WellFormed (decode ws) = reads-well ws e in
+    ap (λ (l : List ℕ). readsAsRing (playBuffer l w .words)) (decoded-back ws e)
+    ∙ ap (λ (q : Written). readsAsRing (q .words)) (follows (decode ws) g w)
+    ∙ encoded-reads (playWord (decode ws) w .ring) (word-well (decode ws) w g)

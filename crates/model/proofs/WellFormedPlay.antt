@@ -1,0 +1,215 @@
+-- Every ring of every list of words is well-formed: the initial ring is, and each event keeps it so.
+use mathlib.Core.Path.{_≡_, refl, sym}
+use Prim.Native.Nat.{ℕ, suc, _+_, _≤_, _<_}
+use native.Mathlib.Omega.{arith}
+use mathlib.Core.Bool.{true, false, not, _&&_}
+use mathlib.Core.List.{List, [], _∷_, _++_}
+use lib.ListN.{length}
+use lib.Dec.{ltb, leb, eqb}
+use borrow.Author.Tests.{ltb-true, ltb-false, leb-true, eqb-false}
+use Rattle.model.specs.Sets.{all}
+use Rattle.model.specs.Leafset.{Table, size, key}
+use Rattle.model.specs.Ring.{Own, Node, Ring, blank, initial, isRunning, messageAt}
+use Rattle.model.specs.WellFormed.{WellFormedTable, WellFormedOwn, WellFormedNode, WellFormedMessage, WellFormed, Each, nil, cons}
+use Rattle.model.specs.Steps.{Effect}
+use Rattle.model.specs.Answers.{isAccepted}
+use Rattle.model.specs.Events.{sameNode, readEvent}
+use Rattle.model.specs.Words.{between, inRange, keysDiffer}
+use Rattle.model.specs.Buffer.{wrongLength, openingRefusals, openAnswer}
+use Rattle.model.specs.Play.{setNode, removeMessage, act, after, poolFull, refusals, stateAnswer, playEvent, playRead, playWord, playAll}
+use Rattle.model.specs.declared.answer.Answer.the-variants.{Accepted}
+use Rattle.model.specs.declared.event.Event.{Event}
+use Rattle.model.specs.declared.event.Event.the-variants.{On, Off, Notice, Contact, Timer, Deliver, Lose}
+use Rattle.model.specs.declared.event.Reading.{Reading}
+use Rattle.model.specs.declared.event.Reading.the-variants.{Read, Refused}
+use Rattle.model.proofs.Laws.{clash, and-left, and-right, and-in, not-out-false, is-false, between-low, between-high, every-out, if-law, put-each, all-out}
+use Rattle.model.proofs.Lists.{first, rest, last, each-at, each-append, each-take, each-drop}
+use Rattle.model.proofs.Answers.{accepted-is, none-applies}
+use Rattle.model.proofs.Events.{writable, reads-as}
+use Rattle.model.proofs.WellFormedSteps.{WellFormedEffect, cleared-well, later-well, contact-well, notice-well, timer-well, deliver-well}
+
+-- ---- refusals
+
+-- the refusals of an accepted event, none of which applies
+abbrev Passed : Ring → Event → Type 0
+Passed r e = Each (λ q. q .applies ≡ false) (refusals r e ++ poolFull r e ∷ [])
+
+passed : (r : Ring) (e : Event) → stateAnswer r e ≡ Accepted → Passed r e
+unfolding stateAnswer
+passed r (On x) a = none-applies _ (cons refl (cons refl (cons refl (cons refl nil)))) a
+passed r (Off x) a = none-applies _ (cons refl (cons refl (cons refl nil))) a
+passed r (Notice x z) a = none-applies _ (cons refl (cons refl (cons refl (cons refl (cons refl nil))))) a
+passed r (Contact x y) a = none-applies _ (cons refl (cons refl (cons refl (cons refl (cons refl nil))))) a
+passed r (Timer x k) a = none-applies _ (cons refl (cons refl (cons refl (cons refl nil)))) a
+passed r (Deliver i) a = none-applies _ (cons refl (cons refl (cons refl nil))) a
+passed r (Lose i) a = none-applies _ (cons refl (cons refl nil)) a
+
+-- the last of them is the pool
+after-count : (r : Ring) (e : Event) → Passed r e → length (after r e .messages) ≤ 1024
+after-count r e p = ltb-false 1024 (length (after r e .messages)) (last (refusals r e) p)
+
+below : (r : Ring) (x : ℕ) → not (ltb x (size (r .table))) ≡ false → x < size (r .table)
+below r x e = ltb-true x (size (r .table)) (not-out-false (ltb x (size (r .table))) e)
+
+-- a clock that can rise
+unspent : (c : ℕ) → c ≤ 16777215 → eqb c 16777215 ≡ false → c + 1 ≤ 16777215
+unspent c h e = let d = eqb-false c 16777215 e in omega arith
+
+-- ---- what an accepted event leaves
+
+-- a well-formed ring, but for the number of its messages
+record WellFormedParts (r : Ring) : Type 0 where
+  table-well : WellFormedTable (r .table)
+  node-well : (x : ℕ) → WellFormedNode (size (r .table)) x (r .node x)
+  messages-well : Each (WellFormedMessage (size (r .table))) (r .messages)
+
+set-node-well : (r : Ring) (x : ℕ) (s : Node) → WellFormedParts r → WellFormedNode (size (r .table)) x s → WellFormedParts (setNode x s r)
+set-node-well r x s g h =
+    record {
+      table-well = g .table-well;
+      node-well = put-each (WellFormedNode (size (r .table))) (r .node) x s h (g .node-well);
+      messages-well = g .messages-well;
+    }
+
+remove-well : (r : Ring) (i : ℕ) → WellFormedParts r → WellFormedParts (removeMessage i r)
+unfolding removeMessage
+remove-well r i g =
+    record {
+      table-well = g .table-well;
+      node-well = g .node-well;
+      messages-well = each-append (each-take i (g .messages-well)) (each-drop (suc i) (g .messages-well));
+    }
+
+-- a running node with a later clock
+node-later : (n x : ℕ) (o : Own) (now : ℕ) → x < n → now ≤ 16777215 → WellFormedOwn n x now o → WellFormedNode n x (record { running = true; clock = now; own = o })
+node-later n x o now h c g =
+    record {
+      running-low = λ e. h;
+      clock-high = c;
+      clock-none = λ d. absurd (d h);
+      own-well = g;
+      off-held = λ e. clash refl e;
+      off-candidates = λ e. clash refl e;
+    }
+
+act-well : (r : Ring) (x : ℕ) (step : ℕ → Own → Effect) → WellFormedParts r
+    → isRunning r x ≡ true → eqb (r .node x .clock) 16777215 ≡ false
+    → ((now : ℕ) → 0 < now → now ≤ 16777215 → x < size (r .table) → WellFormedOwn (size (r .table)) x now (r .node x .own)
+    → WellFormedEffect (size (r .table)) x now (step now (r .node x .own)))
+    → WellFormedParts (act x step r)
+unfolding act
+act-well r x step g running clock f =
+    let gn : WellFormedNode (size (r .table)) x (r .node x) = g .node-well x in
+    let low : x < size (r .table) = gn .running-low running in
+    let high : r .node x .clock + 1 ≤ 16777215 = unspent (r .node x .clock) (gn .clock-high) clock in
+    let e : WellFormedEffect (size (r .table)) x (r .node x .clock + 1) (step (r .node x .clock + 1) (r .node x .own)) =
+    f (r .node x .clock + 1) (omega arith) high low (later-well (size (r .table)) x (r .node x .clock) (r .node x .clock + 1) (r .node x .own) (omega arith) (gn .own-well)) in
+    let s : Node = record { running = r .node x .running; clock = r .node x .clock + 1; own = step (r .node x .clock + 1) (r .node x .own) .own } in
+    let p : WellFormedParts (setNode x s r) = set-node-well r x s g (rw running (node-later (size (r .table)) x _ (r .node x .clock + 1) low high (e .own-well))) in
+    record {
+      table-well = p .table-well;
+      node-well = p .node-well;
+      messages-well = each-append (g .messages-well) (e .sent-well);
+    }
+
+after-well : (r : Ring) (e : Event) → WellFormedParts r → sameNode e ≡ false → Passed r e → WellFormedParts (after r e)
+unfolding after removeMessage sameNode
+after-well r (On x) g d p =
+    let gn : WellFormedNode (size (r .table)) (x .0) (r .node (x .0)) = g .node-well (x .0) in
+    set-node-well r (x .0) _ g
+    (node-later (size (r .table)) (x .0) (r .node (x .0) .own) (r .node (x .0) .clock + 1) (below r (x .0) (first p))
+    (unspent (r .node (x .0) .clock) (gn .clock-high) (first (rest (rest p))))
+    (later-well (size (r .table)) (x .0) (r .node (x .0) .clock) (r .node (x .0) .clock + 1) (r .node (x .0) .own) (omega arith) (gn .own-well)))
+after-well r (Off x) g d p =
+    let gn : WellFormedNode (size (r .table)) (x .0) (r .node (x .0)) = g .node-well (x .0) in
+    set-node-well r (x .0) _ g
+    (record {
+      running-low = λ e. clash e refl;
+      clock-high = gn .clock-high;
+      clock-none = gn .clock-none;
+      own-well = cleared-well (size (r .table)) (x .0) (r .node (x .0) .clock);
+      off-held = λ e z. refl;
+      off-candidates = λ e z. refl;
+    })
+after-well r (Notice x z) g d p =
+    act-well r (x .0) _ g (not-out-false (isRunning r (x .0)) (first (rest (rest p)))) (first (rest (rest (rest p))))
+    (λ now pos high low o. notice-well (r .table) (g .table-well) now pos high (r .node (x .0) .own) (x .0) low o (z .0))
+after-well r (Contact x y) g d p =
+    act-well r (x .0) _ g (not-out-false (isRunning r (x .0)) (first (rest (rest p)))) (first (rest (rest (rest p))))
+    (λ now pos high low o. contact-well (r .table) (g .table-well) now pos high (r .node (x .0) .own) (x .0) low o (y .0)
+    (record { low = below r (y .0) (first (rest p)); differs = λ i. eqb-false (x .0) (y .0) d (sym i) }))
+after-well r (Timer x k) g d p =
+    act-well r (x .0) _ g (not-out-false (isRunning r (x .0)) (first (rest p))) (first (rest (rest p)))
+    (λ now pos high low o. timer-well (r .table) (g .table-well) now pos high (r .node (x .0) .own) (x .0) low o k)
+after-well r (Deliver i) g d p =
+    let h : i < length (r .messages) = ltb-true i (length (r .messages)) (not-out-false (ltb i (length (r .messages))) (first p)) in
+    if-law WellFormedParts (isRunning r (messageAt r i .receiver)) _ _
+    (λ running. act-well (removeMessage i r) (messageAt r i .receiver) _ (remove-well r i g) running
+    (is-false (eqb (r .node (messageAt r i .receiver) .clock) 16777215) (λ e. clash (and-in running e) (first (rest p))))
+    (λ now pos high low o. deliver-well (r .table) (g .table-well) now pos high (r .node (messageAt r i .receiver) .own)
+    (messageAt r i) (each-at (g .messages-well) blank i h) o))
+    (λ off. remove-well r i g)
+after-well r (Lose i) g d p = remove-well r i g
+
+-- every accepted event that is no contact or notice of one node with itself keeps a ring well-formed
+pub event-well : (r : Ring) (e : Event) → WellFormed r → sameNode e ≡ false → stateAnswer r e ≡ Accepted → WellFormed (after r e)
+event-well r e g d a =
+    let p : Passed r e = passed r e a in
+    let q : WellFormedParts (after r e) = after-well r e (record { table-well = g .table-well; node-well = g .node-well; messages-well = g .messages-well }) d p in
+    record { table-well = q .table-well; node-well = q .node-well; messages-well = q .messages-well; count-high = after-count r e p }
+
+-- ---- words
+
+reading-well : (r : Ring) (q : Reading) → WellFormed r → ((e : Event) → q ≡ Read e → sameNode e ≡ false) → WellFormed (playRead r q .ring)
+unfolding playRead playEvent
+reading-well r (Refused a) g d = g
+reading-well r (Read e) g d =
+    if-law WellFormed (isAccepted (stateAnswer r e)) (after r e) r
+    (λ a. event-well r e g (d e refl) (accepted-is (stateAnswer r e) a))
+    (λ a. g)
+
+-- every word keeps a ring well-formed
+pub word-well : (r : Ring) (w : ℕ) → WellFormed r → WellFormed (playWord r w .ring)
+unfolding playWord
+word-well r w g = reading-well r (readEvent w) g (λ e h. writable e (reads-as w e h .accepted) .differ)
+
+-- and every list of words
+pub list-well : (r : Ring) (ws : List ℕ) → WellFormed r → WellFormed (playAll r ws)
+unfolding playAll
+list-well r [] g = g
+list-well r (w ∷ ws) g = list-well (playWord r w .ring) ws (word-well r w g)
+
+-- ---- the initial ring of a table that opens
+
+pub table-well : (old : List ℕ) (t : Table) → openAnswer old t ≡ Accepted → WellFormedTable t
+unfolding openAnswer inRange
+table-well old t a =
+    let p = rest (none-applies (wrongLength old ∷ openingRefusals t) (cons refl (cons refl (cons refl nil))) a) in
+    let range = every-out (between 1 8 (t .leaf) ∷ between 1 64 (size t) ∷ []) (not-out-false (inRange t) (first p)) in
+    let small : ℕ → _ = λ (s : ℕ). leb (key t s) 16777215 in
+    let keys : (all (size t) small && keysDiffer t) ≡ true = not-out-false (all (size t) small && keysDiffer t) (first (rest p)) in
+    record {
+      leaf-low = between-low 1 8 (t .leaf) (first range);
+      leaf-high = between-high 1 8 (t .leaf) (first range);
+      size-low = between-low 1 64 (size t) (first (rest range));
+      size-high = between-high 1 64 (size t) (first (rest range));
+      key-high = λ s h. leb-true (key t s) 16777215 (all-out (size t) small (and-left (all (size t) small) (keysDiffer t) keys) s h);
+      keys-differ = and-right (all (size t) small) (keysDiffer t) keys;
+    }
+
+pub initial-well : (t : Table) → WellFormedTable t → WellFormed (initial t)
+unfolding initial
+initial-well t g =
+    record {
+      table-well = g;
+      node-well = λ x. record {
+        running-low = λ e. clash e refl;
+        clock-high = omega arith;
+        clock-none = λ d. refl;
+        own-well = cleared-well (size t) x 0;
+        off-held = λ e z. refl;
+        off-candidates = λ e z. refl;
+      };
+      messages-well = nil;
+      count-high = omega arith;
+    }
