@@ -11,16 +11,13 @@ use Rattle.model.specs.Leafset.{Table, size}
 use Rattle.model.specs.Ring.{Ring, initial, isRunning}
 use Rattle.model.specs.WellFormed.{WellFormed}
 use Rattle.model.specs.Answers.{isAccepted}
-use Rattle.model.specs.Events.{readEvent}
+use Rattle.model.specs.Events.{eventOf}
 use Rattle.model.specs.Words.{encode, decode}
-use Rattle.model.specs.Play.{after, stateAnswer, playEvent, playRead, playWord, playAll}
+use Rattle.model.specs.Play.{after, playAnswer, playWord, playAll}
 use Rattle.model.specs.Buffer.{Written, openBuffer, playBuffer, playBufferAll}
 use Rattle.model.specs.Connection.{Connected}
 use Rattle.model.specs.ConnectivityPreserved.{NoAcknowledgement, Harmless, wordsAt, ringAt, readAt, AcceptedIsHarmless, Unbroken, ConnectivityPreserved}
 use Rattle.model.specs.declared.answer.Answer.the-variants.{Accepted}
-use Rattle.model.specs.declared.event.Event.{Event}
-use Rattle.model.specs.declared.event.Reading.{Reading}
-use Rattle.model.specs.declared.event.Reading.the-variants.{Read, Refused}
 use Rattle.model.proofs.Laws.{if-law}
 use Rattle.model.proofs.Answers.{accepted-is}
 use Rattle.model.proofs.RoundTrip.{round-trip}
@@ -33,29 +30,19 @@ use Rattle.model.proofs.Acting.{Requests, event-step, event-requests, i
 
 -- what is accepted is harmless, on a ring
 abbrev HarmlessWord : Ring → ℕ → Type 0
-HarmlessWord r w = (e : Event) → readEvent w ≡ Read e → playWord r w .answer ≡ Accepted → Harmless r e
+HarmlessWord r w = playWord r w .answer ≡ Accepted → Harmless r (eventOf w)
 
-module _ (r : Ring) (well : WellFormed r) (q : Requests r) where
-  requests-read : (g : Reading) → Requests (playRead r g .ring)
-  unfolding playRead playEvent
-  requests-read (Refused a) = q
-  requests-read (Read e) = if-law Requests (isAccepted (stateAnswer r e)) (after r e) r (λ a. event-requests r well q e) (λ a. q)
-
-  requests-word : (w : ℕ) → Requests (playWord r w .ring)
+module _ (r : Ring) (well : WellFormed r) (q : Requests r) (w : ℕ) where
+  requests-word : Requests (playWord r w .ring)
   unfolding playWord
-  requests-word w = requests-read (readEvent w)
+  requests-word = if-law Requests (isAccepted (playAnswer r w)) (after r (eventOf w)) r (λ a. event-requests r well q (eventOf w)) (λ a. q)
 
-  step-read : (g : Reading) → ((e : Event) → g ≡ Read e → playRead r g .answer ≡ Accepted → Harmless r e) → Step r (playRead r g .ring)
-  unfolding playRead playEvent
-  step-read (Refused a) harmless = unchanged r
-  step-read (Read e) harmless =
-      if-law (Step r) (isAccepted (stateAnswer r e)) (after r e) r
-      (λ a. event-step r well q e (harmless e refl (accepted-is (stateAnswer r e) a)))
+  step-word : HarmlessWord r w → Step r (playWord r w .ring)
+  unfolding playWord
+  step-word harmless =
+      if-law (Step r) (isAccepted (playAnswer r w)) (after r (eventOf w)) r
+      (λ a. event-step r well q (eventOf w) (harmless (accepted-is (playAnswer r w) a)))
       (λ a. unchanged r)
-
-  step-word : (w : ℕ) → HarmlessWord r w → Step r (playWord r w .ring)
-  unfolding playWord
-  step-word w harmless = step-read (readEvent w) harmless
 
 -- ---- the points of a list
 
@@ -116,7 +103,7 @@ module _ (old : List ℕ) (t : Table) (ok : openBuffer old t .answer ≡ Accepte
             (never-parted (λ y h. well-at later .node-well y .running-low h)
             (rw (ring-follows point) at none)
             (steps-at point
-            (λ k from l e reads accepted. rw (ring-follows k) at (harmless k from l e reads (answers-follow k (getD words k 0) ∙ accepted)))
+            (λ k from l accepted. rw (ring-follows k) at (harmless k from l (answers-follow k (getD words k 0) ∙ accepted)))
             later after-point within)
             (rw (ring-follows point) at path));
       }

@@ -9,14 +9,13 @@ use borrow.Author.Tests.{ltb-true, leb-true, eqb-true, eq-eqb}
 use Rattle.model.specs.Choice.{if_then_else_}
 use Rattle.model.specs.WellFormed.{Each, nil, cons}
 use Rattle.model.specs.Fields.{bits, kind, ofKind}
-use Rattle.model.specs.Answers.{isAccepted}
-use Rattle.model.specs.Events.{wordOf, eventOf, partsFit, sameNode, eventAnswer, wordAnswer, readEvent}
-use Rattle.model.specs.declared.answer.Answer.{Answer}
-use Rattle.model.specs.declared.answer.Answer.the-variants.{Accepted, NotAnEvent}
+use Rattle.model.specs.Answers.{firstOf, isAccepted}
+use Rattle.model.specs.Events.{wordOf, eventOf, partsFit, sameNode, eventRefusals, eventAnswer, isEventWord, wordRefusals, wordAnswer, readEvent}
+use Rattle.model.specs.declared.answer.Answer.the-variants.{Accepted}
 use Rattle.model.specs.declared.event.Event.{Event}
 use Rattle.model.specs.declared.event.Event.the-variants.{On, Off, Notice, Contact, Timer, Deliver, Lose}
 use Rattle.model.specs.declared.event.Reading.the-variants.{Read, Refused}
-use Rattle.model.proofs.Laws.{clash, and-left, and-right, decide, not-out-false}
+use Rattle.model.proofs.Laws.{and-left, and-right, not-out-false}
 use Rattle.model.proofs.Lists.{first, rest}
 use Rattle.model.proofs.Fields.{field}
 use Rattle.model.proofs.Answers.{accepted-is, none-applies}
@@ -86,31 +85,39 @@ pub record Writable (e : Event) : Type 0 where
 pub writable : (e : Event) → eventAnswer e ≡ Accepted → Writable e
 unfolding eventAnswer
 writable e a =
-    let p = none-applies _ (cons refl (cons refl nil)) a in
+    let p = none-applies (eventRefusals e) (cons refl (cons refl nil)) a in
     record { parts-fit = not-out-false (partsFit e) (first p); differ = first (rest p) }
 
 -- an event's word reads as that event
 pub reads : (e : Event) → eventAnswer e ≡ Accepted → readEvent (wordOf e) ≡ Read e
-unfolding readEvent wordAnswer
-reads e a = rw (event-of-word e (writable e a .parts-fit), eq-eqb (wordOf e) (wordOf e) refl, a)
+unfolding readEvent wordAnswer firstOf
+reads e a =
+    let p : Writable e = writable e a in
+    rw (event-of-word e (p .parts-fit), eq-eqb (wordOf e) (wordOf e) refl, p .parts-fit, p .differ)
 
 -- what is known of a word that reads as an event
-pub record ReadsAs (w : ℕ) (e : Event) : Type 0 where
+pub record EventWord (w : ℕ) (e : Event) : Type 0 where
   pub word : w ≡ wordOf e
-  pub accepted : eventAnswer e ≡ Accepted
+  pub well : Writable e
 
-accepted-word : (w : ℕ) → isAccepted (wordAnswer w) ≡ true → ReadsAs w (eventOf w)
+-- no refusal from the word applies
+pub event-word : (w : ℕ) → Each (λ q. q .applies ≡ false) (wordRefusals w) → EventWord w (eventOf w)
+event-word w p =
+    let is : isEventWord w ≡ true = not-out-false (isEventWord w) (first p) in
+    let same : eqb w (wordOf (eventOf w)) ≡ true = and-left (eqb w (wordOf (eventOf w))) (partsFit (eventOf w)) is in
+    record {
+      word = eqb-true w (wordOf (eventOf w)) same;
+      well = record { parts-fit = and-right (eqb w (wordOf (eventOf w))) (partsFit (eventOf w)) is; differ = first (rest p) };
+    }
+
+accepted-word : (w : ℕ) → isAccepted (wordAnswer w) ≡ true → EventWord w (eventOf w)
 unfolding wordAnswer
-accepted-word w a = by-word (eqb w (wordOf (eventOf w))) refl a
-  where
-    by-word : (b : Bool) → eqb w (wordOf (eventOf w)) ≡ b → isAccepted (if b then eventAnswer (eventOf w) else NotAnEvent) ≡ true → ReadsAs w (eventOf w)
-    by-word true q k = record { word = eqb-true w (wordOf (eventOf w)) q; accepted = accepted-is (eventAnswer (eventOf w)) k }
-    by-word false q k = clash k refl
+accepted-word w a = event-word w (none-applies (wordRefusals w) (cons refl (cons refl nil)) (accepted-is (firstOf (wordRefusals w)) a))
 
-pub reads-as : (w : ℕ) (e : Event) → readEvent w ≡ Read e → ReadsAs w e
+pub reads-as : (w : ℕ) (e : Event) → readEvent w ≡ Read e → EventWord w e
 unfolding readEvent
 reads-as w e h = by-answer (isAccepted (wordAnswer w)) refl h
   where
-    by-answer : (b : Bool) → isAccepted (wordAnswer w) ≡ b → (if b then Read (eventOf w) else Refused (wordAnswer w)) ≡ Read e → ReadsAs w e
+    by-answer : (b : Bool) → isAccepted (wordAnswer w) ≡ b → (if b then Read (eventOf w) else Refused (wordAnswer w)) ≡ Read e → EventWord w e
     by-answer true a q = let i : eventOf w ≡ e = cc in rw i at (accepted-word w a)
     by-answer false a q = absurd (let z : _≡_ {A = ℕ} 0 1 = cc in omega arith)

@@ -9,16 +9,13 @@ use Rattle.model.specs.Choice.{if_then_else_}
 use Rattle.model.specs.Ring.{Ring, initial}
 use Rattle.model.specs.Leafset.{Table}
 use Rattle.model.specs.WellFormed.{WellFormed}
-use Rattle.model.specs.Answers.{isAccepted}
-use Rattle.model.specs.Events.{readEvent}
+use Rattle.model.specs.Answers.{firstOf, isAccepted}
+use Rattle.model.specs.Events.{eventOf}
 use Rattle.model.specs.Words.{ringLength, encode, decode, readsAsRing}
-use Rattle.model.specs.Play.{Played, after, stateAnswer, playEvent, playRead, playWord, playAll}
-use Rattle.model.specs.Buffer.{Written, unwritten, openAnswer, openBuffer, playEventOn, playReadOn, playBuffer, playBufferAll}
+use Rattle.model.specs.Play.{Played, after, playAnswer, playWord, playAll}
+use Rattle.model.specs.Buffer.{Written, openAnswer, openBuffer, bufferAnswer, playBuffer, playBufferAll}
 use Rattle.model.specs.declared.answer.Answer.the-variants.{Accepted}
-use Rattle.model.specs.declared.event.Event.{Event}
-use Rattle.model.specs.declared.event.Reading.{Reading}
-use Rattle.model.specs.declared.event.Reading.the-variants.{Read, Refused}
-use Rattle.model.proofs.Words.{length-encode, decoded-back}
+use Rattle.model.proofs.Words.{decoded-back, reads-out}
 use Rattle.model.proofs.RoundTrip.{round-trip}
 use Rattle.model.proofs.Fits.{encoded-reads}
 use Rattle.model.proofs.Decoded.{reads-well}
@@ -28,27 +25,24 @@ use Rattle.model.proofs.WellFormedPlay.{table-well, initial-well, word-
 abbrev pub written : Played → Written
 written p = record { answer = p .answer; words = encode (p .ring) }
 
-module _ (r : Ring) (g : WellFormed r) where
-  event-follows : (e : Event) → playEventOn (encode r) e ≡ written (playEvent r e)
-  unfolding playEventOn playEvent
-  event-follows e = rw (round-trip r g) (go (isAccepted (stateAnswer r e)))
-    where
-      played : Bool → Played
-      played b = record { answer = stateAnswer r e; ring = if b then after r e else r }
+-- neither the length nor the format refuses words that read as a ring
+pub reads-answer : (ws : List ℕ) (w : ℕ) → readsAsRing ws ≡ true → bufferAnswer ws w ≡ playAnswer (decode ws) w
+unfolding bufferAnswer playAnswer firstOf
+reads-answer ws w e = rw (eq-eqb (length ws) ringLength (reads-out ws e .long), e)
 
-      go : (b : Bool) → (if b then written (played b) else unwritten (encode r) (stateAnswer r e)) ≡ written (played b)
-      go true = refl
-      go false = refl
-
-  read-follows : (q : Reading) → playReadOn (encode r) q ≡ written (playRead r q)
-  unfolding playReadOn playRead
-  read-follows (Refused a) = refl
-  read-follows (Read e) = rw (encoded-reads r g) (event-follows e)
+module _ (r : Ring) (g : WellFormed r) (w : ℕ) where
+  answer-follows : bufferAnswer (encode r) w ≡ playAnswer r w
+  answer-follows = reads-answer (encode r) w (encoded-reads r g) ∙ ap (λ (ρ : Ring). playAnswer ρ w) (round-trip r g)
 
   -- one word
-  pub follows : (w : ℕ) → playBuffer (encode r) w ≡ written (playWord r w)
+  pub follows : playBuffer (encode r) w ≡ written (playWord r w)
   unfolding playBuffer playWord
-  follows w = rw (eq-eqb (length (encode r)) ringLength (length-encode r)) (read-follows (readEvent w))
+  follows = rw (answer-follows, round-trip r g) (go (isAccepted (playAnswer r w)))
+    where
+      go : (b : Bool) → record { answer = playAnswer r w; words = if b then encode (after r (eventOf w)) else encode r }
+          ≡ written (record { answer = playAnswer r w; ring = if b then after r (eventOf w) else r })
+      go true = refl
+      go false = refl
 
 -- a list of words
 pub list-follows : (r : Ring) → WellFormed r → (words : List ℕ) → playBufferAll (encode r) words ≡ encode (playAll r words)

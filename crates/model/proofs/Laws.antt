@@ -169,7 +169,7 @@ some-none n S e i h = is-false (S i) (λ t. clash (some-in n S i h t) e)
 
 -- ---- counts
 
-pub one : Bool → ℕ
+unfoldable pub one : Bool → ℕ
 one b = if b then 1 else 0
 
 one-le : (b : Bool) → one b ≤ 1
@@ -209,6 +209,17 @@ count-add (suc n) P Q R h =
     let here : one (R n) ≡ one (P n) + one (Q n) = h n (le-refl (suc n)) in
     let rest : count n R ≡ count n P + count n Q = count-add n P Q R (λ z l. h z (omega arith)) in
     omega arith
+
+-- at most one member
+pub count-one : (n : ℕ) (S : Set) → ((y z : ℕ) → y < n → z < n → S y ≡ true → S z ≡ true → y ≡ z) → count n S ≤ 1
+unfolding count one
+count-one zero S h = zero-le
+count-one (suc n) S h =
+    decide (S n)
+    (λ e.
+    let none : count n S ≡ 0 = count-none n S (λ z l. is-false (S z) (λ q. let i = h z n (omega arith) (le-refl (suc n)) q e in absurd (omega arith))) in
+    omega (arith, one-le (S n)))
+    (λ e. rw e (let i = count-one n S (λ y z hy hz. h y z (omega arith) (omega arith)) in omega arith))
 
 module _ (S R : Set) where
   pub count-mono : (n : ℕ) → ((i : ℕ) → i < n → S i ≡ true → R i ≡ true) → count n S ≤ count n R

@@ -16,3 +16,5 @@ pub mod Cut
 pub mod Acting
 pub mod Follows
 pub mod ConnectivityPreserved
+pub mod LeafsetSize
+pub mod Points

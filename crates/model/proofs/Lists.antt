@@ -13,10 +13,6 @@ first (cons p e) = p
 pub rest : {A : Type 0} {P : A → Type 0} {a : A} {l : List A} → Each P (a ∷ l) → Each P l
 rest (cons p e) = e
 
-pub last : {A : Type 0} {P : A → Type 0} (l : List A) {a : A} → Each P (l ++ a ∷ []) → P a
-last [] (cons p e) = p
-last (b ∷ l) (cons p e) = last l e
-
 pub each-of : {A : Type 0} {P : A → Type 0} (d : A) (l : List A) → ((k : ℕ) → k < length l → P (getD l k d)) → Each P l
 each-of d [] f = nil
 each-of d (a ∷ l) f = cons (f 0 (omega arith)) (each-of d l (λ k h. f (suc k) (omega arith)))
@@ -29,6 +25,14 @@ each-at (cons p e) d (suc k) h = each-at e d k (le-of-suc-le-suc h)
 pub each-append : {A : Type 0} {P : A → Type 0} {k l : List A} → Each P k → Each P l → Each P (k ++ l)
 each-append nil f = f
 each-append (cons p e) f = cons p (each-append e f)
+
+pub each-left : {A : Type 0} {P : A → Type 0} (k l : List A) → Each P (k ++ l) → Each P k
+each-left [] l e = nil
+each-left (a ∷ k) l (cons p e) = cons p (each-left k l e)
+
+pub each-right : {A : Type 0} {P : A → Type 0} (k l : List A) → Each P (k ++ l) → Each P l
+each-right [] l e = e
+each-right (a ∷ k) l (cons p e) = each-right k l e
 
 pub each-take : {A : Type 0} {P : A → Type 0} {l : List A} (k : ℕ) → Each P l → Each P (take k l)
 each-take zero e = nil

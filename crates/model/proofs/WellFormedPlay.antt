@@ -12,41 +12,38 @@ use Rattle.model.specs.Leafset.{Table, size, key}
 use Rattle.model.specs.Ring.{Own, Node, Ring, blank, initial, isRunning, messageAt}
 use Rattle.model.specs.WellFormed.{WellFormedTable, WellFormedOwn, WellFormedNode, WellFormedMessage, WellFormed, Each, nil, cons}
 use Rattle.model.specs.Steps.{Effect}
-use Rattle.model.specs.Answers.{isAccepted}
-use Rattle.model.specs.Events.{sameNode, readEvent}
+use Rattle.model.specs.Answers.{Refusal, firstOf, isAccepted}
+use Rattle.model.specs.Events.{eventOf, sameNode, wordRefusals}
 use Rattle.model.specs.Words.{between, inRange, keysDiffer}
 use Rattle.model.specs.Buffer.{wrongLength, openingRefusals, openAnswer}
-use Rattle.model.specs.Play.{setNode, removeMessage, act, after, poolFull, refusals, stateAnswer, playEvent, playRead, playWord, playAll}
+use Rattle.model.specs.Play.{setNode, removeMessage, act, after, poolFull, refusals, stateRefusals, playAnswer, playWord, playAll}
 use Rattle.model.specs.declared.answer.Answer.the-variants.{Accepted}
 use Rattle.model.specs.declared.event.Event.{Event}
 use Rattle.model.specs.declared.event.Event.the-variants.{On, Off, Notice, Contact, Timer, Deliver, Lose}
-use Rattle.model.specs.declared.event.Reading.{Reading}
-use Rattle.model.specs.declared.event.Reading.the-variants.{Read, Refused}
 use Rattle.model.proofs.Laws.{clash, and-left, and-right, and-in, not-out-false, is-false, between-low, between-high, every-out, if-law, put-each, all-out}
-use Rattle.model.proofs.Lists.{first, rest, last, each-at, each-append, each-take, each-drop}
+use Rattle.model.proofs.Lists.{first, rest, each-at, each-append, each-left, each-right, each-take, each-drop}
 use Rattle.model.proofs.Answers.{accepted-is, none-applies}
-use Rattle.model.proofs.Events.{writable, reads-as}
+use Rattle.model.proofs.Events.{EventWord, event-word}
 use Rattle.model.proofs.WellFormedSteps.{WellFormedEffect, cleared-well, later-well, contact-well, notice-well, timer-well, deliver-well}
 
 -- ---- refusals
 
--- the refusals of an accepted event, none of which applies
-abbrev Passed : Ring → Event → Type 0
-Passed r e = Each (λ q. q .applies ≡ false) (refusals r e ++ poolFull r e ∷ [])
+abbrev NoneApplies : List Refusal → Type 0
+NoneApplies qs = Each (λ q. q .applies ≡ false) qs
 
-passed : (r : Ring) (e : Event) → stateAnswer r e ≡ Accepted → Passed r e
-unfolding stateAnswer
-passed r (On x) a = none-applies _ (cons refl (cons refl (cons refl (cons refl nil)))) a
-passed r (Off x) a = none-applies _ (cons refl (cons refl (cons refl nil))) a
-passed r (Notice x z) a = none-applies _ (cons refl (cons refl (cons refl (cons refl (cons refl nil))))) a
-passed r (Contact x y) a = none-applies _ (cons refl (cons refl (cons refl (cons refl (cons refl nil))))) a
-passed r (Timer x k) a = none-applies _ (cons refl (cons refl (cons refl (cons refl nil)))) a
-passed r (Deliver i) a = none-applies _ (cons refl (cons refl (cons refl nil))) a
-passed r (Lose i) a = none-applies _ (cons refl (cons refl nil)) a
+-- every refusal refuses
+pub refusing : (r : Ring) (e : Event) → Each (λ q. isAccepted (q .refusal) ≡ false) (stateRefusals r e)
+refusing r (On x) = cons refl (cons refl (cons refl (cons refl nil)))
+refusing r (Off x) = cons refl (cons refl (cons refl nil))
+refusing r (Notice x z) = cons refl (cons refl (cons refl (cons refl (cons refl nil))))
+refusing r (Contact x y) = cons refl (cons refl (cons refl (cons refl (cons refl nil))))
+refusing r (Timer x k) = cons refl (cons refl (cons refl (cons refl nil)))
+refusing r (Deliver i) = cons refl (cons refl (cons refl nil))
+refusing r (Lose i) = cons refl (cons refl nil)
 
 -- the last of them is the pool
-after-count : (r : Ring) (e : Event) → Passed r e → length (after r e .messages) ≤ 1024
-after-count r e p = ltb-false 1024 (length (after r e .messages)) (last (refusals r e) p)
+after-count : (r : Ring) (e : Event) → NoneApplies (stateRefusals r e) → length (after r e .messages) ≤ 1024
+after-count r e p = ltb-false 1024 (length (after r e .messages)) (first (each-right (refusals r e) (poolFull r e ∷ []) p))
 
 below : (r : Ring) (x : ℕ) → not (ltb x (size (r .table))) ≡ false → x < size (r .table)
 below r x e = ltb-true x (size (r .table)) (not-out-false (ltb x (size (r .table))) e)
@@ -112,7 +109,7 @@ act-well r x step g running clock f =
       messages-well = each-append (g .messages-well) (e .sent-well);
     }
 
-after-well : (r : Ring) (e : Event) → WellFormedParts r → sameNode e ≡ false → Passed r e → WellFormedParts (after r e)
+after-well : (r : Ring) (e : Event) → WellFormedParts r → sameNode e ≡ false → NoneApplies (stateRefusals r e) → WellFormedParts (after r e)
 unfolding after removeMessage sameNode
 after-well r (On x) g d p =
     let gn : WellFormedNode (size (r .table)) (x .0) (r .node (x .0)) = g .node-well (x .0) in
@@ -151,27 +148,37 @@ after-well r (Deliver i) g d p =
     (λ off. remove-well r i g)
 after-well r (Lose i) g d p = remove-well r i g
 
--- every accepted event that is no contact or notice of one node with itself keeps a ring well-formed
-pub event-well : (r : Ring) (e : Event) → WellFormed r → sameNode e ≡ false → stateAnswer r e ≡ Accepted → WellFormed (after r e)
-event-well r e g d a =
-    let p : Passed r e = passed r e a in
+-- an event that is no contact or notice of one node with itself, and that no refusal from the state meets, keeps a ring well-formed
+pub event-well : (r : Ring) (e : Event) → WellFormed r → sameNode e ≡ false → NoneApplies (stateRefusals r e) → WellFormed (after r e)
+event-well r e g d p =
     let q : WellFormedParts (after r e) = after-well r e (record { table-well = g .table-well; node-well = g .node-well; messages-well = g .messages-well }) d p in
     record { table-well = q .table-well; node-well = q .node-well; messages-well = q .messages-well; count-high = after-count r e p }
 
 -- ---- words
 
-reading-well : (r : Ring) (q : Reading) → WellFormed r → ((e : Event) → q ≡ Read e → sameNode e ≡ false) → WellFormed (playRead r q .ring)
-unfolding playRead playEvent
-reading-well r (Refused a) g d = g
-reading-well r (Read e) g d =
-    if-law WellFormed (isAccepted (stateAnswer r e)) (after r e) r
-    (λ a. event-well r e g (d e refl) (accepted-is (stateAnswer r e) a))
-    (λ a. g)
+-- what is known of an accepted word
+pub record AcceptedWord (r : Ring) (w : ℕ) : Type 0 where
+  pub event : EventWord w (eventOf w)
+  pub passed : NoneApplies (stateRefusals r (eventOf w))
+
+pub accepted-word : (r : Ring) (w : ℕ) → isAccepted (playAnswer r w) ≡ true → AcceptedWord r w
+unfolding playAnswer
+accepted-word r w a =
+    let p : NoneApplies (wordRefusals w ++ stateRefusals r (eventOf w)) =
+    none-applies (wordRefusals w ++ stateRefusals r (eventOf w)) (each-append (cons refl (cons refl nil)) (refusing r (eventOf w)))
+    (accepted-is (firstOf (wordRefusals w ++ stateRefusals r (eventOf w))) a) in
+    record {
+      event = event-word w (each-left (wordRefusals w) (stateRefusals r (eventOf w)) p);
+      passed = each-right (wordRefusals w) (stateRefusals r (eventOf w)) p;
+    }
 
 -- every word keeps a ring well-formed
 pub word-well : (r : Ring) (w : ℕ) → WellFormed r → WellFormed (playWord r w .ring)
 unfolding playWord
-word-well r w g = reading-well r (readEvent w) g (λ e h. writable e (reads-as w e h .accepted) .differ)
+word-well r w g =
+    if-law WellFormed (isAccepted (playAnswer r w)) (after r (eventOf w)) r
+    (λ a. let p : AcceptedWord r w = accepted-word r w a in event-well r (eventOf w) g (p .event .well .differ) (p .passed))
+    (λ a. g)
 
 -- and every list of words
 pub list-well : (r : Ring) (ws : List ℕ) → WellFormed r → WellFormed (playAll r ws)

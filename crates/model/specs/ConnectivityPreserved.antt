@@ -8,7 +8,7 @@ use lib.ListN.{length, getD, take}
 use Rattle.model.specs.Leafset.{Table}
 use Rattle.model.specs.Ring.{Ring, Message, initial, isRunning}
 use Rattle.model.specs.Steps.{pongReplace}
-use Rattle.model.specs.Events.{readEvent}
+use Rattle.model.specs.Events.{eventOf}
 use Rattle.model.specs.Play.{playWord, playAll}
 use Rattle.model.specs.Buffer.{openBuffer, playBuffer, playBufferAll}
 use Rattle.model.specs.Words.{encode, decode}
@@ -16,7 +16,6 @@ use Rattle.model.specs.Connection.{Connected}
 use Rattle.model.specs.declared.answer.Answer.the-variants.{Accepted}
 use Rattle.model.specs.declared.event.Event.{Event}
 use Rattle.model.specs.declared.event.Event.the-variants.{On, Off, Notice, Contact, Timer, Deliver, Lose}
-use Rattle.model.specs.declared.event.Reading.the-variants.{Read}
 
 -- no replacement acknowledgement is in flight
 abbrev pub NoAcknowledgement : Ring → Type 0
@@ -47,11 +46,9 @@ module _ (old : List ℕ) (t : Table) (words : List ℕ) where
   abbrev pub readAt : ℕ → Ring
   readAt i = decode (wordsAt i)
 
-  -- word i, if it reads as an event and is accepted, is harmless
+  -- word i, if it is accepted, is the word of a harmless event
   abbrev pub AcceptedIsHarmless : ℕ → Type 0
-  AcceptedIsHarmless i =
-      (e : Event) → readEvent (getD words i 0) ≡ Read e → playBuffer (wordsAt i) (getD words i 0) .answer ≡ Accepted
-      → Harmless (readAt i) e
+  AcceptedIsHarmless i = playBuffer (wordsAt i) (getD words i 0) .answer ≡ Accepted → Harmless (readAt i) (eventOf (getD words i 0))
 
   pub record Unbroken : Type 0 where
     -- "every lent word after it, equal what those rules give"

@@ -1,12 +1,12 @@
 -- Event words: writing one, and reading one.
 use Prim.Native.Nat.{ℕ, _+_, _-_, _*_, _^_}
 use mathlib.Core.Bool.{Bool, false, not, _&&_}
-use mathlib.Core.List.{[], _∷_}
+use mathlib.Core.List.{List, [], _∷_}
 use lib.ListN.{getD}
 use lib.Dec.{ltb, leb, eqb}
 use Rattle.model.specs.Choice.{if_then_else_}
 use Rattle.model.specs.Fields.{bits, kind, ofKind}
-use Rattle.model.specs.Answers.{firstOf, isAccepted}
+use Rattle.model.specs.Answers.{Refusal, firstOf, isAccepted}
 use Rattle.model.specs.declared.answer.Answer.{Answer}
 use Rattle.model.specs.declared.answer.Answer.the-variants.{NotAnEvent, SameNode}
 use Rattle.model.specs.declared.event.Event.{Event}
@@ -60,18 +60,32 @@ sameNode (Timer x k) = false
 sameNode (Deliver i) = false
 sameNode (Lose i) = false
 
--- "4. Not an event: .. timer ..; when writing, a part too big. 5. Contact or notice where both stands are one."
-unfoldable pub eventAnswer : Event → Answer
-eventAnswer e = firstOf (record { refusal = NotAnEvent; applies = not (partsFit e) } ∷ record { refusal = SameNode; applies = sameNode e } ∷ [])
+-- ---- writing
 
--- writing: the word, and "a word writer 0" when refused
+-- "4. Not an event: .. timer ..; when writing, a part too big. 5. Contact or notice where both stands are one."
+abbrev pub eventRefusals : Event → List Refusal
+eventRefusals e = record { refusal = NotAnEvent; applies = not (partsFit e) } ∷ record { refusal = SameNode; applies = sameNode e } ∷ []
+
+unfoldable pub eventAnswer : Event → Answer
+eventAnswer e = firstOf (eventRefusals e)
+
+-- the word, and "a word writer 0" when refused
 unfoldable pub writeEvent : Event → ℕ
 writeEvent e = if isAccepted (eventAnswer e) then wordOf e else 0
 
--- "4. Not an event: kind, .. or unnamed bit": the word is not that of the event that its named bits give
-unfoldable pub wordAnswer : ℕ → Answer
-wordAnswer w = if eqb w (wordOf (eventOf w)) then eventAnswer (eventOf w) else NotAnEvent
+-- ---- reading
 
--- reading: the event; "an event reading no event" when refused
+-- "kind, timer or unnamed bit": the word is that of the event which its named bits give
+abbrev pub isEventWord : ℕ → Bool
+isEventWord w = eqb w (wordOf (eventOf w)) && partsFit (eventOf w)
+
+-- "4. Not an event: kind, timer or unnamed bit .. 5. Contact or notice where both stands are one."
+abbrev pub wordRefusals : ℕ → List Refusal
+wordRefusals w = record { refusal = NotAnEvent; applies = not (isEventWord w) } ∷ record { refusal = SameNode; applies = sameNode (eventOf w) } ∷ []
+
+unfoldable pub wordAnswer : ℕ → Answer
+wordAnswer w = firstOf (wordRefusals w)
+
+-- the event; "an event reading no event" when refused
 unfoldable pub readEvent : ℕ → Reading
 readEvent w = if isAccepted (wordAnswer w) then Read (eventOf w) else Refused (wordAnswer w)

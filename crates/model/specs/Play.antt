@@ -10,13 +10,11 @@ use Rattle.model.specs.Leafset.{size}
 use Rattle.model.specs.Ring.{Own, Node, Message, Ring, cleared, isRunning, messageAt}
 use Rattle.model.specs.Steps.{Effect, contact, notice, timer, deliver}
 use Rattle.model.specs.Answers.{Refusal, firstOf, isAccepted}
-use Rattle.model.specs.Events.{readEvent}
+use Rattle.model.specs.Events.{eventOf, wordRefusals}
 use Rattle.model.specs.declared.answer.Answer.{Answer}
 use Rattle.model.specs.declared.answer.Answer.the-variants.{OutOfTable, NodeOff, AlreadyRunning, ClockSpent, PoolFull}
 use Rattle.model.specs.declared.event.Event.{Event}
 use Rattle.model.specs.declared.event.Event.the-variants.{On, Off, Notice, Contact, Timer, Deliver, Lose}
-use Rattle.model.specs.declared.event.Reading.{Reading}
-use Rattle.model.specs.declared.event.Reading.the-variants.{Read, Refused}
 
 -- the ring with another node x, and with other messages
 abbrev pub setNode : ℕ → Node → Ring → Ring
@@ -100,27 +98,25 @@ module _ (r : Ring) where
   refusals (Deliver i) = noMessage i ∷ clockSpent (isRunning r (messageAt r i .receiver)) (messageAt r i .receiver) ∷ []
   refusals (Lose i) = noMessage i ∷ []
 
-  unfoldable pub stateAnswer : Event → Answer
-  stateAnswer e = firstOf (refusals e ++ poolFull e ∷ [])
+  abbrev pub stateRefusals : Event → List Refusal
+  stateRefusals e = refusals e ++ poolFull e ∷ []
 
--- ---- events and words, played
+-- ---- words, played
 
+-- the answer of a call, and the ring after it
 pub record Played : Type 0 where
   pub answer : Answer
   pub ring : Ring
 
--- "nothing is written" when refused
-unfoldable pub playEvent : Ring → Event → Played
-playEvent r e = record { answer = stateAnswer r e; ring = if isAccepted (stateAnswer r e) then after r e else r }
+-- the refusals from the word, then those from the state
+unfoldable pub playAnswer : Ring → ℕ → Answer
+playAnswer r w = firstOf (wordRefusals w ++ stateRefusals r (eventOf w))
 
-unfoldable pub playRead : Ring → Reading → Played
-playRead r (Read e) = playEvent r e
-playRead r (Refused a) = record { answer = a; ring = r }
-
--- one word; and a list, "Each word is played on what the one before left, a refused one changing nothing"
+-- one word; "nothing is written" when refused
 unfoldable pub playWord : Ring → ℕ → Played
-playWord r w = playRead r (readEvent w)
+playWord r w = record { answer = playAnswer r w; ring = if isAccepted (playAnswer r w) then after r (eventOf w) else r }
 
+-- a list: "Each word is played on what the one before left, a refused one changing nothing"
 unfoldable pub playAll : Ring → List ℕ → Ring
 playAll r [] = r
 playAll r (w ∷ ws) = playAll (playWord r w .ring) ws
