@@ -18,3 +18,4 @@ pub mod Follows
 pub mod ConnectivityPreserved
 pub mod LeafsetSize
 pub mod Points
+pub mod Theorems

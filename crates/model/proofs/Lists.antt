@@ -44,6 +44,10 @@ each-drop zero e = e
 each-drop (suc k) nil = nil
 each-drop (suc k) (cons p e) = each-drop k e
 
+pub each-imp : {A : Type 0} {P Q : A → Type 0} {l : List A} → ((a : A) → P a → Q a) → Each P l → Each Q l
+each-imp f nil = nil
+each-imp f (cons {a} p e) = cons (f a p) (each-imp f e)
+
 pub each-map : {A B : Type 0} {P : A → Type 0} {Q : B → Type 0} {l : List A} (f : A → B) → ((a : A) → P a → Q (f a)) → Each P l → Each Q (map f l)
 each-map f h nil = nil
 each-map f h (cons {a} p e) = cons (h a p) (each-map f h e)

@@ -39,17 +39,23 @@ pub record Written : Type 0 where
 abbrev pub writes : List ℕ → Answer → List ℕ → Written
 writes ws answer after = record { answer = answer; words = if isAccepted answer then after else ws }
 
--- opening: 1, 2, 3
+-- opening: 1; 2 and 3
+abbrev pub openRefusals : List ℕ → Table → List Refusal
+openRefusals ws t = wrongLength ws ∷ openingRefusals t
+
 unfoldable pub openAnswer : List ℕ → Table → Answer
-openAnswer ws t = firstOf (wrongLength ws ∷ openingRefusals t)
+openAnswer ws t = firstOf (openRefusals ws t)
 
 -- "[Opening] writes a fresh ring over the lent buffer, whose old words don't matter."
 unfoldable pub openBuffer : List ℕ → Table → Written
 openBuffer ws t = writes ws (openAnswer ws t) (encode (initial t))
 
--- playing a word: 1; 4 and 5 of the word; 6; then those from the state
+-- playing a word: 1; 4 and 5 of the word; 6; then those of the event
+abbrev pub playRefusals : List ℕ → ℕ → List Refusal
+playRefusals ws w = wrongLength ws ∷ wordRefusals w ++ notARing ws ∷ stateRefusals (decode ws) (eventOf w)
+
 unfoldable pub bufferAnswer : List ℕ → ℕ → Answer
-bufferAnswer ws w = firstOf (wrongLength ws ∷ wordRefusals w ++ notARing ws ∷ stateRefusals (decode ws) (eventOf w))
+bufferAnswer ws w = firstOf (playRefusals ws w)
 
 unfoldable pub playBuffer : List ℕ → ℕ → Written
 playBuffer ws w = writes ws (bufferAnswer ws w) (encode (after (decode ws) (eventOf w)))

@@ -6,7 +6,7 @@ use Rattle.model.specs.Choice.{if_then_else_}
 use Rattle.model.specs.Sets.{toBits}
 use Rattle.model.specs.Leafset.{leafset}
 use Rattle.model.specs.Ring.{holds}
-use Rattle.model.specs.Answers.{firstOf, isAccepted}
+use Rattle.model.specs.Answers.{Refusal, firstOf, isAccepted}
 use Rattle.model.specs.Words.{decode}
 use Rattle.model.specs.Buffer.{wrongLength, notARing}
 use Rattle.model.specs.Play.{noNode, nodeOff}
@@ -14,19 +14,23 @@ use Rattle.model.specs.Connection.{connected}
 use Rattle.model.specs.declared.answer.Answer.{Answer}
 
 -- "about one stand's leafset in its held set": refusals 1, 6, 7 and "8. .. or a question about one"
+abbrev pub leafsetRefusals : List ℕ → ℕ → List Refusal
+leafsetRefusals ws x = wrongLength ws ∷ notARing ws ∷ noNode (decode ws) x ∷ nodeOff (decode ws) x ∷ []
+
 unfoldable pub leafsetAnswer : List ℕ → ℕ → Answer
-leafsetAnswer ws x = firstOf (wrongLength ws ∷ notARing ws ∷ noNode (decode ws) x ∷ nodeOff (decode ws) x ∷ [])
+leafsetAnswer ws x = firstOf (leafsetRefusals ws x)
 
 -- "its answer is 64 bits, bit s for stand s"; "A refused leafset question returns the empty set"
 unfoldable pub leafsetOf : List ℕ → ℕ → ℕ
 leafsetOf ws x = if isAccepted (leafsetAnswer ws x) then toBits 64 (leafset (decode ws .table) x (holds (decode ws) x)) else 0
 
 -- "about two stands, which may be the same one"
+abbrev pub connectionRefusals : List ℕ → ℕ → ℕ → List Refusal
+connectionRefusals ws a b =
+    wrongLength ws ∷ notARing ws ∷ noNode (decode ws) a ∷ noNode (decode ws) b ∷ nodeOff (decode ws) a ∷ nodeOff (decode ws) b ∷ []
+
 unfoldable pub connectionAnswer : List ℕ → ℕ → ℕ → Answer
-connectionAnswer ws a b =
-    firstOf
-    (wrongLength ws ∷ notARing ws ∷ noNode (decode ws) a ∷ noNode (decode ws) b
-    ∷ nodeOff (decode ws) a ∷ nodeOff (decode ws) b ∷ [])
+connectionAnswer ws a b = firstOf (connectionRefusals ws a b)
 
 -- a refused "connection question no"
 unfoldable pub connectionOf : List ℕ → ℕ → ℕ → Bool

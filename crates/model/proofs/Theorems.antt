@@ -1,0 +1,145 @@
+-- The theorems about the definitions, by name. Each says its sentence; the argument stands in the module that is cited.
+use mathlib.Core.Path.{_≡_, refl, sym, ap, _∙_}
+use mathlib.Core.Logic.{_↔_}
+use Prim.Native.Nat.{ℕ, _*_, _≤_, _<_}
+use mathlib.Core.Bool.{Bool, true, false}
+use mathlib.Core.List.{List, _∷_, _++_}
+use Rattle.model.specs.Choice.{if_then_else_}
+use Rattle.model.specs.Sets.{Set, without, count}
+use Rattle.model.specs.Leafset.{Table, size, leafset}
+use Rattle.model.specs.Ring.{Ring, initial}
+use Rattle.model.specs.WellFormed.{WellFormedTable, WellFormed}
+use Rattle.model.specs.Words.{encode, decode, readsAsRing}
+use Rattle.model.specs.Answers.{isAccepted}
+use Rattle.model.specs.Events.{wordOf, eventOf, eventRefusals, eventAnswer, writeEvent, wordRefusals, wordAnswer, readEvent}
+use Rattle.model.specs.Play.{stateRefusals}
+use Rattle.model.specs.Buffer.{wrongLength, notARing, openRefusals, openAnswer, openBuffer, playRefusals, bufferAnswer, playBuffer}
+use Rattle.model.specs.Questions.{leafsetRefusals, leafsetAnswer, connectionRefusals, connectionAnswer}
+use Rattle.model.specs.Connection.{Connected, connected}
+use Rattle.model.specs.ConnectivityPreserved.{ConnectivityPreserved}
+use Rattle.model.specs.declared.answer.Answer.the-variants.{Accepted}
+use Rattle.model.specs.declared.event.Event.{Event}
+use Rattle.model.specs.declared.event.Event.the-variants.{On, Off, Notice, Contact, Timer, Deliver, Lose}
+use Rattle.model.specs.declared.event.Reading.the-variants.{Read}
+use Rattle.model.proofs.Answers.{risingFrom, LowestOf, lowest-given}
+use Rattle.model.proofs.Events as events
+use Rattle.model.proofs.LeafsetSize as size-of
+use Rattle.model.proofs.Words as words
+use Rattle.model.proofs.RoundTrip as trip
+use Rattle.model.proofs.Fits as fits
+use Rattle.model.proofs.Decoded as decoded
+use Rattle.model.proofs.Follows as follow
+use Rattle.model.proofs.Connection as connection
+use Rattle.model.proofs.ConnectivityPreserved as preserved
+
+-- ---- "The lowest number that applies is given, and none otherwise", at each call
+
+pub lowest-at-writing : (e : Event) → LowestOf (eventRefusals e) (eventAnswer e)
+unfolding eventAnswer
+lowest-at-writing e = lowest-given 0 (eventRefusals e) refl
+
+pub lowest-at-reading : (w : ℕ) → LowestOf (wordRefusals w) (wordAnswer w)
+unfolding wordAnswer
+lowest-at-reading w = lowest-given 0 (wordRefusals w) refl
+
+pub lowest-at-opening : (ws : List ℕ) (t : Table) → LowestOf (openRefusals ws t) (openAnswer ws t)
+unfolding openAnswer
+lowest-at-opening ws t = lowest-given 0 (openRefusals ws t) refl
+
+-- the refusals of each event rise from 7 on
+rising-state : (r : Ring) (e : Event) → risingFrom 6 (stateRefusals r e) ≡ true
+rising-state r (On x) = refl
+rising-state r (Off x) = refl
+rising-state r (Notice x z) = refl
+rising-state r (Contact x y) = refl
+rising-state r (Timer x k) = refl
+rising-state r (Deliver i) = refl
+rising-state r (Lose i) = refl
+
+pub lowest-at-playing : (ws : List ℕ) (w : ℕ) → LowestOf (playRefusals ws w) (bufferAnswer ws w)
+unfolding bufferAnswer
+lowest-at-playing ws w = lowest-given 0 (playRefusals ws w) (rising-state (decode ws) (eventOf w))
+
+pub lowest-at-leafset : (ws : List ℕ) (x : ℕ) → LowestOf (leafsetRefusals ws x) (leafsetAnswer ws x)
+unfolding leafsetAnswer
+lowest-at-leafset ws x = lowest-given 0 (leafsetRefusals ws x) refl
+
+pub lowest-at-connection : (ws : List ℕ) (a b : ℕ) → LowestOf (connectionRefusals ws a b) (connectionAnswer ws a b)
+unfolding connectionAnswer
+lowest-at-connection ws a b = lowest-given 0 (connectionRefusals ws a b) refl
+
+-- ---- event words
+
+-- every event that can be written has a word, which reads as that event
+pub written-reads : (e : Event) → eventAnswer e ≡ Accepted → readEvent (writeEvent e) ≡ Read e
+unfolding writeEvent
+written-reads e a = ap (λ (b : Bool). readEvent (if b then wordOf e else 0)) (ap isAccepted a) ∙ events.reads e a
+
+-- every word that reads as an event is the word of it: so it has one word
+pub one-word : (w : ℕ) (e : Event) → readEvent w ≡ Read e → w ≡ wordOf e
+one-word w e h = events.reads-as w e h .word
+
+-- and two events that can be written have different words: a word reads as one event and no other
+pub no-other : (d e : Event) → eventAnswer d ≡ Accepted → eventAnswer e ≡ Accepted → wordOf d ≡ wordOf e → d ≡ e
+no-other d e a b i = let p = events.reads d a in let q = events.reads e b in let s = ap readEvent i in cc
+
+-- ---- leafsets
+
+-- "exactly 2 times L stands" (001, section 4)
+pub leafset-size :
+    (t : Table) → WellFormedTable t → (x : ℕ) → x < size t → (S : Set)
+    → 2 * t .leaf ≤ count (size t) (without S x)
+    → count (size t) (leafset t x S) ≡ 2 * t .leaf
+leafset-size t g x h S enough = size-of.leafset-size t g x h S enough
+
+-- ---- the ring's words
+
+-- words that read as a ring are the encoding of what they decode to, which is well-formed
+pub reads-back : (ws : List ℕ) → readsAsRing ws ≡ true → ws ≡ encode (decode ws)
+reads-back ws e = words.decoded-back ws e
+
+pub reads-well-formed : (ws : List ℕ) → readsAsRing ws ≡ true → WellFormed (decode ws)
+reads-well-formed ws e = decoded.reads-well ws e
+
+-- a well-formed ring's encoding reads as a ring, and as that ring
+pub encoding-reads : (r : Ring) → WellFormed r → readsAsRing (encode r) ≡ true
+encoding-reads r g = fits.encoded-reads r g
+
+pub encoding-decodes : (r : Ring) → WellFormed r → decode (encode r) ≡ r
+encoding-decodes r g = trip.round-trip r g
+
+-- two well-formed rings with equal words are equal
+pub encoding-injective : (r s : Ring) → WellFormed r → WellFormed s → encode r ≡ encode s → r ≡ s
+encoding-injective r s g h e = sym (trip.round-trip r g) ∙ ap decode e ∙ trip.round-trip s h
+
+-- ---- the calls
+
+-- an accepted opening writes the encoding of the initial ring, which reads as a ring
+pub opening-writes : (old : List ℕ) (t : Table) → openBuffer old t .answer ≡ Accepted → openBuffer old t .words ≡ encode (initial t)
+opening-writes old t a = follow.opened-words old t a
+
+pub opening-reads : (old : List ℕ) (t : Table) → openBuffer old t .answer ≡ Accepted → readsAsRing (openBuffer old t .words) ≡ true
+opening-reads old t a = ap readsAsRing (follow.opened-words old t a) ∙ fits.encoded-reads (initial t) (follow.opened-well old t a)
+
+-- every call leaves words that read as a ring, on any words that read as one, reachable or not
+pub playing-reads : (ws : List ℕ) (w : ℕ) → readsAsRing ws ≡ true → readsAsRing (playBuffer ws w .words) ≡ true
+playing-reads ws w e = follow.still-reads ws w e
+
+-- "nothing is written" by a refused call
+pub refused-opening : (ws : List ℕ) (t : Table) → isAccepted (openBuffer ws t .answer) ≡ false → openBuffer ws t .words ≡ ws
+unfolding openBuffer
+refused-opening ws t e = rw e
+
+pub refused-playing : (ws : List ℕ) (w : ℕ) → isAccepted (playBuffer ws w .answer) ≡ false → playBuffer ws w .words ≡ ws
+unfolding playBuffer
+refused-playing ws w e = rw e
+
+-- ---- connection
+
+-- the computed test is true exactly where a path of document 01's steps exists
+pub connected-decides : (ws : List ℕ) → readsAsRing ws ≡ true → (a b : ℕ) → (connected (decode ws) a b ≡ true) ↔ Connected (decode ws) a b
+connected-decides ws e a b = connection.decides (decode ws) a (λ x h. decoded.reads-well ws e .node-well x .running-low h) b
+
+-- demand 3
+pub connectivity-preserved : ConnectivityPreserved
+connectivity-preserved = preserved.connectivity-preserved
