@@ -110,7 +110,7 @@ act-well r x step g running clock f =
     }
 
 after-well : (r : Ring) (e : Event) → WellFormedParts r → sameNode e ≡ false → NoneApplies (stateRefusals r e) → WellFormedParts (after r e)
-unfolding after removeMessage sameNode
+unfolding after removeMessage
 after-well r (On x) g d p =
     let gn : WellFormedNode (size (r .table)) (x .0) (r .node (x .0)) = g .node-well (x .0) in
     set-node-well r (x .0) _ g

@@ -18,7 +18,7 @@ use Rattle.model.specs.declared.values.NodeNumber.{NodeNumber}
 -- "One word each: kind 9 on, 10 off, 11 notice, 12 contact, 13 timer, 14 deliver, 15 lose. For kinds 9-13 stand x is in bits 0-5;
 -- for 11 and 12 the other stand .. is in 6-11; for 13 the timer, 0 to 4, is in 12-14. Kinds 14 and 15 have a message position in
 -- bits 0-9, oldest 0."
-unfoldable pub wordOf : Event → ℕ
+abbrev pub wordOf : Event → ℕ
 wordOf (On x) = ofKind 9 (x .0)
 wordOf (Off x) = ofKind 10 (x .0)
 wordOf (Notice x z) = ofKind 11 (z .0 * 2 ^ 6 + x .0)
@@ -41,7 +41,7 @@ eventOf w = getD (On x ∷ Off x ∷ Notice x other ∷ Contact x other ∷ Time
     position = bits 0 10 w
 
 -- each part of the event has room in its bits, and the timer is 0 to 4
-unfoldable pub partsFit : Event → Bool
+abbrev pub partsFit : Event → Bool
 partsFit (On x) = ltb (x .0) 64
 partsFit (Off x) = ltb (x .0) 64
 partsFit (Notice x z) = ltb (x .0) 64 && ltb (z .0) 64
@@ -51,7 +51,7 @@ partsFit (Deliver i) = ltb i 1024
 partsFit (Lose i) = ltb i 1024
 
 -- "Contact or notice where both stands are one."
-unfoldable pub sameNode : Event → Bool
+abbrev pub sameNode : Event → Bool
 sameNode (On x) = false
 sameNode (Off x) = false
 sameNode (Notice x z) = eqb (x .0) (z .0)

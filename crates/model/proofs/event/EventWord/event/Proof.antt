@@ -1,0 +1,73 @@
+use lib.Dec.{lit<}
+use Rattle.model.proofs.Events.{event-of-kind}
+use Prim.Native.Nat.{ℕ, suc, _-_, _/_, _^_, _<_}
+use mathlib.Core.Path.{_≡_, refl, sym}
+use borrow.Author.Needs.{needs}
+use native.Mathlib.Omega.{arith}
+use Rattle.model.proofs.event.EventWord.event.Statement.{statement}
+use Rattle.model.proofs.event.EventWord.event.Tie as tie
+
+cast-t8 : tie.Need-cast-t8
+cast-t8 c = search needs
+
+cast-t8-2 : tie.Need-cast-t8-2
+cast-t8-2 c = search needs
+
+cast-timer : tie.Need-cast-timer
+cast-timer c = search needs
+
+cast-position : tie.Need-cast-position
+cast-position c = search needs
+
+returns : tie.Need-returns
+returns c = sym (event-of-kind (c .before .before .before .before .before .before .args .self .0) 10 (search needs) (lit< tt))
+
+returns-2 : tie.Need-returns-2
+returns-2 c = sym (event-of-kind (c .before .before .before .before .before .before .args .self .0) 11 (search needs) (lit< tt))
+
+returns-3 : tie.Need-returns-3
+returns-3 c = sym (event-of-kind (c .before .before .before .before .before .before .args .self .0) 12 (search needs) (lit< tt))
+
+returns-4 : tie.Need-returns-4
+returns-4 c = sym (event-of-kind (c .before .before .before .before .before .before .args .self .0) 13 (search needs) (lit< tt))
+
+returns-5 : tie.Need-returns-5
+returns-5 c = sym (event-of-kind (c .before .before .before .before .before .before .args .self .0) 14 (search needs) (lit< tt))
+
+returns-6 : tie.Need-returns-6
+returns-6 c = sym (event-of-kind (c .before .before .before .before .before .before .args .self .0) 15 (search needs) (lit< tt))
+
+returns-7 : tie.Need-returns-7
+returns-7 c =
+    let w : ℕ = c .before .before .before .before .before .before .args .self .0 in
+    let others = c .match .rest in
+    let low : w / 2 ^ 28 < 10 =
+    except _ 10 (except _ 11 (except _ 12 (except _ 13 (except _ 14 (except _ 15 (high w (c .before .before .before .before .before .struct-known .given .0 .fits))
+    (others .1)) (others .0 .1)) (others .0 .0 .1)) (others .0 .0 .0 .1)) (others .0 .0 .0 .0 .1)) (others .0 .0 .0 .0 .0 .1) in
+    let on : w / 2 ^ 28 - 9 ≡ 0 = low-kind (w / 2 ^ 28) low in
+    rw (event-of-kind w (w / 2 ^ 28) refl (high w (c .before .before .before .before .before .struct-known .given .0 .fits)), on)
+  where
+    except : (k n : ℕ) → k < suc n → (k ≡ n → ⊥) → k < n
+    except k n h d = omega arith
+
+    high : (w : ℕ) → w < 2 ^ 32 → w / 2 ^ 28 < 16
+    high w h = omega arith
+
+    low-kind : (k : ℕ) → k < 10 → k - 9 ≡ 0
+    low-kind k h = omega arith
+
+pub event-spec : {M : Type 1} → statement M
+event-spec =
+    tie.close
+    (tie.spec
+    cast-t8
+    cast-t8-2
+    cast-timer
+    cast-position
+    returns
+    returns-2
+    returns-3
+    returns-4
+    returns-5
+    returns-6
+    returns-7)
