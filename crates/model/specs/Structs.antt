@@ -1,12 +1,19 @@
--- What the structs of the code stand for.
-use Prim.Native.Nat.{ℕ}
-use lib.ListN.{getD}
+-- What the structs of the code stand for, and the room of their parts.
+use mathlib.Core.Path.{_≡_}
+use mathlib.Core.List.{List}
+use Prim.Native.Nat.{ℕ, _^_, _<_}
+use lib.ListN.{length, getD}
 use Rattle.model.specs.Sets.{ofBits, noneNode}
+use Rattle.model.specs.Leafset.{Table}
 use Rattle.model.specs.Ring.{Own, Message}
 use Rattle.model.specs.declared.values.NodeNumber.{NodeNumber}
 use Rattle.model.specs.declared.values.Stamp.{Stamp}
 use Rattle.model.specs.declared.node.NodeRecord.{NodeRecord}
 use Rattle.model.specs.declared.message.MessageRecord.{MessageRecord}
+
+-- the table of L and a lent list of keys
+abbrev pub tableOf : ℕ → List ℕ → Table
+tableOf leaf keys = record { leaf = leaf; keys = keys }
 
 abbrev pub stampAt : NodeRecord → ℕ → ℕ
 stampAt q z = getD (q .commit) z (record { 0 = 0 }) .0
@@ -34,3 +41,18 @@ messageOf m =
       stamp = m .stamp .0;
       view = ofBits (m .view);
     }
+
+-- the arrays are whole, and the parts have room in their bits
+
+pub record RoomNode (q : NodeRecord) : Type 0 where
+  pub commit-room : (z : ℕ) → stampAt q z < 2 ^ 24
+  pub spare-room : (z : ℕ) → spareAt q z < 2 ^ 7
+  pub commit-long : length (q .commit) ≡ 64
+  pub spare-long : length (q .spare) ≡ 64
+
+pub record RoomMessage (m : MessageRecord) : Type 0 where
+  pub tag-room : m .tag < 2 ^ 4
+  pub sender-room : m .sender .0 < 2 ^ 6
+  pub receiver-room : m .receiver .0 < 2 ^ 6
+  pub subject-room : m .subject .0 < 2 ^ 7
+  pub stamp-room : m .stamp .0 < 2 ^ 24

@@ -4,3 +4,4 @@ pub mod event;
 pub mod message;
 pub mod node;
 pub mod values;
+pub mod word;
