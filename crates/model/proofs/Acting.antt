@@ -118,7 +118,7 @@ module _ (r : Ring) (x : ℕ) where
         → ((a z : ℕ) → holds r a z ≡ true → P a z (r .node a))
         → EachPair r (λ a z. P a z (acted ms e .node a))
     each P here elsewhere a z ra rz =
-        put-each (λ b n. holds r b z ≡ true → P b z n) (r .node) x (actor e) (here z rz) (λ b. elsewhere b z) a
+        put-each (λ b n. holds r b z ≡ true → P b z n) (r .node) x (actor e) (here z rz) (λ b d. elsewhere b z) a
 
     kept : ((z : ℕ) → isRunning r z ≡ true → own .held z ≡ true → KeptIn (e .own) z) → EachPair r (Kept r (acted ms e))
     kept k =
@@ -137,12 +137,12 @@ module _ (r : Ring) (x : ℕ) where
     acks-old n m a = elim (acks m a) [ inl o ↦ o | inr s ↦ absurd (n m s (a .1)) ]
 
     clocks : (a : ℕ) → clock r a ≤ clock (acted ms e) a
-    clocks = put-each (λ a n. clock r a ≤ n .clock) (r .node) x (actor e) (omega arith) (λ a. omega arith)
+    clocks = put-each (λ a n. clock r a ≤ n .clock) (r .node) x (actor e) (omega arith) (λ a d. omega arith)
 
     acted-step : Law e → Step r (acted ms e)
     acted-step law =
         record {
-          running = put-each (λ a n. n .running ≡ isRunning r a) (r .node) x (actor e) refl (λ a. refl);
+          running = put-each (λ a n. n .running ≡ isRunning r a) (r .node) x (actor e) refl (λ a d. refl);
           clocks = clocks;
           change = law .change ms part;
         }
@@ -470,7 +470,7 @@ unchanged r = thinned r (r .messages) (λ m h. h)
 -- a node is put whose clock has not fallen
 placed-requests : (r : Ring) (x : ℕ) (s : Node) → clock r x ≤ s .clock → Requests r → Requests (setNode x s r)
 placed-requests r x s later q m h nine =
-    put-each (λ a n. m .stamp ≤ clock r a → m .stamp ≤ n .clock) (r .node) x s (λ l. omega arith) (λ a l. l) (m .sender) (q m h nine)
+    put-each (λ a n. m .stamp ≤ clock r a → m .stamp ≤ n .clock) (r .node) x s (λ l. omega arith) (λ a d l. l) (m .sender) (q m h nine)
 
 -- where all messages stay
 abbrev all-stay : (r : Ring) → Part (r .messages) (r .messages)

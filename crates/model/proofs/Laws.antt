@@ -122,8 +122,8 @@ else-out false v w e h = e
 pub put-law : {A : Type 0} (P : A → Type 0) (f : ℕ → A) (x : ℕ) (v : A) (y : ℕ) → (y ≡ x → P v) → ((y ≡ x → ⊥) → P (f y)) → P (put f x v y)
 put-law P f x v y p q = if-law P (eqb y x) v (f y) (λ e. p (eqb-true y x e)) (λ e. q (eqb-false y x e))
 
-pub put-each : {A : Type 0} (P : ℕ → A → Type 0) (f : ℕ → A) (x : ℕ) (v : A) → P x v → ((y : ℕ) → P y (f y)) → (y : ℕ) → P y (put f x v y)
-put-each P f x v p q y = put-law (P y) f x v y (λ e. rw e p) (λ d. q y)
+pub put-each : {A : Type 0} (P : ℕ → A → Type 0) (f : ℕ → A) (x : ℕ) (v : A) → P x v → ((y : ℕ) → (y ≡ x → ⊥) → P y (f y)) → (y : ℕ) → P y (put f x v y)
+put-each P f x v p q y = put-law (P y) f x v y (λ e. rw e p) (q y)
 
 pub put-here : {A : Type 0} (f : ℕ → A) (x : ℕ) (v : A) → put f x v x ≡ v
 put-here f x v = rw (eq-eqb x x refl)

@@ -64,7 +64,7 @@ set-node-well : (r : Ring) (x : ℕ) (s : Node) → WellFormedParts r → WellFo
 set-node-well r x s g h =
     record {
       table-well = g .table-well;
-      node-well = put-each (WellFormedNode (size (r .table))) (r .node) x s h (g .node-well);
+      node-well = put-each (WellFormedNode (size (r .table))) (r .node) x s h (λ y d. g .node-well y);
       messages-well = g .messages-well;
     }
 

@@ -1,0 +1,85 @@
+-- `leafset::leafset::limit` meets its contract.
+use mathlib.Core.Path.{_≡_}
+use Prim.Native.Nat.{_-_, _<_, _≤_}
+use native.Mathlib.Omega.{arith}
+use lib.ListN.{getD}
+use borrow.Author.Needs.{needs}
+use Rattle.model.specs.Sets.{ofBits, without}
+use Rattle.model.proofs.Bits.{bit-below}
+use Rattle.leafset.specs.Span.{spanTo}
+use Rattle.leafset.proofs.Spans.{span<}
+use Rattle.leafset.proofs.Limit.{Taken, taken-none, taken-least, taken-more, taken-limit}
+use Rattle.leafset.proofs.leafset.limit.Statement.{statement}
+use Rattle.leafset.proofs.leafset.limit.Tie as tie
+
+abbrev Inv-loop : tie.InvT-loop
+Inv-loop keys leaf way from set limit₀ left₀ taken₀ limit left taken =
+    (taken ≤ leaf) × Taken (ofBits set) (spanTo way (from .0) keys) (ofBits left) limit taken
+
+abbrev μ-loop : tie.MeasureT-loop
+μ-loop keys leaf way from set limit₀ left₀ taken₀ limit left taken = leaf - taken
+
+loop-holds : tie.Need-loop-holds Inv-loop μ-loop
+loop-holds c = (omega arith, taken-none (ofBits (c .before .args .set)) _ (λ y e. bit-below 64 (c .before .args .set) y (c .before .fits .set .fits) e))
+
+nearest-requires : tie.Need-nearest-requires Inv-loop μ-loop
+nearest-requires c κs = λ y e. c .before .before .before .pre .0 y (c .before .loop .inv .1 .part y e)
+
+cast-at : tie.Need-cast-at Inv-loop μ-loop
+cast-at c = search needs
+
+mul-t13 : tie.Need-mul-t13 Inv-loop μ-loop
+mul-t13 c = search needs
+
+shared-slice-read-t15 : tie.Need-shared-slice-read-t15 Inv-loop μ-loop
+shared-slice-read-t15 c =
+    let t = c .before .before .before .before .loop .inv .1 in
+    c .before .before .before .before .before .before .pre .0 _ (t .part _ (taken-least t (omega arith) (c .before .before .nearest .ensures) .member))
+
+span-requires : tie.Need-span-requires Inv-loop μ-loop
+span-requires c κs = search needs
+
+add-limit : tie.Need-add-limit Inv-loop μ-loop
+add-limit c = omega (arith, c .span .ensures, span< (c .before .before .before .before .before .before .before .args .way) (c .before .before .before .before .before .before .before .args .from .0) (getD (c .before .before .before .before .before .before .before .args .keys .now) (c .before .before .before .nearest .result .0) 0))
+
+without-requires : tie.Need-without-requires Inv-loop μ-loop
+without-requires c κs =
+    let t = c .before .before .before .before .before .loop .inv .1 in
+    t .low _ (t .part _ (taken-least t (omega arith) (c .before .before .before .nearest .ensures) .member))
+
+add-taken : tie.Need-add-taken Inv-loop μ-loop
+add-taken c = search needs
+
+loop-less : tie.Need-loop-less Inv-loop μ-loop
+loop-less c = search needs
+
+loop-again : tie.Need-loop-again Inv-loop μ-loop
+loop-again c =
+    let a = c .before .before .before .before .before .before .before .before .args in
+    let t = c .before .before .before .before .before .before .loop .inv .1 in
+    let m = spanTo (a .way) (a .from .0) (a .keys .now) in (
+      omega arith,
+      rw (c .without .ensures, c .before .span .ensures) (taken-more t (taken-least t (omega arith) (c .before .before .before .before .nearest .ensures))),
+    )
+
+returns : tie.Need-returns Inv-loop μ-loop
+returns c = let e : c .before .loop .taken ≡ c .before .before .before .args .leaf = omega arith in rw (← e) (taken-limit (c .before .loop .inv .1))
+
+pub limit-spec : {M : Type 1} → statement M
+limit-spec =
+    tie.close
+    (tie.spec
+    Inv-loop
+    μ-loop
+    loop-holds
+    nearest-requires
+    cast-at
+    mul-t13
+    shared-slice-read-t15
+    span-requires
+    add-limit
+    without-requires
+    add-taken
+    loop-less
+    loop-again
+    returns)

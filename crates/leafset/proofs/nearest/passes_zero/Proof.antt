@@ -1,0 +1,60 @@
+-- `leafset::nearest::passes_zero` meets its contract.
+use native.Mathlib.Omega.{arith}
+use borrow.Author.Needs.{needs}
+use Rattle.leafset.proofs.Bits.{none-left, first-bit}
+use Rattle.leafset.proofs.Choices.{successor-low, passes-found, passes-nobody}
+use Rattle.leafset.proofs.nearest.passes_zero.Statement.{statement}
+use Rattle.leafset.proofs.nearest.passes_zero.Tie as tie
+
+returns : tie.Need-returns
+returns c = λ leaf. passes-nobody leaf _ _ _ (none-left (c .if1 .taken))
+
+successor-requires : tie.Need-successor-requires
+successor-requires c κs = search needs
+
+cast-at : tie.Need-cast-at
+cast-at c = search needs
+
+cast-to : tie.Need-cast-to
+cast-to c = search needs
+
+mul-result : tie.Need-mul-result
+mul-result c = search needs
+
+shared-slice-read-result : tie.Need-shared-slice-read-result
+shared-slice-read-result c = search needs
+
+clockwise-requires : tie.Need-clockwise-requires
+clockwise-requires c κs = search needs
+
+mul-t9 : tie.Need-mul-t9
+mul-t9 c = search needs
+
+shared-slice-read-t15 : tie.Need-shared-slice-read-t15
+shared-slice-read-t15 c =
+    let f = first-bit (c .before .before .before .before .before .before .before .before .args .held) (c .before .before .before .before .before .before .before .before .fits .held .fits) (omega arith) in
+    rw (c .before .before .before .before .before .successor .ensures 0) (successor-low 0 _ _ _ (c .before .before .before .before .before .before .before .before .pre .within) _ (f .member))
+
+clockwise-requires-2 : tie.Need-clockwise-requires-2
+clockwise-requires-2 c κs = search needs
+
+returns-2 : tie.Need-returns-2
+returns-2 c =
+    let f = first-bit (c .before .before .before .before .before .before .before .before .before .args .held) (c .before .before .before .before .before .before .before .before .before .fits .held .fits) (omega arith) in
+    λ leaf. passes-found leaf _ _ _ (_, c .before .before .before .before .before .before .before .before .before .pre .within _ (f .member), f .member) _ _ _ (c .before .before .before .before .before .before .successor .ensures leaf) (c .before .before .clockwise .ensures) (c .clockwise2 .ensures)
+
+pub passes-zero-spec : {M : Type 1} → statement M
+passes-zero-spec =
+    tie.close
+    (tie.spec
+    returns
+    successor-requires
+    cast-at
+    cast-to
+    mul-result
+    shared-slice-read-result
+    clockwise-requires
+    mul-t9
+    shared-slice-read-t15
+    clockwise-requires-2
+    returns-2)

@@ -1,0 +1,10 @@
+-- `leafset::sets::size` meets its contract.
+use Rattle.leafset.proofs.Bits.{ones-count}
+use Rattle.leafset.proofs.sets.size.Statement.{statement}
+use Rattle.leafset.proofs.sets.size.Tie as tie
+
+returns : tie.Need-returns
+returns c = ones-count (c .args .set) (c .fits .set .fits)
+
+pub size-spec : {M : Type 1} → statement M
+size-spec = tie.close (tie.spec returns)

@@ -1,0 +1,79 @@
+// The leafset of a node in a set.
+ghost use mathlib.Core.Path.{_≡_};
+ghost use mathlib.Core.Bool.{_&&_};
+ghost use Prim.Native.Nat.{ℕ, _≤_};
+ghost use lib.Dec.{ltb};
+ghost use lib.ListN.{length};
+ghost use Rattle.model.specs.Sets.{ofBits, toBits, count};
+ghost use Rattle.model.specs.Leafset as model;
+ghost use Rattle.leafset.specs.Table.{Within, InTable};
+ghost use Rattle.model.specs.Structs.{tableOf};
+ghost use Rattle.leafset.specs.Span.{spanTo, isNear, IsLimit};
+use super::sets;
+use super::span;
+use super::span::Way;
+use model::values::Key;
+use model::values::NodeNumber;
+
+// The limit below which the spans of the `leaf` nearest members lie.
+fn limit(keys: &[u32], leaf: u32, way: Way, from: Key, set: u64) -> u32
+    requires { ⌜ Within (length (now keys)) set × (leaf ≤ count 64 (ofBits set)) ⌝ }
+    ensures { λ r. ⌜ IsLimit leaf (ofBits set) (spanTo way (from .0) (now (keys .entry))) r ⌝ }
+{
+    let mut limit = 0;
+    let mut left = set;
+    let mut taken = 0;
+    while taken < leaf {
+        let y = span::nearest(keys, way, from, left);
+        let at = y.0 as usize;
+        limit = span::span(way, from, Key(keys[at])) + 1;
+        left = sets::without(left, y);
+        taken += 1;
+    }
+    limit
+}
+
+// The members of the set whose span is below the limit.
+fn below(keys: &[u32], limit: u32, way: Way, from: Key, set: u64) -> u64
+    requires { ⌜ Within (length (now keys)) set ⌝ }
+    ensures { λ r. ⌜ ((y : ℕ) → ofBits r y ≡ (ofBits set y && ltb (spanTo way (from .0) (now (keys .entry)) y) limit)) ⌝ }
+{
+    let mut out = 0;
+    let mut rest = set;
+    while rest != 0 {
+        let y = sets::lowest(rest);
+        let at = y.0 as usize;
+        let more = sets::with(out, y);
+        if span::span(way, from, Key(keys[at])) < limit {
+            out = more;
+        }
+        rest = sets::rest(rest);
+    }
+    out
+}
+
+// The `leaf` nearest members of the set.
+fn near(keys: &[u32], leaf: u32, way: Way, from: Key, set: u64) -> u64
+    requires { ⌜ Within (length (now keys)) set × (leaf ≤ count 64 (ofBits set)) ⌝ }
+    ensures { λ r. ⌜ ((y : ℕ) → ofBits r y ≡ (ofBits set y && isNear leaf (ofBits set) (spanTo way (from .0) (now (keys .entry))) y)) ⌝ }
+{
+    let limit = limit(keys, leaf, way, from, set);
+    below(keys, limit, way, from, set)
+}
+
+// "take x out of S; if fewer than 2 times L are left, all of them; else the L nearest clockwise and the L nearest
+// counter-clockwise"
+pub fn leafset(keys: &[u32], leaf: u32, x: NodeNumber, set: u64) -> u64
+    requires { ⌜ InTable (now keys) (x .0) set × (leaf ≤ 8) ⌝ }
+    ensures { λ r. ⌜ r ≡ toBits 64 (model.leafset (tableOf leaf (now (keys .entry))) (x .0) (ofBits set)) ⌝ }
+{
+    let left = sets::without(set, x);
+    if sets::size(left) < 2 * leaf {
+        return left;
+    }
+    let at = x.0 as usize;
+    let from = Key(keys[at]);
+    let ahead = near(keys, leaf, Way::Clockwise, from, left);
+    let behind = near(keys, leaf, Way::CounterClockwise, from, left);
+    ahead | behind
+}

@@ -1,0 +1,349 @@
+-- Laws of the message region: tests of words as tests of their parts, views as numbers, and `messagesRead` in parts.
+use mathlib.Core.Path.{_≡_, refl, sym, ap, ap₂, _∙_}
+use Prim.Native.Nat.{ℕ, zero, suc, _+_, _-_, _*_, _/_, _%_, _^_, _≤_, _<_, zero-le}
+use native.Mathlib.Nat.{add-zero, mod-lt, mod-eq-of-lt, div-one, pow-suc, mul-comm, le-refl, div-lt-iff-lt-mul}
+use native.Mathlib.Numerals.{add-one}
+use native.Mathlib.Omega.{arith}
+use native.Mathlib.Decide.{decLt}
+use mathlib.Core.Bool.{Bool, true, false, not, _&&_, _||_}
+use mathlib.Core.List.{List, [], _∷_, _++_}
+use lib.ListN.{length, getD}
+use lib.Arith.{lt-one, digits-div, mod-mul, mul-pred}
+use lib.Pow.{pow-pos, pow-mono, pow-add, pow-sub-lt, split}
+use lib.Bits.{bitOr, or-add-and, and-le-l, and-le-r, or-zero-l}
+use lib.Dec.{ltb, leb, eqb, lit<}
+use borrow.Author.Tests.{eqb-true, eqb-false, eq-eqb, ne-eqb, lt-ltb, le-ltb, ltb-true, leb-true, le-leb}
+use Rattle.model.specs.Choice.{if_then_else_, _⇒_, every}
+use Rattle.model.specs.Sets.{Set, all, toBits, ofBits}
+use Rattle.model.specs.Fields.{bits, bit}
+use Rattle.model.specs.Leafset.{Table, size}
+use Rattle.model.specs.Ring.{Message}
+use Rattle.model.specs.WellFormed.{Each, nil, cons}
+use Rattle.model.specs.Words.{messageWord, stampWord, viewWord, messagePlace, messageWords, decodeMessage, messageFits, ringLength, between, usesView, usesStamp, subjectFits, viewFits}
+use Rattle.model.proofs.Laws.{clash, decide, is-false, same-test, and-left, and-right, and-in, implies-in, implies-out, not-in, not-out, all-in, all-out, every-in, every-out, or-left, or-right, or-case}
+use Rattle.model.proofs.Lists.{first, rest}
+use Rattle.model.proofs.Bits.{no-bit-above, bit-below, toBits<}
+use Rattle.model.proofs.Fields.{field, bits<}
+use Rattle.validity.specs.Messages.{messageReads, messagesRead}
+use Rattle.validity.specs.MessagesParts.{kept, headFits, headReads, viewReads}
+
+-- ---- tests
+
+-- a && b && c .., as code joins tests
+abbrev pub joined : Bool → List Bool → Bool
+joined b [] = b
+joined b (c ∷ bs) = joined (b && c) bs
+
+and-true : (a : Bool) → (a && true) ≡ a
+and-true true = refl
+and-true false = refl
+
+and-assoc : (a b c : Bool) → ((a && b) && c) ≡ (a && (b && c))
+and-assoc true b c = refl
+and-assoc false b c = refl
+
+pub joined-every : (b : Bool) (bs : List Bool) → joined b bs ≡ every (b ∷ bs)
+joined-every b [] = sym (and-true b)
+joined-every b (c ∷ bs) = joined-every (b && c) bs ∙ and-assoc b c (every bs)
+
+every-append : (bs cs : List Bool) → every (bs ++ cs) ≡ (every bs && every cs)
+every-append [] cs = refl
+every-append (b ∷ bs) cs = ap (λ (c : Bool). b && c) (every-append bs cs) ∙ sym (and-assoc b (every bs) (every cs))
+
+pub pick : (b c d : Bool) → ((b && c) || (not b && d)) ≡ (if b then c else d)
+pick true true d = refl
+pick true false d = refl
+pick false c d = refl
+
+-- ---- the numbers below n that pass a test
+
+pub all-more : (n : ℕ) (S : Set) → all (n + 1) S ≡ (all n S && S n)
+unfolding all
+all-more n S = ap (λ (k : ℕ). all k S) (add-one n)
+
+pub all-cong : (n : ℕ) (S R : Set) → ((i : ℕ) → i < n → S i ≡ R i) → all n S ≡ all n R
+all-cong n S R f =
+    same-test (all n S) (all n R)
+    (λ e. all-in n R (λ i h. sym (f i h) ∙ all-out n S e i h))
+    (λ e. all-in n S (λ i h. f i h ∙ all-out n R e i h))
+
+pub all-and : (n : ℕ) (S R : Set) → all n (λ i. S i && R i) ≡ (all n S && all n R)
+all-and n S R =
+    same-test (all n (λ i. S i && R i)) (all n S && all n R)
+    (λ e. and-in
+    (all-in n S (λ i h. and-left (S i) (R i) (all-out n (λ j. S j && R j) e i h)))
+    (all-in n R (λ i h. and-right (S i) (R i) (all-out n (λ j. S j && R j) e i h))))
+    (λ e. all-in n (λ i. S i && R i)
+    (λ i h. and-in (all-out n S (and-left (all n S) (all n R) e) i h) (all-out n R (and-right (all n S) (all n R) e) i h)))
+
+-- ---- words
+
+-- a word is q above its own low bits exactly where its high bits are q
+high-bits : (width q w : ℕ) → eqb w (q * 2 ^ width + w % 2 ^ width) ≡ eqb (w / 2 ^ width) q
+high-bits width q w =
+    same-test (eqb w (q * 2 ^ width + w % 2 ^ width)) (eqb (w / 2 ^ width) q)
+    (λ e. eq-eqb (w / 2 ^ width) q
+    (ap (λ (v : ℕ). v / 2 ^ width) (eqb-true w (q * 2 ^ width + w % 2 ^ width) e) ∙ digits-div q (mod-lt w (pow-pos width))))
+    (λ e. eq-eqb w (q * 2 ^ width + w % 2 ^ width)
+    (sym (split w width) ∙ ap (λ (v : ℕ). v * 2 ^ width + w % 2 ^ width) (eqb-true (w / 2 ^ width) q e)))
+
+-- the four fields of a message's first word are its low 23 bits
+fields : (w : ℕ) → bits 16 7 w * 2 ^ 16 + bits 10 6 w * 2 ^ 10 + bits 4 6 w * 2 ^ 4 + bits 0 4 w ≡ w % 2 ^ 23
+fields w =
+    let a : w % 2 ^ 23 ≡ bits 16 7 w * 2 ^ 16 + w % 2 ^ 16 = mod-mul w {m = 2 ^ 7} {c = 2 ^ 16} (lit< tt) (lit< tt) in
+    let b : w % 2 ^ 16 ≡ bits 10 6 w * 2 ^ 10 + w % 2 ^ 10 = mod-mul w {m = 2 ^ 6} {c = 2 ^ 10} (lit< tt) (lit< tt) in
+    let c : w % 2 ^ 10 ≡ bits 4 6 w * 2 ^ 4 + w % 2 ^ 4 = mod-mul w {m = 2 ^ 6} {c = 2 ^ 4} (lit< tt) (lit< tt) in
+    let d : bits 0 4 w ≡ w % 2 ^ 4 = ap (λ (v : ℕ). v % 2 ^ 4) (div-one w) in
+    omega arith
+
+-- a word of a kind, with a low part of some width, and no more
+plain : (width q w : ℕ) → eqb w (q * 2 ^ width + bits 0 width w) ≡ eqb (w / 2 ^ width) q
+plain width q w = ap (λ (v : ℕ). eqb w (q * 2 ^ width + v % 2 ^ width)) (div-one w) ∙ high-bits width q w
+
+module _ (ws : List ℕ) (k : ℕ) where
+  head-kept : kept ws k 0 ≡ eqb (getD ws (messagePlace k) 0 / 2 ^ 23) 192
+  unfolding decodeMessage messageWord
+  head-kept =
+      let w : ℕ = getD ws (messagePlace k) 0 in
+      rw (add-zero (messagePlace k)) (ap (λ (v : ℕ). eqb w (6 * 2 ^ 28 + v)) (fields w) ∙ high-bits 23 192 w)
+
+  stamp-kept : kept ws k 1 ≡ eqb (getD ws (messagePlace k + 1) 0 / 2 ^ 24) 112
+  unfolding decodeMessage stampWord
+  stamp-kept = plain 24 112 (getD ws (messagePlace k + 1) 0)
+
+-- the tests of a message's first two words, as code joins them
+abbrev headTests : ℕ → ℕ → ℕ → ℕ → Bool → Message → List Bool
+headTests word n tag stamp fits m =
+    eqb (word / 2 ^ 24) 112
+    ∷ between 1 12 tag
+    ∷ ltb (m .sender) n
+    ∷ ltb (m .receiver) n
+    ∷ not (eqb (m .sender) (m .receiver))
+    ∷ fits
+    ∷ (eqb tag 8 ⇒ not (eqb (m .subject) (m .sender)) && not (eqb (m .subject) (m .receiver)))
+    ∷ (usesStamp tag || eqb stamp 0)
+    ∷ []
+
+pub head-test : (ws : List ℕ) (t : Table) (k n tag stamp : ℕ) (fits : Bool) → size t ≡ n → decodeMessage ws k .type ≡ tag → decodeMessage ws k .stamp ≡ stamp → fits ≡ subjectFits t (decodeMessage ws k) → joined (eqb (getD ws (messagePlace k) 0 / 2 ^ 23) 192) (headTests (getD ws (messagePlace k + 1) 0) n tag stamp fits (decodeMessage ws k)) ≡ headReads ws t k
+unfolding headReads headFits
+head-test ws t k n tag stamp fits e f g h =
+    rw (← e, ← f, ← g, h)
+    (joined-every (eqb (getD ws (messagePlace k) 0 / 2 ^ 23) 192)
+    (headTests (getD ws (messagePlace k + 1) 0) (size t) (decodeMessage ws k .type) (decodeMessage ws k .stamp) (subjectFits t (decodeMessage ws k)) (decodeMessage ws k))
+    ∙ rw (head-kept ws k, stamp-kept ws k, and-true (headFits t (decodeMessage ws k))))
+
+-- ---- views
+
+digit : (d p : ℕ) → d < 2 → (if eqb d 1 then p else 0) ≡ d * p
+digit zero p h = omega arith
+digit (suc zero) p h = omega arith
+digit (suc (suc d)) p h = absurd (omega arith)
+
+-- a number's low k bits, as a set and back
+bits-of : (k v : ℕ) → toBits k (ofBits v) ≡ v % 2 ^ k
+unfolding toBits
+bits-of zero v = omega arith
+bits-of (suc k) v =
+    let d : (if ofBits v k then 2 ^ k else 0) ≡ v / 2 ^ k % 2 * 2 ^ k = digit (v / 2 ^ k % 2) (2 ^ k) (mod-lt (v / 2 ^ k) (lit< tt)) in
+    let e : v % 2 ^ suc k ≡ v / 2 ^ k % 2 * 2 ^ k + v % 2 ^ k =
+    ap (λ (p : ℕ). v % p) (pow-suc 2 k ∙ mul-comm (2 ^ k) 2) ∙ mod-mul v {m = 2} {c = 2 ^ k} (lit< tt) (pow-pos k) in
+    let f : toBits k (ofBits v) ≡ v % 2 ^ k = bits-of k v in
+    omega arith
+
+-- a number whose bits are all below n is below 2 ^ n
+bits-within : (k v n : ℕ) → v < 2 ^ k → ((y : ℕ) → y < k → ofBits v y ≡ true → y < n) → v < 2 ^ n
+bits-within zero v n h f = omega (arith, pow-pos n)
+bits-within (suc k) v n h f =
+    elim (decLt k n) [
+      | yes l ↦ omega (arith, pow-mono l)
+      | no d ↦ bits-within k v n (lower (is-false (ofBits v k) (λ e. d (f k (le-refl (suc k)) e)))) (λ y l e. f y (omega arith) e)
+    ]
+  where
+    lower : ofBits v k ≡ false → v < 2 ^ k
+    lower e =
+        let q : v / 2 ^ k < 2 = div-lt-iff-lt-mul (pow-pos k) .1 (omega (arith, pow-suc 2 k)) in
+        let r : v / 2 ^ k < 1 = omega (arith, eqb-false (v / 2 ^ k % 2) 1 e) in
+        let s : v < 1 * 2 ^ k = div-lt-iff-lt-mul (pow-pos k) .0 r in
+        omega arith
+
+-- the largest number of n bits, as a shift of the largest of 64
+pub ones : (n : ℕ) → n ≤ 64 → 18446744073709551615 / 2 ^ (64 - n) ≡ 2 ^ n - 1
+ones n h =
+    let s : n + (64 - n) ≡ 64 = omega arith in
+    let room : 2 ^ n * 2 ^ (64 - n) ≡ 18446744073709551616 = sym (pow-add 2 n (64 - n)) ∙ ap (λ (k : ℕ). 2 ^ k) s in
+    ap (λ (p : ℕ). (p - 1) / 2 ^ (64 - n)) (sym room)
+    ∙ ap (λ (p : ℕ). p / 2 ^ (64 - n)) (mul-pred (pow-pos n) (pow-pos (64 - n)))
+    ∙ digits-div (2 ^ n - 1) (pow-sub-lt (64 - n) (lit< tt))
+
+-- within the limit of a type
+limited : (used : Bool) (n v : ℕ) → leb v (if used then 2 ^ n - 1 else 0) ≡ every ((used || eqb v 0) ∷ ltb v (2 ^ n) ∷ [])
+limited true n v =
+    same-test (leb v (2 ^ n - 1)) (ltb v (2 ^ n) && true)
+    (λ e. and-in (lt-ltb v (2 ^ n) (omega (arith, pow-pos n, leb-true v (2 ^ n - 1) e))) refl)
+    (λ e. le-leb v (2 ^ n - 1) (omega (arith, ltb-true v (2 ^ n) (and-left (ltb v (2 ^ n)) true e))))
+limited false n v =
+    same-test (leb v 0) (eqb v 0 && (ltb v (2 ^ n) && true))
+    (λ e. let z : v ≡ 0 = omega (arith, leb-true v 0 e) in
+    and-in (eq-eqb v 0 z) (and-in (lt-ltb v (2 ^ n) (omega (arith, pow-pos n))) refl))
+    (λ e. le-leb v 0 (omega (arith, eqb-true v 0 (and-left (eqb v 0) (ltb v (2 ^ n) && true) e))))
+
+-- a view fits where the type uses one or it is empty, it is a number of n bits, and it lacks its receiver
+module _ (tag n r v : ℕ) where
+  abbrev member : ℕ → List Bool
+  member y = usesView tag ∷ ltb y n ∷ not (eqb y r) ∷ []
+
+  abbrev within : Set
+  within y = ofBits v y ⇒ every (member y)
+
+  abbrev tests : List Bool
+  tests = (usesView tag || eqb v 0) ∷ ltb v (2 ^ n) ∷ not (ofBits v r) ∷ []
+
+  fits-out : v < 2 ^ 64 → r < 64 → all 64 within ≡ true → every tests ≡ true
+  fits-out h l e = every-in (cons used (cons (lt-ltb v (2 ^ n) (bits-within 64 v n h (λ y b f. ltb-true y n (first (rest (of y b f)))))) (cons apart nil)))
+    where
+      of : (y : ℕ) → y < 64 → ofBits v y ≡ true → Each (λ b. b ≡ true) (member y)
+      of y b f = every-out (member y) (implies-out (ofBits v y) (every (member y)) (all-out 64 within e y b) f)
+
+      used : (usesView tag || eqb v 0) ≡ true
+      used =
+          decide (usesView tag) (or-left (eqb v 0))
+          (λ d. or-right (usesView tag) (eq-eqb v 0 (lt-one (bits-within 64 v 0 h (λ y b f. clash (first (of y b f)) d)))))
+
+      apart : not (ofBits v r) ≡ true
+      apart = not-in (is-false (ofBits v r) (λ f. clash (eq-eqb r r refl) (not-out (eqb r r) (first (rest (rest (of r l f)))))))
+
+  fits-in : every tests ≡ true → all 64 within ≡ true
+  fits-in e = all-in 64 within (λ y h. implies-in (ofBits v y) (every (member y)) (λ f. every-in (cons (used y f) (cons (low y f) (cons (apart y f) nil)))))
+    where
+      each : Each (λ b. b ≡ true) tests
+      each = every-out tests e
+
+      used : (y : ℕ) → ofBits v y ≡ true → usesView tag ≡ true
+      used y f =
+          or-case (usesView tag) (eqb v 0) (first each) (λ u. u)
+          (λ z. clash f (no-bit-above 0 v y (rw (eqb-true v 0 z) (lit< tt)) zero-le))
+
+      low : (y : ℕ) → ofBits v y ≡ true → ltb y n ≡ true
+      low y f = lt-ltb y n (bit-below n v y (ltb-true v (2 ^ n) (first (rest each))) f)
+
+      apart : (y : ℕ) → ofBits v y ≡ true → not (eqb y r) ≡ true
+      apart y f = not-in (ne-eqb y r (λ q. clash f (ap (ofBits v) q ∙ not-out (ofBits v r) (first (rest (rest each))))))
+
+  view-fits : v < 2 ^ 64 → r < 64 → all 64 within ≡ every (leb v (if usesView tag then 2 ^ n - 1 else 0) ∷ not (ofBits v r) ∷ [])
+  view-fits h l =
+      same-test (all 64 within) (every tests) (fits-out h l) fits-in
+      ∙ every-append ((usesView tag || eqb v 0) ∷ ltb v (2 ^ n) ∷ []) (not (ofBits v r) ∷ [])
+      ∙ rw (limited (usesView tag) n v)
+
+module _ (ws : List ℕ) (k : ℕ) where
+  abbrev low : ℕ
+  low = getD ws (messagePlace k + 2) 0
+
+  abbrev middle : ℕ
+  middle = getD ws (messagePlace k + 3) 0
+
+  abbrev high : ℕ
+  high = getD ws (messagePlace k + 4) 0
+
+  -- the view as a number
+  abbrev pub viewOf : ℕ
+  viewOf = bits 0 24 low + 2 ^ 24 * bits 0 24 middle + 2 ^ 48 * bits 0 16 high
+
+  viewOf< : viewOf < 2 ^ 64
+  viewOf< = omega (arith, bits< 0 24 low, bits< 0 24 middle, bits< 0 16 high)
+
+  whole : toBits 64 (ofBits viewOf) ≡ viewOf
+  whole = bits-of 64 viewOf ∙ mod-eq-of-lt viewOf<
+
+  pub low-kept : kept ws k 2 ≡ eqb (getD ws (messagePlace k + 2) 0 / 2 ^ 24) 128
+  unfolding decodeMessage viewWord
+  low-kept =
+      ap (λ (p : ℕ). eqb low (8 * 2 ^ 28 + p))
+      (ap (bits 0 24) whole ∙ field 0 24 (bits 0 24 middle + 2 ^ 24 * bits 0 16 high) (bits 0 24 low) 0 (omega arith) (lit< tt) (bits< 0 24 low))
+      ∙ plain 24 128 low
+
+  pub middle-kept : kept ws k 3 ≡ eqb (getD ws (messagePlace k + 3) 0 / 2 ^ 24) 128
+  unfolding decodeMessage viewWord
+  middle-kept =
+      ap (λ (p : ℕ). eqb middle (8 * 2 ^ 28 + p))
+      (ap (bits 24 24) whole ∙ field 24 24 (bits 0 16 high) (bits 0 24 middle) (bits 0 24 low) (omega arith) (bits< 0 24 low) (bits< 0 24 middle))
+      ∙ plain 24 128 middle
+
+  pub high-kept : kept ws k 4 ≡ eqb (getD ws (messagePlace k + 4) 0 / 2 ^ 16) 32768
+  unfolding decodeMessage viewWord
+  high-kept =
+      ap (λ (p : ℕ). eqb high (8 * 2 ^ 28 + p))
+      (ap (bits 48 16) whole
+      ∙ field 48 16 0 (bits 0 16 high) (2 ^ 24 * bits 0 24 middle + bits 0 24 low) (omega arith)
+      (omega (arith, bits< 0 24 low, bits< 0 24 middle)) (bits< 0 16 high))
+      ∙ plain 16 32768 high
+
+  -- what is left to test where the three words of the view are of their kind
+  pub view-test : (t : Table) (n tag v limit : ℕ) → size t ≡ n → decodeMessage ws k .type ≡ tag → v ≡ viewOf → limit ≡ (if usesView tag then 2 ^ n - 1 else 0) → low / 2 ^ 24 ≡ 128 → middle / 2 ^ 24 ≡ 128 → high / 2 ^ 16 ≡ 32768 → viewReads ws t k ≡ (leb v limit && not (ofBits v (decodeMessage ws k .receiver)))
+  unfolding viewReads decodeMessage
+  view-test t n tag v limit e f g h x y z =
+      rw (h, ← e, ← f, g, low-kept, middle-kept, high-kept, eq-eqb (low / 2 ^ 24) 128 x, eq-eqb (middle / 2 ^ 24) 128 y, eq-eqb (high / 2 ^ 16) 32768 z, and-true (viewFits t (decodeMessage ws k)), view-fits (decodeMessage ws k .type) (size t) (decodeMessage ws k .receiver) viewOf viewOf< (bits< 10 6 (getD ws (messagePlace k) 0)), and-true (not (ofBits viewOf (decodeMessage ws k .receiver))))
+
+-- ---- messages in parts
+
+swap : (a b c d : Bool) → ((a && b) && (c && d)) ≡ ((a && c) && (b && d))
+swap false b c d = refl
+swap true b true d = refl
+swap true true false d = refl
+swap true false false d = refl
+
+five : (S : Set) → all 5 S ≡ (every (S 0 ∷ S 1 ∷ []) && every (S 2 ∷ S 3 ∷ S 4 ∷ []))
+unfolding all
+five S = joined-every (S 0) (S 1 ∷ S 2 ∷ S 3 ∷ S 4 ∷ []) ∙ every-append (S 0 ∷ S 1 ∷ []) (S 2 ∷ S 3 ∷ S 4 ∷ [])
+
+fits-split : (t : Table) (m : Message) → messageFits t m ≡ (headFits t m && every (viewFits t m ∷ []))
+unfolding messageFits headFits
+fits-split t m =
+    every-append
+    (between 1 12 (m .type)
+    ∷ ltb (m .sender) (size t)
+    ∷ ltb (m .receiver) (size t)
+    ∷ not (eqb (m .sender) (m .receiver))
+    ∷ subjectFits t m
+    ∷ (eqb (m .type) 8 ⇒ not (eqb (m .subject) (m .sender)) && not (eqb (m .subject) (m .receiver)))
+    ∷ (usesStamp (m .type) || eqb (m .stamp) 0)
+    ∷ [])
+    (viewFits t m ∷ [])
+
+message-split : (ws : List ℕ) (t : Table) (k : ℕ) → messageReads ws t k ≡ (headReads ws t k && viewReads ws t k)
+unfolding messageReads headReads viewReads
+message-split ws t k =
+    ap₂ _&&_ (five (kept ws k)) (and-true (messageFits t m) ∙ fits-split t m)
+    ∙ swap (every heads) (every views) (headFits t m) (every (viewFits t m ∷ []))
+    ∙ ap₂ _&&_
+    (ap (λ (b : Bool). every heads && b) (sym (and-true (headFits t m))) ∙ sym (every-append heads (headFits t m ∷ [])))
+    (sym (every-append views (viewFits t m ∷ [])))
+  where
+    m : Message
+    m = decodeMessage ws k
+
+    heads : List Bool
+    heads = kept ws k 0 ∷ kept ws k 1 ∷ []
+
+    views : List Bool
+    views = kept ws k 2 ∷ kept ws k 3 ∷ kept ws k 4 ∷ []
+
+pub messages-split : (ws : List ℕ) (t : Table) (m : ℕ) → messagesRead ws t m ≡ (all m (headReads ws t) && all m (viewReads ws t) && all ringLength (λ i. ltb i (messagePlace m) || eqb (getD ws i 0) 0))
+unfolding messagesRead
+messages-split ws t m =
+    ap₂ _&&_
+    (all-cong m (messageReads ws t) (λ k. headReads ws t k && viewReads ws t k) (λ k h. message-split ws t k) ∙ all-and m (headReads ws t) (viewReads ws t))
+    (and-true (all ringLength (λ i. ltb i (messagePlace m) || eqb (getD ws i 0) 0)))
+
+-- ---- words that are 0
+
+pub or-clear : (a b : ℕ) → eqb (bitOr a b) 0 ≡ (eqb a 0 && eqb b 0)
+or-clear a b =
+    same-test (eqb (bitOr a b) 0) (eqb a 0 && eqb b 0)
+    (λ e. let z : bitOr a b ≡ 0 = eqb-true (bitOr a b) 0 e in
+    and-in
+    (eq-eqb a 0 (omega (arith, or-add-and a b, and-le-l a b, and-le-r a b)))
+    (eq-eqb b 0 (omega (arith, or-add-and a b, and-le-l a b, and-le-r a b))))
+    (λ e. let x : a ≡ 0 = eqb-true a 0 (and-left (eqb a 0) (eqb b 0) e) in
+    let y : b ≡ 0 = eqb-true b 0 (and-right (eqb a 0) (eqb b 0) e) in
+    eq-eqb (bitOr a b) 0 (omega (arith, or-add-and a b)))

@@ -1,0 +1,4 @@
+pub mod Messages
+pub mod Regions
+pub mod Rows
+pub mod MessagesParts

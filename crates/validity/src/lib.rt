@@ -1,0 +1,27 @@
+// Whether lent words read as a ring.
+ghost use mathlib.Core.Path.{_≡_};
+ghost use lib.ListN.{length};
+ghost use Rattle.model.specs.Words.{readsAsRing};
+
+mod clear;
+mod head;
+mod messages;
+mod nodes;
+mod pairs;
+
+// The words read as a ring. Word 0 is looked at first: the others are looked for by what it says.
+pub fn reads_as_ring(words: &[u32]) -> bool
+    requires { ⌜ length (now words) ≡ 13441 ⌝ }
+    ensures { λ r. ⌜ r ≡ readsAsRing (now (words .entry)) ⌝ }
+{
+    let w = words[0];
+    if !head::head_reads(w) {
+        return false;
+    }
+    let n = head::size(w);
+    let m = head::count(w);
+    nodes::nodes_read(words, n as usize)
+        & nodes::keys_differ(words, n as usize)
+        & pairs::pairs_read(words, n as usize)
+        & messages::messages_read(words, n, m as usize)
+}
