@@ -1,12 +1,12 @@
 -- The words of a ring, place by place: what writing a node, and writing the messages, leaves.
 use mathlib.Core.Path.{_≡_, refl, sym, ap, _∙_, subst}
 use mathlib.Core.Logic.{_≢_}
-use mathlib.Core.Bool.{Bool, true, false, not, _&&_}
+use mathlib.Core.Bool.{Bool, true, false, _&&_}
 use mathlib.Core.List.{List}
-use Prim.Native.Nat.{ℕ, _+_, _-_, _*_, _/_, _%_, _<_, _≤_}
+use Prim.Native.Nat.{ℕ, _+_, _-_, _/_, _%_, _<_, _≤_}
 use native.Mathlib.Omega.{arith}
 use native.Mathlib.Decide.{decLt, ℕ-discrete}
-use lib.Dec.{ltb, eqb}
+use lib.Dec.{ltb}
 use lib.ListN.{length, getD}
 use lib.Seq.{ext-getD}
 use borrow.Author.Tests.{lt-ltb, le-ltb, eq-eqb, ltb-true, ltb-false}
@@ -15,7 +15,6 @@ use Rattle.model.specs.Leafset.{Table, size, key}
 use Rattle.model.specs.Ring.{Node, Message, Ring, blank}
 use Rattle.model.specs.Words.{isPair, headWord, nodeWords, pairWords, messageWords, ofNode, ofPair, nodePlace, pairPlace, messagePlace, ringLength, wordAt, encode}
 use Rattle.model.specs.Play.{setNode, setMessages}
-use Rattle.model.specs.WellFormed.{Other}
 use Rattle.model.proofs.Words.{length-encode, encode-at, node-at, pair-at, message-at, pair-in}
 use Rattle.model.proofs.Laws.{put-each}
 

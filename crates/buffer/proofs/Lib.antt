@@ -6,3 +6,4 @@ pub mod Updates
 pub mod Loads
 pub mod Opening
 pub mod Sends
+pub mod ReadRing

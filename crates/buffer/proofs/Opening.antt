@@ -3,11 +3,11 @@ use mathlib.Core.Path.{_≡_, refl, sym, ap, _∙_}
 use mathlib.Core.Logic.{_≢_}
 use mathlib.Core.Bool.{Bool, true, false}
 use mathlib.Core.List.{List}
-use Prim.Native.Nat.{ℕ, _+_, _*_, _<_, _≤_}
+use Prim.Native.Nat.{ℕ, _+_, _<_, _≤_}
 use native.Mathlib.Omega.{arith}
 use native.Mathlib.Nat.{add-zero}
-use native.Mathlib.Decide.{decLt, ℕ-discrete}
-use lib.Dec.{ltb, lit<}
+use native.Mathlib.Decide.{decLt}
+use lib.Dec.{lit<}
 use lib.ListN.{length, getD, set, length-set}
 use lib.Seq.{getD-set-same, getD-set-other}
 use borrow.Author.Tests.{lt-ltb, le-ltb}
@@ -17,7 +17,7 @@ use Rattle.model.specs.Words.{isPair, headWord, keyWord, clockWord, pairWords, 
 use Rattle.model.proofs.Words.{node-at, pair-at, message-at, pair-low, pair-other}
 use Rattle.model.proofs.Laws.{clash}
 use Rattle.buffer.specs.Parts.{Patched, Stored, Rows}
-use Rattle.buffer.proofs.Holds.{Holds, encoded, head-at, cover, pair-yes}
+use Rattle.buffer.proofs.Holds.{encoded, head-at, cover, pair-yes}
 use Rattle.buffer.proofs.Patches.{patched-more}
 use Rattle.buffer.proofs.Updates.{two, row-pair, row-other}
 

@@ -1,5 +1,5 @@
 -- The messages in the words of a ring: taking one out, and adding one.
-use mathlib.Core.Path.{_≡_, refl, sym, ap, _∙_}
+use mathlib.Core.Path.{_≡_, sym, ap, _∙_}
 use mathlib.Core.List.{List, [], _∷_, _++_}
 use Prim.Native.Nat.{ℕ, suc, _+_, _-_, _*_, _/_, _%_, _^_, _<_, _≤_}
 use native.Mathlib.Omega.{arith}
@@ -11,7 +11,7 @@ use borrow.Author.Tests.{lt-ltb, le-ltb}
 use Rattle.model.specs.Leafset.{size}
 use Rattle.model.specs.Ring.{Message, Ring, blank}
 use Rattle.model.specs.Fields.{bits}
-use Rattle.model.specs.Words.{headWord, messageWord, stampWord, viewWord, messageWords, messagePlace, encode}
+use Rattle.model.specs.Words.{headWord, messageWord, stampWord, viewWord, messageWords, messagePlace}
 use Rattle.model.specs.Play.{setMessages, removeMessage}
 use Rattle.model.specs.Structs.{messageOf}
 use Rattle.model.specs.declared.message.MessageRecord.{MessageRecord}

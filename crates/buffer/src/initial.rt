@@ -2,11 +2,10 @@
 ghost use mathlib.Core.Path.{_≡_};
 ghost use Prim.Native.Nat.{ℕ, _^_, _<_, _≤_};
 ghost use lib.ListN.{length, getD};
-ghost use Rattle.model.specs.Leafset.{Table};
 ghost use Rattle.model.specs.Ring.{initial};
 ghost use Rattle.model.specs.Words.{ringLength, nodePlace, wordAt, encode};
-ghost use Rattle.buffer.specs.Parts.{Patched, Rows};
 ghost use Rattle.model.specs.Structs.{tableOf};
+ghost use Rattle.buffer.specs.Parts.{Patched, Rows};
 use super::node;
 use super::spans;
 use model::values::Key;

@@ -1,15 +1,14 @@
 // The messages in flight: "Words from 8,321, five a message, oldest first".
 ghost use mathlib.Core.Path.{_≡_};
-ghost use mathlib.Core.List.{List, [], _∷_, _++_};
-ghost use Prim.Native.Nat.{ℕ, _+_, _-_, _*_, _/_, _%_, _^_, _<_, _≤_};
+ghost use mathlib.Core.List.{[], _∷_, _++_};
+ghost use Prim.Native.Nat.{ℕ, _+_, _-_, _*_, _^_, _<_, _≤_};
 ghost use lib.ListN.{length, getD, set};
 ghost use Rattle.model.specs.Ring.{Ring};
 ghost use Rattle.model.specs.Fields.{bits};
-ghost use Rattle.model.specs.Words.{ringLength, headWord, messageWord, stampWord, viewWord, messagePlace, decodeMessage};
+ghost use Rattle.model.specs.Words.{ringLength, headWord, viewWord};
 ghost use Rattle.model.specs.Play.{setMessages, removeMessage};
-ghost use Rattle.model.specs.Structs.{messageOf};
-ghost use Rattle.buffer.specs.Parts.{Is, Patched, LoadedMessage};
-ghost use Rattle.model.specs.Structs.{RoomMessage};
+ghost use Rattle.model.specs.Structs.{messageOf, RoomMessage};
+ghost use Rattle.buffer.specs.Parts.{Is, LoadedMessage};
 use super::spans;
 use model::message::MessageRecord;
 use model::word::HeadWord;
@@ -25,7 +24,7 @@ pub fn load(words: &[u32], k: usize) -> MessageRecord
     let at = 8321 + 5 * k;
     let first = MessageWord(words[at]);
     let stamp = StampWord(words[at + 1]).stamp();
-    let view = joined(words[at + 2], words[at + 3], words[at + 4]);
+    let view = view_of(words[at + 2], words[at + 3], words[at + 4]);
     MessageRecord {
         tag: first.tag(),
         sender: first.sender(),
@@ -37,7 +36,7 @@ pub fn load(words: &[u32], k: usize) -> MessageRecord
 }
 
 // The view that three words have the parts of.
-fn joined(low: u32, middle: u32, high: u32) -> u64
+fn view_of(low: u32, middle: u32, high: u32) -> u64
     ensures { λ r. ⌜ r ≡ bits 0 24 low + 2 ^ 24 * bits 0 24 middle + 2 ^ 48 * bits 0 16 high ⌝ }
 {
     (ViewWord(low).part() as u64)

@@ -215,8 +215,8 @@ some-bit B h p =
     decide (some 64 (ofBits B)) (λ e. e)
     (λ e. let none : B ≡ 0 = sym (toBits-ofBits 64 B h) ∙ toBits-none 64 (ofBits B) (some-none 64 (ofBits B) e) in absurd (omega arith))
 
-pub first-bit : (B : ℕ) → B < 2 ^ 64 → 0 < B → First 64 (ofBits B) (lowest 64 (ofBits B))
-first-bit B h p = lowest-first 64 (ofBits B) (some-bit B h p)
+pub first-bit : (B : ℕ) → B < 2 ^ 64 → (B ≡ 0 → ⊥) → First 64 (ofBits B) (lowest 64 (ofBits B))
+first-bit B h d = lowest-first 64 (ofBits B) (some-bit B h (omega arith))
 
 -- the lowest bit is taken away
 and-pred : (s B : ℕ) → ofBits B s ≡ true → ((y : ℕ) → y < s → ofBits B y ≡ false) → bitAnd B (B - 1) ≡ less B s
@@ -245,7 +245,7 @@ and-pred (suc s) B m f =
 pub and-rest : (B : ℕ) → B < 2 ^ 64 → 0 < B → IsRest B (bitAnd B (B - 1))
 and-rest B h p =
     let s = lowest 64 (ofBits B) in
-    let f = first-bit B h p in
+    let f = first-bit B h (omega arith) in
     let e : ofBits (bitAnd B (B - 1)) ≡ without (ofBits B) s = ap ofBits (and-pred s B (f .member) (f .before)) ∙ fun-ext (less-at B s) in
     record {
       set = e;
@@ -274,7 +274,7 @@ pub record Rising (n rest : ℕ) : Type 0 where
 module _ {n rest : ℕ} (i : Rising n rest) where
   module _ (d : rest ≡ 0 → ⊥) (y : ℕ) (is : y ≡ lowest 64 (ofBits rest)) where
     pub rising-first : First 64 (ofBits rest) y
-    rising-first = rw is (first-bit rest (i .fits) (omega arith))
+    rising-first = rw is (first-bit rest (i .fits) d)
 
     pub rising-below : y < n
     rising-below = i .low y (rising-first .member)

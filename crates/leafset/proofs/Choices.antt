@@ -1,8 +1,9 @@
 -- The successor and the choice of a spare are the first of a set by a measure.
-use mathlib.Core.Path.{_≡_, refl, sym, ap, _∙_}
-use mathlib.Core.Bool.{Bool, true, false, not, _&&_}
+use mathlib.Core.Path.{_≡_, refl, sym, ap, _∙_, fun-ext}
+use mathlib.Core.Bool.{true, false, not, _&&_}
 use mathlib.Core.List.{List}
 use Prim.Native.Nat.{ℕ, _≤_, _<_}
+use native.Mathlib.Nat.{le-trans, lt-irrefl}
 use native.Mathlib.Omega.{arith}
 use native.Mathlib.Decide.{decLt}
 use lib.Dec.{eqb, ltb}
@@ -10,7 +11,7 @@ use lib.ListN.{length, getD}
 use borrow.Author.Tests.{eq-eqb, eqb-true, lt-ltb, ltb-true}
 use Rattle.model.specs.Key.{clockwise, distance}
 use Rattle.model.specs.Sets.{Set, without, noneNode, count, some, lowest, toBits, ofBits}
-use Rattle.model.specs.Leafset.{Table, beats, leafset, nearest, closest, successor, passesZero}
+use Rattle.model.specs.Leafset.{Table, leafset, nearest, closest, successor, passesZero}
 use Rattle.model.proofs.Laws.{clash, is-false, and-in, and-left, and-right, not-in, not-out, some-in, some-out, count-none, count-more}
 use Rattle.leafset.specs.Table.{Within, InTable}
 use Rattle.model.specs.Structs.{tableOf}
@@ -35,25 +36,34 @@ module _ (n : ℕ) (S : Set) (low : (y : ℕ) → S y ≡ true → y < n) (m : �
         before = λ y h. is-false (Q y) (λ q. beaten y b (l .member) (l .lowest y (into y q) h) q);
       }))
 
-  abbrev nearerThan : ℕ → Set
-  nearerThan y z = S z && ltb (m z) (m y)
+  abbrev before : ℕ → Set
+  before y z = S z && ltb (m z) (m y)
+
+  before-less : (y z : ℕ) → before y z ≡ true → (S z ≡ true) × (m z < m y)
+  before-less y z q = (and-left (S z) (ltb (m z) (m y)) q, ltb-true (m z) (m y) (and-right (S z) (ltb (m z) (m y)) q))
+
+  before-none : (y : ℕ) → ((z : ℕ) → S z ≡ true → m y ≤ m z) → (z : ℕ) → before y z ≡ false
+  before-none y f z = is-false (before y z) (λ q. let p = before-less y z q in omega (arith, f z (p .0), p .1))
+
+  before-in : (y z : ℕ) → S z ≡ true → m z < m y → before y z ≡ true
+  before-in y z e h = and-in e (lt-ltb (m z) (m y) h)
 
   -- none comes before: none is counted
-  pub found-count : {b : ℕ} → Found S m b → b ≡ lowest n (λ y. S y && eqb (count n (nearerThan y)) 0)
+  pub found-count : {b : ℕ} → Found S m b → b ≡ lowest n (λ y. S y && eqb (count n (before y)) 0)
   found-count =
-      lowest-found (λ y. S y && eqb (count n (nearerThan y)) 0) (λ y q. and-left (S y) (eqb (count n (nearerThan y)) 0) q)
-      (λ y e f. and-in e (eq-eqb (count n (nearerThan y)) 0 (count-none n (nearerThan y) (λ z h. is-false (nearerThan y z) (λ q. omega (arith, f z (and-left (S z) (ltb (m z) (m y)) q), ltb-true (m z) (m y) (and-right (S z) (ltb (m z) (m y)) q)))))))
-      (λ y z e h q. omega (arith, eqb-true (count n (nearerThan y)) 0 (and-right (S y) (eqb (count n (nearerThan y)) 0) q), count-more (λ i. false) (nearerThan y) n (λ i l r. clash r refl) z (low z e) refl (and-in e (lt-ltb (m z) (m y) h))))
+      lowest-found (λ y. S y && eqb (count n (before y)) 0) (λ y q. and-left (S y) (eqb (count n (before y)) 0) q)
+      (λ y e f. and-in e (eq-eqb (count n (before y)) 0 (count-none n (before y) (λ z h. before-none y f z))))
+      (λ y z e h q. omega (arith, some-counted y z e h, eqb-true (count n (before y)) 0 (and-right (S y) (eqb (count n (before y)) 0) q)))
+    where
+      some-counted : (y z : ℕ) → S z ≡ true → m z < m y → 0 < count n (before y)
+      some-counted y z e h = omega (arith, count-more (λ i. false) (before y) n (λ i l r. clash r refl) z (low z e) refl (before-in y z e h))
 
   -- none comes before: there is none that does
-  pub found-none : (before : ℕ → ℕ → Bool) → ((y z : ℕ) → before y z ≡ ltb (m y) (m z)) → {b : ℕ} → Found S m b
-      → b ≡ lowest n (λ y. S y && not (some n (λ z. S z && before z y)))
-  found-none before same =
-      lowest-found (λ y. S y && not (some n (λ z. S z && before z y))) (λ y q. and-left (S y) (not (some n (λ z. S z && before z y))) q)
-      (λ y e f. and-in e (not-in (is-false (some n (λ z. S z && before z y)) (λ s.
-      let p = some-out n (λ z. S z && before z y) s in
-      omega (arith, f (p .0) (and-left (S (p .0)) (before (p .0) y) (p .2)), ltb-true (m (p .0)) (m y) (sym (same (p .0) y) ∙ and-right (S (p .0)) (before (p .0) y) (p .2)))))))
-      (λ y z e h q. clash (some-in n (λ z. S z && before z y) z (low z e) (and-in e (same z y ∙ lt-ltb (m z) (m y) h))) (not-out (some n (λ z. S z && before z y)) (and-right (S y) (not (some n (λ z. S z && before z y))) q)))
+  pub found-none : {b : ℕ} → Found S m b → b ≡ lowest n (λ y. S y && not (some n (before y)))
+  found-none =
+      lowest-found (λ y. S y && not (some n (before y))) (λ y q. and-left (S y) (not (some n (before y))) q)
+      (λ y e f. and-in e (not-in (is-false (some n (before y)) (λ s. let p = some-out n (before y) s in clash (p .2) (before-none y f (p .0))))))
+      (λ y z e h q. clash (some-in n (before y) z (low z e) (before-in y z e h)) (not-out (some n (before y)) (and-right (S y) (not (some n (before y))) q)))
 
 module _ (leaf : ℕ) (keys : List ℕ) where
   abbrev t : Table
@@ -67,7 +77,9 @@ module _ (leaf : ℕ) (keys : List ℕ) where
   nearest-found : (a : ℕ) (S : Set) → ((y : ℕ) → S y ≡ true → y < length keys) → {b : ℕ}
       → Found S (spanTo Either (getD keys a 0) keys) b → b ≡ nearest t a S
   unfolding nearest
-  nearest-found a S low f = found-none (length keys) S low (spanTo Either (getD keys a 0) keys) (beats t a) (beats-rank t a) f
+  nearest-found a S low f =
+      found-none (length keys) S low (spanTo Either (getD keys a 0) keys) f
+      ∙ ap (lowest (length keys)) (fun-ext (λ y. ap (λ (P : Set). S y && not (some (length keys) P)) (fun-ext (λ z. ap (_&&_ (S z)) (sym (beats-rank t a z y))))))
 
   -- the successor of a node that holds somebody
   pub successor-low : (x : ℕ) (S : Set) → ((y : ℕ) → S y ≡ true → y < length keys) → (y : ℕ) → S y ≡ true → successor t x S < length keys
@@ -114,7 +126,7 @@ module _ (leaf : ℕ) {keys : List ℕ} {x held : ℕ} (q : InTable keys x held)
     first-far : (y : ℕ) → ofBits others y ≡ true → far b ≤ far y
     first-far y q =
         elim (decLt (far y) (far b)) [
-          | yes h ↦ absurd (omega (arith, l .least y q, rank-nearer (clockwise (getD keys a 0) (getD keys y 0)) (clockwise (getD keys y 0) (getD keys a 0)) (clockwise (getD keys a 0) (getD keys b 0)) (clockwise (getD keys b 0) (getD keys a 0)) h))
+          | yes h ↦ absurd (omega (arith, l .least y q, rank-nearer (getD keys a 0) (getD keys y 0) (getD keys b 0) h))
           | no h ↦ omega arith
         ]
 
@@ -128,7 +140,5 @@ module _ (leaf : ℕ) {keys : List ℕ} {x held : ℕ} (q : InTable keys x held)
 
     pub closest-none : far x ≤ far b → noneNode ≡ closest (tableOf leaf keys) x (ofBits held) a
     closest-none h =
-        closest-is (nobody (λ y. is-false (enough y) (λ q. le-irrefl (first-far y (and-left (ofBits others y) (ltb (far y) (far x)) q)) h (ltb-true (far y) (far x) (and-right (ofBits others y) (ltb (far y) (far x)) q)))))
-      where
-        le-irrefl : {p q r : ℕ} → p ≤ q → r ≤ p → q < r → ⊥
-        le-irrefl f g h = omega arith
+        closest-is (nobody (λ y. is-false (enough y) (λ q.
+        lt-irrefl (far y) (le-trans (ltb-true (far y) (far x) (and-right (ofBits others y) (ltb (far y) (far x)) q)) (le-trans h (first-far y (and-left (ofBits others y) (ltb (far y) (far x)) q)))))))

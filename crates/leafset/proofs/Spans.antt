@@ -8,7 +8,7 @@ use native.Mathlib.Decide.{decLt, ℕ-discrete}
 use native.Mathlib.Nat.{mod-lt, mod-add-mod}
 use lib.Dec.{ltb, eqb, lit<}
 use borrow.Author.Tests.{le-leb, lt-leb, lt-ltb, ltb-true, ltb-false, eq-eqb, eqb-true}
-use Rattle.model.specs.Key.{clockwise, places}
+use Rattle.model.specs.Key.{clockwise, distance, places}
 use Rattle.model.specs.Leafset.{Table, key, beats}
 use Rattle.model.proofs.Laws.{decide, same-test, and-in, and-left, and-right, or-left, or-right, or-case}
 use Rattle.leafset.specs.Span.{rank, rankOf, spanOf}
@@ -67,8 +67,8 @@ side c d = elim (decLt d c) [ yes h ↦ behind h (rank-back c d h) | no h ↦ ah
 
 -- c clockwise and d back to one node, c′ and d′ to another
 module _ (c d c′ d′ : ℕ) where
-  pub rank-nearer : min c d < min c′ d′ → rank c d < rank c′ d′
-  rank-nearer h = go (side c d) (side c′ d′)
+  nearer-rank : min c d < min c′ d′ → rank c d < rank c′ d′
+  nearer-rank h = go (side c d) (side c′ d′)
     where
       go : Side c d → Side c′ d′ → rank c d < rank c′ d′
       go (ahead p e) (ahead q f) = omega arith
@@ -103,7 +103,7 @@ module _ (c d c′ d′ : ℕ) where
       to e =
           lt-ltb (rank c d) (rank c′ d′)
           (or-case (ltb (min c d) (min c′ d′)) (eqb (min c d) (min c′ d′) && ltb c c′) e
-          (λ p. rank-nearer (ltb-true (min c d) (min c′ d′) p))
+          (λ p. nearer-rank (ltb-true (min c d) (min c′ d′) p))
           (λ p. rank-tie r s (eqb-true (min c d) (min c′ d′) (and-left (eqb (min c d) (min c′ d′)) (ltb c c′) p)) (ltb-true c c′ (and-right (eqb (min c d) (min c′ d′)) (ltb c c′) p))))
 
       from : ltb (rank c d) (rank c′ d′) ≡ true → (ltb (min c d) (min c′ d′) || (eqb (min c d) (min c′ d′) && ltb c c′)) ≡ true
@@ -117,3 +117,6 @@ pub beats-rank : (t : Table) (a y z : ℕ) → beats t a y z ≡ ltb (rankOf (ke
 beats-rank t a y z =
     closer-rank (clockwise (key t a) (key t y)) (clockwise (key t y) (key t a)) (clockwise (key t a) (key t z)) (clockwise (key t z) (key t a))
     (round (key t a) (key t y)) (round (key t a) (key t z))
+
+pub rank-nearer : (a y z : ℕ) → distance a y < distance a z → rankOf a y < rankOf a z
+rank-nearer a y z = nearer-rank (clockwise a y) (clockwise y a) (clockwise a z) (clockwise z a)

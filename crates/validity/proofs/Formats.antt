@@ -1,22 +1,22 @@
 -- A word is the one that its named bits give exactly where its other bits are those of its kind.
 use mathlib.Core.Path.{_≡_, refl, sym, ap, ap₂, _∙_}
-use Prim.Native.Nat.{ℕ, zero, suc, _+_, _*_, _/_, _%_, _^_, _≤_, _<_}
+use Prim.Native.Nat.{ℕ, zero, suc, _+_, _*_, _/_, _%_, _^_, _<_}
 use native.Mathlib.Nat.{div-add-mod', mod-lt, one-le-pow}
 use native.Mathlib.Omega.{arith}
-use mathlib.Core.Bool.{Bool, true, false, not, _&&_, _||_}
-use mathlib.Core.List.{List, [], _∷_}
+use mathlib.Core.Bool.{Bool, true, false, _&&_}
+use mathlib.Core.List.{[], _∷_}
 use lib.Arith.{digits-div, mod-mul}
-use lib.Bits.{bitXor, bitAnd, xor-add-and, xor-self, xor-shr, and-le-l, and-le-r}
-use lib.Dec.{ltb, leb, eqb, lit<}
+use lib.Bits.{bitXor, xor-add-and, xor-self, xor-shr, and-le-l, and-le-r}
+use lib.Dec.{leb, eqb, lit<}
 use borrow.Author.Tests.{eqb-true, eq-eqb}
 use Rattle.model.specs.Choice.{every}
 use Rattle.model.specs.Fields.{bits, bit, flag}
-use Rattle.model.specs.Words.{headWord, keyWord, clockWord, pairWord, spareWord, between}
+use Rattle.model.specs.Words.{headWord, keyWord, clockWord, pairWord, spareWord}
 use Rattle.model.proofs.Laws.{same-test}
 use Rattle.validity.specs.Regions.{headReads}
 
 -- of kind k with v for the low bits: the high bits are q
-of-kind : (low k q w v : ℕ) → v ≡ w % 2 ^ low → k * 2 ^ 28 ≡ q * 2 ^ low → eqb w (k * 2 ^ 28 + v) ≡ eqb (w / 2 ^ low) q
+pub of-kind : (low k q w v : ℕ) → v ≡ w % 2 ^ low → k * 2 ^ 28 ≡ q * 2 ^ low → eqb w (k * 2 ^ 28 + v) ≡ eqb (w / 2 ^ low) q
 of-kind low k q w v e h =
     let l : w % 2 ^ low < 2 ^ low = mod-lt w (one-le-pow low 2 (lit< tt)) in
     let d : w / 2 ^ low * 2 ^ low + w % 2 ^ low ≡ w = div-add-mod' w (2 ^ low) in

@@ -1,11 +1,11 @@
 -- A test of many words at once: what is or-ed is 0 exactly where each part is.
-use mathlib.Core.Path.{_≡_, refl, sym, ap, ap₂, _∙_}
-use Prim.Native.Nat.{ℕ, suc, _+_, _*_, _/_, _%_, _^_, _≤_, _<_}
+use mathlib.Core.Path.{_≡_, refl, sym, ap, _∙_}
+use Prim.Native.Nat.{ℕ, _+_, _/_, _%_, _^_, _≤_, _<_}
 use native.Mathlib.Numerals.{add-one}
 use native.Mathlib.Omega.{arith}
-use mathlib.Core.Bool.{Bool, true, false, not, _&&_, _||_}
+use mathlib.Core.Bool.{Bool, true, false, _&&_, _||_}
 use mathlib.Core.List.{List, [], _∷_}
-use lib.Bits.{bitOr, bitAnd, or-add-and, and-le-l, and-le-r, or-shr, or-mod}
+use lib.Bits.{bitOr, or-add-and, and-le-l, and-le-r, or-shr, or-mod}
 use lib.Dec.{ltb, eqb}
 use borrow.Author.Tests.{eqb-true, eq-eqb, le-ltb}
 use Rattle.model.specs.Choice.{every}

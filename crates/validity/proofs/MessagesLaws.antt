@@ -1,31 +1,33 @@
 -- Laws of the message region: tests of words as tests of their parts, views as numbers, and `messagesRead` in parts.
 use mathlib.Core.Path.{_≡_, refl, sym, ap, ap₂, _∙_}
 use Prim.Native.Nat.{ℕ, zero, suc, _+_, _-_, _*_, _/_, _%_, _^_, _≤_, _<_, zero-le}
-use native.Mathlib.Nat.{add-zero, mod-lt, mod-eq-of-lt, div-one, pow-suc, mul-comm, le-refl, div-lt-iff-lt-mul}
-use native.Mathlib.Numerals.{add-one}
+use native.Mathlib.Nat.{add-zero, mod-lt, mod-eq-of-lt, pow-suc, mul-comm, le-refl, div-lt-iff-lt-mul}
 use native.Mathlib.Omega.{arith}
 use native.Mathlib.Decide.{decLt}
 use mathlib.Core.Bool.{Bool, true, false, not, _&&_, _||_}
 use mathlib.Core.List.{List, [], _∷_, _++_}
-use lib.ListN.{length, getD}
+use lib.ListN.{getD}
 use lib.Arith.{lt-one, digits-div, mod-mul, mul-pred}
-use lib.Pow.{pow-pos, pow-mono, pow-add, pow-sub-lt, split}
-use lib.Bits.{bitOr, or-add-and, and-le-l, and-le-r, or-zero-l}
+use lib.Pow.{pow-pos, pow-mono, pow-add, pow-sub-lt}
+use lib.Bits.{bitOr, bitXor}
 use lib.Dec.{ltb, leb, eqb, lit<}
-use borrow.Author.Tests.{eqb-true, eqb-false, eq-eqb, ne-eqb, lt-ltb, le-ltb, ltb-true, leb-true, le-leb}
+use borrow.Author.Tests.{eqb-true, eqb-false, eq-eqb, ne-eqb, lt-ltb, ltb-true, leb-true, le-leb}
 use Rattle.model.specs.Choice.{if_then_else_, _⇒_, every}
 use Rattle.model.specs.Sets.{Set, all, toBits, ofBits}
-use Rattle.model.specs.Fields.{bits, bit}
+use Rattle.model.specs.Fields.{bits}
 use Rattle.model.specs.Leafset.{Table, size}
 use Rattle.model.specs.Ring.{Message}
 use Rattle.model.specs.WellFormed.{Each, nil, cons}
-use Rattle.model.specs.Words.{messageWord, stampWord, viewWord, messagePlace, messageWords, decodeMessage, messageFits, ringLength, between, usesView, usesStamp, subjectFits, viewFits}
+use Rattle.model.specs.Words.{messageWord, stampWord, viewWord, messagePlace, decodeMessage, messageFits, ringLength, between, usesView, usesStamp, subjectFits, viewFits}
 use Rattle.model.proofs.Laws.{clash, decide, is-false, same-test, and-left, and-right, and-in, implies-in, implies-out, not-in, not-out, all-in, all-out, every-in, every-out, or-left, or-right, or-case}
 use Rattle.model.proofs.Lists.{first, rest}
-use Rattle.model.proofs.Bits.{no-bit-above, bit-below, toBits<}
+use Rattle.model.proofs.Bits.{no-bit-above, bit-below}
 use Rattle.model.proofs.Fields.{field, bits<}
 use Rattle.validity.specs.Messages.{messageReads, messagesRead}
-use Rattle.validity.specs.MessagesParts.{kept, headFits, headReads, viewReads}
+use Rattle.validity.specs.Regions.{clear}
+use Rattle.validity.specs.MessagesParts.{kept, frontFits, frontReads, viewReads}
+use Rattle.validity.proofs.Gather.{or-test, all-cong, all-both}
+use Rattle.validity.proofs.Formats.{of-kind, lowest, xor-test}
 
 -- ---- tests
 
@@ -55,37 +57,7 @@ pick true true d = refl
 pick true false d = refl
 pick false c d = refl
 
--- ---- the numbers below n that pass a test
-
-pub all-more : (n : ℕ) (S : Set) → all (n + 1) S ≡ (all n S && S n)
-unfolding all
-all-more n S = ap (λ (k : ℕ). all k S) (add-one n)
-
-pub all-cong : (n : ℕ) (S R : Set) → ((i : ℕ) → i < n → S i ≡ R i) → all n S ≡ all n R
-all-cong n S R f =
-    same-test (all n S) (all n R)
-    (λ e. all-in n R (λ i h. sym (f i h) ∙ all-out n S e i h))
-    (λ e. all-in n S (λ i h. f i h ∙ all-out n R e i h))
-
-pub all-and : (n : ℕ) (S R : Set) → all n (λ i. S i && R i) ≡ (all n S && all n R)
-all-and n S R =
-    same-test (all n (λ i. S i && R i)) (all n S && all n R)
-    (λ e. and-in
-    (all-in n S (λ i h. and-left (S i) (R i) (all-out n (λ j. S j && R j) e i h)))
-    (all-in n R (λ i h. and-right (S i) (R i) (all-out n (λ j. S j && R j) e i h))))
-    (λ e. all-in n (λ i. S i && R i)
-    (λ i h. and-in (all-out n S (and-left (all n S) (all n R) e) i h) (all-out n R (and-right (all n S) (all n R) e) i h)))
-
 -- ---- words
-
--- a word is q above its own low bits exactly where its high bits are q
-high-bits : (width q w : ℕ) → eqb w (q * 2 ^ width + w % 2 ^ width) ≡ eqb (w / 2 ^ width) q
-high-bits width q w =
-    same-test (eqb w (q * 2 ^ width + w % 2 ^ width)) (eqb (w / 2 ^ width) q)
-    (λ e. eq-eqb (w / 2 ^ width) q
-    (ap (λ (v : ℕ). v / 2 ^ width) (eqb-true w (q * 2 ^ width + w % 2 ^ width) e) ∙ digits-div q (mod-lt w (pow-pos width))))
-    (λ e. eq-eqb w (q * 2 ^ width + w % 2 ^ width)
-    (sym (split w width) ∙ ap (λ (v : ℕ). v * 2 ^ width + w % 2 ^ width) (eqb-true (w / 2 ^ width) q e)))
 
 -- the four fields of a message's first word are its low 23 bits
 fields : (w : ℕ) → bits 16 7 w * 2 ^ 16 + bits 10 6 w * 2 ^ 10 + bits 4 6 w * 2 ^ 4 + bits 0 4 w ≡ w % 2 ^ 23
@@ -93,29 +65,29 @@ fields w =
     let a : w % 2 ^ 23 ≡ bits 16 7 w * 2 ^ 16 + w % 2 ^ 16 = mod-mul w {m = 2 ^ 7} {c = 2 ^ 16} (lit< tt) (lit< tt) in
     let b : w % 2 ^ 16 ≡ bits 10 6 w * 2 ^ 10 + w % 2 ^ 10 = mod-mul w {m = 2 ^ 6} {c = 2 ^ 10} (lit< tt) (lit< tt) in
     let c : w % 2 ^ 10 ≡ bits 4 6 w * 2 ^ 4 + w % 2 ^ 4 = mod-mul w {m = 2 ^ 6} {c = 2 ^ 4} (lit< tt) (lit< tt) in
-    let d : bits 0 4 w ≡ w % 2 ^ 4 = ap (λ (v : ℕ). v % 2 ^ 4) (div-one w) in
+    let d : bits 0 4 w ≡ w % 2 ^ 4 = lowest 4 w in
     omega arith
 
--- a word of a kind, with a low part of some width, and no more
-plain : (width q w : ℕ) → eqb w (q * 2 ^ width + bits 0 width w) ≡ eqb (w / 2 ^ width) q
-plain width q w = ap (λ (v : ℕ). eqb w (q * 2 ^ width + v % 2 ^ width)) (div-one w) ∙ high-bits width q w
+-- a word of kind k that is a part of some width, and no more
+plain : (width k q w : ℕ) → k * 2 ^ 28 ≡ q * 2 ^ width → eqb w (k * 2 ^ 28 + bits 0 width w) ≡ eqb (w / 2 ^ width) q
+plain width k q w = of-kind width k q w (bits 0 width w) (lowest width w)
 
 module _ (ws : List ℕ) (k : ℕ) where
-  head-kept : kept ws k 0 ≡ eqb (getD ws (messagePlace k) 0 / 2 ^ 23) 192
+  first-kept : kept ws k 0 ≡ eqb (getD ws (messagePlace k) 0 / 2 ^ 23) 192
   unfolding decodeMessage messageWord
-  head-kept =
+  first-kept =
       let w : ℕ = getD ws (messagePlace k) 0 in
-      rw (add-zero (messagePlace k)) (ap (λ (v : ℕ). eqb w (6 * 2 ^ 28 + v)) (fields w) ∙ high-bits 23 192 w)
+      rw (add-zero (messagePlace k))
+      (of-kind 23 6 192 w (bits 16 7 w * 2 ^ 16 + bits 10 6 w * 2 ^ 10 + bits 4 6 w * 2 ^ 4 + bits 0 4 w) (fields w) refl)
 
-  stamp-kept : kept ws k 1 ≡ eqb (getD ws (messagePlace k + 1) 0 / 2 ^ 24) 112
+  second-kept : kept ws k 1 ≡ eqb (getD ws (messagePlace k + 1) 0 / 2 ^ 24) 112
   unfolding decodeMessage stampWord
-  stamp-kept = plain 24 112 (getD ws (messagePlace k + 1) 0)
+  second-kept = plain 24 7 112 (getD ws (messagePlace k + 1) 0) refl
 
--- the tests of a message's first two words, as code joins them
-abbrev headTests : ℕ → ℕ → ℕ → ℕ → Bool → Message → List Bool
-headTests word n tag stamp fits m =
-    eqb (word / 2 ^ 24) 112
-    ∷ between 1 12 tag
+-- what `frontFits` asks, with the size, the type, the stamp and the subject's test as code has them
+abbrev frontTests : ℕ → ℕ → ℕ → Bool → Message → List Bool
+frontTests n tag stamp fits m =
+    between 1 12 tag
     ∷ ltb (m .sender) n
     ∷ ltb (m .receiver) n
     ∷ not (eqb (m .sender) (m .receiver))
@@ -124,13 +96,23 @@ headTests word n tag stamp fits m =
     ∷ (usesStamp tag || eqb stamp 0)
     ∷ []
 
-pub head-test : (ws : List ℕ) (t : Table) (k n tag stamp : ℕ) (fits : Bool) → size t ≡ n → decodeMessage ws k .type ≡ tag → decodeMessage ws k .stamp ≡ stamp → fits ≡ subjectFits t (decodeMessage ws k) → joined (eqb (getD ws (messagePlace k) 0 / 2 ^ 23) 192) (headTests (getD ws (messagePlace k + 1) 0) n tag stamp fits (decodeMessage ws k)) ≡ headReads ws t k
-unfolding headReads headFits
-head-test ws t k n tag stamp fits e f g h =
-    rw (← e, ← f, ← g, h)
-    (joined-every (eqb (getD ws (messagePlace k) 0 / 2 ^ 23) 192)
-    (headTests (getD ws (messagePlace k + 1) 0) (size t) (decodeMessage ws k .type) (decodeMessage ws k .stamp) (subjectFits t (decodeMessage ws k)) (decodeMessage ws k))
-    ∙ rw (head-kept ws k, stamp-kept ws k, and-true (headFits t (decodeMessage ws k))))
+module _ (ws : List ℕ) (t : Table) (k : ℕ) where
+  abbrev message : Message
+  message = decodeMessage ws k
+
+  -- the tests of a message's first two words, as code joins them
+  abbrev frontJoined : ℕ → ℕ → ℕ → Bool → Bool
+  frontJoined n tag stamp fits =
+      joined (eqb (getD ws (messagePlace k) 0 / 2 ^ 23) 192)
+      (eqb (getD ws (messagePlace k + 1) 0 / 2 ^ 24) 112 ∷ frontTests n tag stamp fits message)
+
+  pub front-test : (n tag stamp : ℕ) (fits : Bool) → size t ≡ n → message .type ≡ tag → message .stamp ≡ stamp → fits ≡ subjectFits t message → frontJoined n tag stamp fits ≡ frontReads ws t k
+  unfolding frontReads frontFits
+  front-test n tag stamp fits e f g h =
+      rw (← e, ← f, ← g, h)
+      (joined-every (eqb (getD ws (messagePlace k) 0 / 2 ^ 23) 192)
+      (eqb (getD ws (messagePlace k + 1) 0 / 2 ^ 24) 112 ∷ frontTests (size t) (message .type) (message .stamp) (subjectFits t message) message)
+      ∙ rw (first-kept ws k, second-kept ws k, and-true (frontFits t message)))
 
 -- ---- views
 
@@ -260,14 +242,14 @@ module _ (ws : List ℕ) (k : ℕ) where
   low-kept =
       ap (λ (p : ℕ). eqb low (8 * 2 ^ 28 + p))
       (ap (bits 0 24) whole ∙ field 0 24 (bits 0 24 middle + 2 ^ 24 * bits 0 16 high) (bits 0 24 low) 0 (omega arith) (lit< tt) (bits< 0 24 low))
-      ∙ plain 24 128 low
+      ∙ plain 24 8 128 low refl
 
   pub middle-kept : kept ws k 3 ≡ eqb (getD ws (messagePlace k + 3) 0 / 2 ^ 24) 128
   unfolding decodeMessage viewWord
   middle-kept =
       ap (λ (p : ℕ). eqb middle (8 * 2 ^ 28 + p))
       (ap (bits 24 24) whole ∙ field 24 24 (bits 0 16 high) (bits 0 24 middle) (bits 0 24 low) (omega arith) (bits< 0 24 low) (bits< 0 24 middle))
-      ∙ plain 24 128 middle
+      ∙ plain 24 8 128 middle refl
 
   pub high-kept : kept ws k 4 ≡ eqb (getD ws (messagePlace k + 4) 0 / 2 ^ 16) 32768
   unfolding decodeMessage viewWord
@@ -276,13 +258,25 @@ module _ (ws : List ℕ) (k : ℕ) where
       (ap (bits 48 16) whole
       ∙ field 48 16 0 (bits 0 16 high) (2 ^ 24 * bits 0 24 middle + bits 0 24 low) (omega arith)
       (omega (arith, bits< 0 24 low, bits< 0 24 middle)) (bits< 0 16 high))
-      ∙ plain 16 32768 high
+      ∙ plain 16 8 32768 high refl
 
   -- what is left to test where the three words of the view are of their kind
   pub view-test : (t : Table) (n tag v limit : ℕ) → size t ≡ n → decodeMessage ws k .type ≡ tag → v ≡ viewOf → limit ≡ (if usesView tag then 2 ^ n - 1 else 0) → low / 2 ^ 24 ≡ 128 → middle / 2 ^ 24 ≡ 128 → high / 2 ^ 16 ≡ 32768 → viewReads ws t k ≡ (leb v limit && not (ofBits v (decodeMessage ws k .receiver)))
   unfolding viewReads decodeMessage
   view-test t n tag v limit e f g h x y z =
       rw (h, ← e, ← f, g, low-kept, middle-kept, high-kept, eq-eqb (low / 2 ^ 24) 128 x, eq-eqb (middle / 2 ^ 24) 128 y, eq-eqb (high / 2 ^ 16) 32768 z, and-true (viewFits t (decodeMessage ws k)), view-fits (decodeMessage ws k .type) (size t) (decodeMessage ws k .receiver) viewOf viewOf< (bits< 10 6 (getD ws (messagePlace k) 0)), and-true (not (ofBits viewOf (decodeMessage ws k .receiver))))
+
+  -- an empty view reads
+  pub empty-view : (t : Table) → eqb (bitOr (bitOr (bitXor low 2147483648) (bitXor middle 2147483648)) (bitXor high 2147483648)) 0 ≡ true → viewReads ws t k ≡ true
+  empty-view t e =
+      let p = sym (or-test (bitOr (bitXor low 2147483648) (bitXor middle 2147483648)) (bitXor high 2147483648)) ∙ e in
+      let q = sym (or-test (bitXor low 2147483648) (bitXor middle 2147483648)) ∙ and-left (eqb (bitOr (bitXor low 2147483648) (bitXor middle 2147483648)) 0) (eqb (bitXor high 2147483648) 0) p in
+      let a : low ≡ 2147483648 = eqb-true low 2147483648 (sym (xor-test low 2147483648) ∙ and-left (eqb (bitXor low 2147483648) 0) (eqb (bitXor middle 2147483648) 0) q) in
+      let b : middle ≡ 2147483648 = eqb-true middle 2147483648 (sym (xor-test middle 2147483648) ∙ and-right (eqb (bitXor low 2147483648) 0) (eqb (bitXor middle 2147483648) 0) q) in
+      let c : high ≡ 2147483648 = eqb-true high 2147483648 (sym (xor-test high 2147483648) ∙ and-right (eqb (bitOr (bitXor low 2147483648) (bitXor middle 2147483648)) 0) (eqb (bitXor high 2147483648) 0) p) in
+      let v : 0 ≡ viewOf = rw (a, b, c) in
+      view-test t (size t) (decodeMessage ws k .type) 0 _ refl refl v refl (rw a) (rw b) (rw c)
+      ∙ and-in (le-leb 0 (if usesView (decodeMessage ws k .type) then 2 ^ size t - 1 else 0) zero-le) (not-in (no-bit-above 0 0 (decodeMessage ws k .receiver) (lit< tt) zero-le))
 
 -- ---- messages in parts
 
@@ -296,54 +290,31 @@ five : (S : Set) → all 5 S ≡ (every (S 0 ∷ S 1 ∷ []) && every (S 2 ∷ S
 unfolding all
 five S = joined-every (S 0) (S 1 ∷ S 2 ∷ S 3 ∷ S 4 ∷ []) ∙ every-append (S 0 ∷ S 1 ∷ []) (S 2 ∷ S 3 ∷ S 4 ∷ [])
 
-fits-split : (t : Table) (m : Message) → messageFits t m ≡ (headFits t m && every (viewFits t m ∷ []))
-unfolding messageFits headFits
-fits-split t m =
-    every-append
-    (between 1 12 (m .type)
-    ∷ ltb (m .sender) (size t)
-    ∷ ltb (m .receiver) (size t)
-    ∷ not (eqb (m .sender) (m .receiver))
-    ∷ subjectFits t m
-    ∷ (eqb (m .type) 8 ⇒ not (eqb (m .subject) (m .sender)) && not (eqb (m .subject) (m .receiver)))
-    ∷ (usesStamp (m .type) || eqb (m .stamp) 0)
-    ∷ [])
-    (viewFits t m ∷ [])
+fits-split : (t : Table) (m : Message) → messageFits t m ≡ (frontFits t m && every (viewFits t m ∷ []))
+unfolding messageFits frontFits
+fits-split t m = every-append (frontTests (size t) (m .type) (m .stamp) (subjectFits t m) m) (viewFits t m ∷ [])
 
-message-split : (ws : List ℕ) (t : Table) (k : ℕ) → messageReads ws t k ≡ (headReads ws t k && viewReads ws t k)
-unfolding messageReads headReads viewReads
+message-split : (ws : List ℕ) (t : Table) (k : ℕ) → messageReads ws t k ≡ (frontReads ws t k && viewReads ws t k)
+unfolding messageReads frontReads viewReads
 message-split ws t k =
     ap₂ _&&_ (five (kept ws k)) (and-true (messageFits t m) ∙ fits-split t m)
-    ∙ swap (every heads) (every views) (headFits t m) (every (viewFits t m ∷ []))
+    ∙ swap (every fronts) (every views) (frontFits t m) (every (viewFits t m ∷ []))
     ∙ ap₂ _&&_
-    (ap (λ (b : Bool). every heads && b) (sym (and-true (headFits t m))) ∙ sym (every-append heads (headFits t m ∷ [])))
+    (ap (λ (b : Bool). every fronts && b) (sym (and-true (frontFits t m))) ∙ sym (every-append fronts (frontFits t m ∷ [])))
     (sym (every-append views (viewFits t m ∷ [])))
   where
     m : Message
     m = decodeMessage ws k
 
-    heads : List Bool
-    heads = kept ws k 0 ∷ kept ws k 1 ∷ []
+    fronts : List Bool
+    fronts = kept ws k 0 ∷ kept ws k 1 ∷ []
 
     views : List Bool
     views = kept ws k 2 ∷ kept ws k 3 ∷ kept ws k 4 ∷ []
 
-pub messages-split : (ws : List ℕ) (t : Table) (m : ℕ) → messagesRead ws t m ≡ (all m (headReads ws t) && all m (viewReads ws t) && all ringLength (λ i. ltb i (messagePlace m) || eqb (getD ws i 0) 0))
-unfolding messagesRead
+pub messages-split : (ws : List ℕ) (t : Table) (m : ℕ) → messagesRead ws t m ≡ (all m (frontReads ws t) && all m (viewReads ws t) && clear ws (messagePlace m) ringLength)
+unfolding messagesRead clear
 messages-split ws t m =
     ap₂ _&&_
-    (all-cong m (messageReads ws t) (λ k. headReads ws t k && viewReads ws t k) (λ k h. message-split ws t k) ∙ all-and m (headReads ws t) (viewReads ws t))
-    (and-true (all ringLength (λ i. ltb i (messagePlace m) || eqb (getD ws i 0) 0)))
-
--- ---- words that are 0
-
-pub or-clear : (a b : ℕ) → eqb (bitOr a b) 0 ≡ (eqb a 0 && eqb b 0)
-or-clear a b =
-    same-test (eqb (bitOr a b) 0) (eqb a 0 && eqb b 0)
-    (λ e. let z : bitOr a b ≡ 0 = eqb-true (bitOr a b) 0 e in
-    and-in
-    (eq-eqb a 0 (omega (arith, or-add-and a b, and-le-l a b, and-le-r a b)))
-    (eq-eqb b 0 (omega (arith, or-add-and a b, and-le-l a b, and-le-r a b))))
-    (λ e. let x : a ≡ 0 = eqb-true a 0 (and-left (eqb a 0) (eqb b 0) e) in
-    let y : b ≡ 0 = eqb-true b 0 (and-right (eqb a 0) (eqb b 0) e) in
-    eq-eqb (bitOr a b) 0 (omega (arith, or-add-and a b)))
+    (all-cong (messageReads ws t) (λ k. frontReads ws t k && viewReads ws t k) m (λ k h. message-split ws t k) ∙ sym (all-both (frontReads ws t) (viewReads ws t) m))
+    (and-true (clear ws (messagePlace m) ringLength))

@@ -1,20 +1,22 @@
 -- The tests of the nodes, as the code joins them.
-use mathlib.Core.Path.{_≡_, refl, sym, ap, ap₂, _∙_}
-use Prim.Native.Nat.{ℕ, _+_, _/_, _^_, _≤_, _<_}
+use mathlib.Core.Path.{_≡_, sym, ap, _∙_}
+use Prim.Native.Nat.{ℕ, _+_, _/_, _^_, _<_}
 use native.Mathlib.Omega.{arith}
-use native.Mathlib.Decide.{decLt}
+use native.Mathlib.Decide.{decLt, ℕ-discrete}
 use mathlib.Core.Bool.{Bool, true, false, not, _&&_, _||_}
-use mathlib.Core.List.{List, [], _∷_}
+use mathlib.Core.List.{List}
 use lib.Bits.{bitXor}
 use lib.Dec.{eqb}
+use lib.ListN.{length, getD, set}
+use lib.Seq.{getD-set-same, getD-set-other}
 use borrow.Author.Tests.{eqb-true, eqb-false, eq-eqb, ne-eqb}
-use Rattle.model.specs.Choice.{every}
 use Rattle.model.specs.Sets.{all}
 use Rattle.model.specs.Leafset.{size, key}
 use Rattle.model.specs.Fields.{bits, flag}
 use Rattle.model.specs.Words.{keyWord, clockWord, nodePlace, keysDiffer, decodeTable}
-use Rattle.model.proofs.Laws.{and-left, and-right, decide, or-left, or-right, or-case, clash, not-in, not-out, same-test, all-in, all-out}
+use Rattle.model.proofs.Laws.{or-left, or-right, or-case, clash, not-in, not-out, same-test, all-in, all-out}
 use Rattle.validity.specs.Regions.{clear, sizeOf, keyAt, clockAt, nodeReads, nodesRead}
+use Rattle.validity.specs.Marks.{keyOf, markOf, isNew}
 use Rattle.validity.proofs.Regions.{size-is, key-is}
 use Rattle.validity.proofs.Gather.{two, all-both, all-cong}
 use Rattle.validity.proofs.Formats.{key-format, clock-format, xor-above}
@@ -40,8 +42,8 @@ module _ (ws : List ℕ) (n : ℕ) where
       clock-fits s = eqb (clockAt ws s) (clockWord (bits 0 24 (clockAt ws s)))
 
   -- no key is met before it, so the keys differ
-  pub keys-tests : n ≡ sizeOf ws → all n (λ x. all x (λ y. not (eqb (bits 0 24 (keyAt ws y)) (bits 0 24 (keyAt ws x))))) ≡ keysDiffer (decodeTable ws)
-  unfolding keysDiffer
+  pub keys-tests : n ≡ sizeOf ws → all n (isNew ws) ≡ keysDiffer (decodeTable ws)
+  unfolding keysDiffer isNew
   keys-tests e =
       same-test (all n (λ x. all x (λ y. not (eqb (key-of y) (key-of x))))) (keysDiffer (decodeTable ws))
       (λ t. all-in (size (decodeTable ws)) (λ x. all (size (decodeTable ws)) (λ y. eqb x y || not (eqb (key (decodeTable ws) x) (key (decodeTable ws) y))))
@@ -78,3 +80,23 @@ module _ (ws : List ℕ) (n : ℕ) where
           (all-out (size (decodeTable ws)) (λ x. all (size (decodeTable ws)) (λ y. eqb x y || not (eqb (key (decodeTable ws) x) (key (decodeTable ws) y)))) t y (rw (size-is ws) hy₁)) x (rw (size-is ws) hx₁))
           (λ p. let q = eqb-true y x p in absurd (omega arith))
           (λ p. rw (key-is ws y hy₁, key-is ws x hx₁) at p)
+
+-- ---- marks
+
+-- the mark of each key before x was met
+abbrev pub Marked : List Bool → List ℕ → ℕ → Type 0
+Marked met ws x = (y : ℕ) → y < x → getD met (markOf (keyOf ws y)) false ≡ true
+
+pub unmet-new : (met : List Bool) (ws : List ℕ) (x : ℕ) → Marked met ws x → getD met (markOf (keyOf ws x)) false ≡ false → isNew ws x ≡ true
+unfolding isNew
+unmet-new met ws x marked unmet =
+    all-in x (λ y. not (eqb (keyOf ws y) (keyOf ws x)))
+    (λ y h. not-in (ne-eqb (keyOf ws y) (keyOf ws x) (λ e. clash (marked y h) (ap (λ (k : ℕ). getD met (markOf k) false) e ∙ unmet))))
+
+pub marked-more : (met : List Bool) (ws : List ℕ) (x : ℕ) → length met ≡ 512 → Marked met ws x → Marked (set met (markOf (keyOf ws x)) true) ws (x + 1)
+marked-more met ws x long marked y h =
+    elim (ℕ-discrete (markOf (keyOf ws y)) (markOf (keyOf ws x))) [
+      | yes e ↦ rw e (getD-set-same met (markOf (keyOf ws x)) true false (omega (arith, long)))
+      | no d ↦ getD-set-other met (markOf (keyOf ws x)) (markOf (keyOf ws y)) true false d
+          ∙ marked y (elim (ℕ-discrete y x) [ yes e ↦ absurd (d (ap (λ (s : ℕ). markOf (keyOf ws s)) e)) | no n ↦ omega arith ])
+    ]

@@ -1,26 +1,26 @@
 -- The tests of a row of pairs: what the code tests of each word is what the regions ask of it.
 use mathlib.Core.Path.{_≡_, refl, sym, ap, ap₂, _∙_}
-use Prim.Native.Nat.{ℕ, zero, suc, _+_, _-_, _*_, _/_, _%_, _^_, _≤_, _<_, zero-le}
-use native.Mathlib.Nat.{mod-lt, mod-eq-of-lt, div-eq-of-lt, div-add-mod'}
+use Prim.Native.Nat.{ℕ, _+_, _-_, _*_, _/_, _%_, _^_, _≤_, _<_, zero-le}
+use native.Mathlib.Nat.{zero-add, mod-lt, mod-eq-of-lt, div-add-mod'}
 use native.Mathlib.Omega.{arith}
 use native.Mathlib.Decide.{decLt, ℕ-discrete}
 use mathlib.Core.Bool.{Bool, true, false, not, _&&_, _||_}
 use mathlib.Core.List.{List, [], _∷_}
 use lib.Arith.{mod-mul, digits-mod}
-use lib.ListN.{getD, set, replicate, length-replicate, getD-replicate}
+use lib.ListN.{getD, replicate, length-replicate, getD-replicate}
 use lib.Seq.{getD-set-same, getD-set-other}
-use lib.Bits.{bitOr, bitXor, bitAnd, xor-shr, xor-mod, xor-zero-r, and-block, and-mask}
+use lib.Bits.{bitOr, bitXor, bitAnd, xor-shr, xor-mod, xor-zero-r, xor-self, xor-comm, xor-shifted, xor-block, and-block, and-mask}
 use lib.Dec.{ltb, leb, eqb, lit<}
-use borrow.Author.Tests.{eqb-true, eqb-false, eq-eqb, ne-eqb, ltb-true, lt-ltb, le-ltb, leb-true, le-leb}
+use borrow.Author.Tests.{eqb-true, eqb-false, eq-eqb, ne-eqb, ltb-true, lt-ltb, le-ltb, leb-true, le-leb, lt-leb}
 use Rattle.model.specs.Choice.{if_then_else_, _⇒_, every}
 use Rattle.model.specs.Sets.{all}
 use Rattle.model.specs.Fields.{bits, flag}
-use Rattle.model.specs.WellFormed.{Each, nil, cons}
+use Rattle.model.specs.WellFormed.{nil, cons}
 use Rattle.model.specs.Words.{pairWord, spareWord}
-use Rattle.model.proofs.Laws.{and-left, and-right, and-in, or-left, or-right, or-case, clash, decide, is-false, not-in, not-out, implies-in, implies-out, then-out, else-out, if-law, same-test, every-in, every-out, all-in, all-out}
+use Rattle.model.proofs.Laws.{and-left, and-right, and-in, or-left, clash, decide, is-false, not-in, not-out, implies-out, then-out, else-out, if-law, same-test, every-in, every-out, all-in, all-out}
 use Rattle.model.proofs.Lists.{first, rest}
 use Rattle.validity.specs.Regions.{keyAt, clockAt, linkAt, spareAt, linkReads, spareReads, pairReads}
-use Rattle.validity.specs.Rows.{noLink, noSpare, offDiagonal, apart, linkFits, linksFit, noLinks, noSpares, sparesFit}
+use Rattle.validity.specs.Rows.{noLink, noSpare, offDiagonal, apart, linkFits, spareFits, linksFit, noLinks, noSpares, sparesFit}
 use Rattle.validity.proofs.Gather.{or-test, all-both, all-cong}
 use Rattle.validity.proofs.Formats.{lowest, pair-format, spare-format, xor-test, xor-above}
 
@@ -158,45 +158,102 @@ module _ (clock u : ℕ) (hc : clock < 2 ^ 24) where
 
 -- ---- a spare
 
--- as the code joins its tests
-pub spare-tests : (n x z w p : ℕ) → n ≤ 64 → x < 64 → z < 64
-    → (eqb (p / 2 ^ 7) 8388608
-    && (eqb (p % 2 ^ 7) 64 || (eqb (w / 2 ^ 24 % 2) 1 && ltb (p % 2 ^ 7) n && not (eqb (p % 2 ^ 7) x) && not (eqb (p % 2 ^ 7) z))))
-    ≡ spareReads n x z w p
-unfolding spareReads
-spare-tests n x z w p hn hx hz =
-    rw (spare-format p, lowest 7 p) (ap (λ (b : Bool). eqb (p / 2 ^ 7) 8388608 && b) (go (flag 24 w)))
-  where
-    q : ℕ
-    q = p % 2 ^ 7
+-- the bits in which p differs from `noSpare`, in two parts
+in-parts : (p : ℕ) → bitXor p noSpare ≡ bitXor (p / 2 ^ 7) 8388608 * 2 ^ 7 + bitXor (p % 2 ^ 7) 64
+in-parts p = ap (λ (v : ℕ). bitXor v noSpare) (sym (div-add-mod' p (2 ^ 7))) ∙ xor-block 7 (p / 2 ^ 7) 8388608 (p % 2 ^ 7) 64 (mod-lt p (lit< tt)) (lit< tt)
 
-    go : (held : Bool) → (eqb q 64 || (held && ltb q n && not (eqb q x) && not (eqb q z)))
-        ≡ every ((ltb q n || eqb q 64) ∷ not (eqb q x) ∷ not (eqb q z) ∷ (not held ⇒ eqb q 64) ∷ [])
-    go held =
-        elim (ℕ-discrete q 64) [
-          | yes e ↦ let a : ltb q n ≡ false = le-ltb q n (omega arith) in
-              let b : eqb q x ≡ false = ne-eqb q x (λ i. omega arith) in
-              let c : eqb q z ≡ false = ne-eqb q z (λ i. omega arith) in
-              rw (eq-eqb q 64 e, a, b, c) (none held)
-          | no d ↦ rw (ne-eqb q 64 d) (some held (ltb q n) (not (eqb q x)) (not (eqb q z)))
+low-part : (q : ℕ) → q < 64 → bitXor q 64 ≡ 64 + q
+low-part q h = xor-comm q 64 ∙ xor-shifted 1 6 q h
+
+high-part : (r : ℕ) → r < 64 → bitXor (64 + r) 64 ≡ r
+high-part r h = xor-block 6 1 1 r 0 h (lit< tt) ∙ ap (λ (v : ℕ). 0 + v) (xor-zero-r r) ∙ zero-add r
+
+-- what is asked of the spare q of (x, z), held or not
+abbrev spareTests : ℕ → ℕ → ℕ → Bool → ℕ → List Bool
+spareTests n x z held q = (ltb q n || eqb q 64) ∷ not (eqb q x) ∷ not (eqb q z) ∷ (not held ⇒ eqb q 64) ∷ []
+
+module _ (n x z : ℕ) (hn : n ≤ 64) (hx : x < 64) (hz : z < 64) (held : Bool) where
+  a-spare : (q : ℕ) → q < 64 → spareFits n x z held (64 + q) ≡ every (spareTests n x z held q)
+  unfolding spareFits
+  a-spare q h =
+      let a : ltb (64 + q) (64 + n) ≡ ltb q n = same-test (ltb (64 + q) (64 + n)) (ltb q n) (λ e. lt-ltb q n (omega (arith, ltb-true (64 + q) (64 + n) e))) (λ e. lt-ltb (64 + q) (64 + n) (omega (arith, ltb-true q n e))) in
+      rw (ne-eqb (64 + q) 0 (λ e. omega arith), le-leb 64 (64 + q) (omega arith), a, shifted x, shifted z, ne-eqb q 64 (λ e. omega arith))
+      (joins held (ltb q n) (not (eqb q x)) (not (eqb q z)))
+    where
+      shifted : (y : ℕ) → eqb (64 + q) (64 + y) ≡ eqb q y
+      shifted y = same-test (eqb (64 + q) (64 + y)) (eqb q y) (λ e. eq-eqb q y (omega (arith, eqb-true (64 + q) (64 + y) e))) (λ e. eq-eqb (64 + q) (64 + y) (omega (arith, eqb-true q y e)))
+
+      joins : (held a b c : Bool) → (held && true && a && b && c) ≡ every ((a || false) ∷ b ∷ c ∷ (not held ⇒ false) ∷ [])
+      joins true true true true = refl
+      joins true true true false = refl
+      joins true true false c = refl
+      joins true false b c = refl
+      joins false true true true = refl
+      joins false true true false = refl
+      joins false true false c = refl
+      joins false false b c = refl
+
+  no-spare : every (spareTests n x z held 64) ≡ true
+  no-spare = rw (le-ltb 64 n hn, ne-eqb 64 x (λ e. omega arith), ne-eqb 64 z (λ e. omega arith)) (go held)
+    where
+      go : (held : Bool) → every (true ∷ true ∷ true ∷ (not held ⇒ true) ∷ []) ≡ true
+      go true = refl
+      go false = refl
+
+  -- 65 to 127 is none
+  no-node : (r : ℕ) → 0 < r → r < 64 → spareFits n x z held r ≡ every (spareTests n x z held (64 + r))
+  unfolding spareFits
+  no-node r a b = rw (ne-eqb r 0 (λ e. omega arith), lt-leb 64 r b, le-ltb (64 + r) n (omega arith), ne-eqb (64 + r) 64 (λ e. omega arith)) (go held)
+    where
+      go : (held : Bool) → (held && false && ltb r (64 + n) && not (eqb r (64 + x)) && not (eqb r (64 + z))) ≡ false
+      go true = refl
+      go false = refl
+
+  -- unnamed bits, or another kind
+  too-big : (u : ℕ) → 128 ≤ u → spareFits n x z held u ≡ false
+  unfolding spareFits
+  too-big u h = rw (ne-eqb u 0 (λ e. omega arith), le-ltb u (64 + n) (omega arith)) (go held (leb 64 u))
+    where
+      go : (a b : Bool) → (a && b && false && not (eqb u (64 + x)) && not (eqb u (64 + z))) ≡ false
+      go true true = refl
+      go true false = refl
+      go false b = refl
+
+pub spare-fits : (n x z w p : ℕ) → n ≤ 64 → x < 64 → z < 64 → spareFits n x z (flag 24 w) (bitXor p noSpare) ≡ spareReads n x z w p
+unfolding spareFits spareReads
+spare-fits n x z w p hn hx hz = rw (spare-format p, lowest 7 p) (go (p % 2 ^ 7) (mod-lt p (lit< tt)) (in-parts p))
+  where
+    go : (q : ℕ) → q < 128 → bitXor p noSpare ≡ bitXor (p / 2 ^ 7) 8388608 * 2 ^ 7 + bitXor q 64
+        → spareFits n x z (flag 24 w) (bitXor p noSpare) ≡ (eqb (p / 2 ^ 7) 8388608 && every (spareTests n x z (flag 24 w) q))
+    go q hq e =
+        elim (ℕ-discrete (p / 2 ^ 7) 8388608) [
+          | no d ↦
+              let h : 1 ≤ bitXor (p / 2 ^ 7) 8388608 = ne-zero (λ i. d (eqb-true (p / 2 ^ 7) 8388608 (sym (xor-test (p / 2 ^ 7) 8388608) ∙ eq-eqb (bitXor (p / 2 ^ 7) 8388608) 0 i))) in
+              rw (ne-eqb (p / 2 ^ 7) 8388608 d) (too-big n x z hn hx hz (flag 24 w) (bitXor p noSpare) (omega arith))
+          | yes k ↦
+              let b : bitXor p noSpare ≡ bitXor q 64 =
+              e ∙ ap (λ (v : ℕ). v * 2 ^ 7 + bitXor q 64) (ap (λ (v : ℕ). bitXor v 8388608) k ∙ xor-self 8388608) ∙ zero-add (bitXor q 64) in
+              rw (eq-eqb (p / 2 ^ 7) 8388608 k, b)
+              (elim (decLt q 64) [
+                | yes l ↦ rw (low-part q l) (a-spare n x z hn hx hz (flag 24 w) q l)
+                | no m ↦ let i : 64 + (q - 64) ≡ q = omega arith in rw i at (above (q - 64) (omega arith))
+              ])
         ]
       where
-        none : (held : Bool) → true ≡ every (true ∷ true ∷ true ∷ (not held ⇒ true) ∷ [])
-        none true = refl
-        none false = refl
+        ne-zero : {v : ℕ} → (v ≡ 0 → ⊥) → 1 ≤ v
+        ne-zero f = omega arith
 
-        some : (held a b c : Bool) → (held && a && b && c) ≡ every ((a || false) ∷ b ∷ c ∷ (not held ⇒ false) ∷ [])
-        some true true true true = refl
-        some true true true false = refl
-        some true true false c = refl
-        some true false b c = refl
-        some false true true true = refl
-        some false true true false = refl
-        some false true false c = refl
-        some false false b c = refl
+        above : (r : ℕ) → r < 64 → spareFits n x z (flag 24 w) (bitXor (64 + r) 64) ≡ every (spareTests n x z (flag 24 w) (64 + r))
+        above r h =
+            rw (high-part r h)
+            (elim (ℕ-discrete r 0) [
+              | yes i ↦ rw i (sym (no-spare n x z hn hx hz (flag 24 w)))
+              | no d ↦ no-node n x z hn hx hz (flag 24 w) r (omega arith) h
+            ])
 
 pub no-spare-reads : (n x z w : ℕ) → n ≤ 64 → x < 64 → z < 64 → spareReads n x z w noSpare ≡ true
-no-spare-reads n x z w hn hx hz = sym (spare-tests n x z w noSpare hn hx hz)
+unfolding spareFits
+no-spare-reads n x z w hn hx hz = sym (spare-fits n x z w noSpare hn hx hz)
 
 -- ---- a pair without a link and a spare
 
@@ -277,12 +334,12 @@ module _ (ws : List ℕ) (n x : ℕ) (hn : n ≤ 64) (hx : x < n) where
     spare-own z e = ap (spareAt ws x) (sym (eqb-true x z e)) ∙ own .1
 
     pair-running : flag 24 (keyAt ws x) ≡ true → (z : ℕ) → z < n
-        → (linkFits (bits 0 24 (clockAt ws x)) (apart noLink x z (linkAt ws x z)) && (eqb x z || spareReads n x z (linkAt ws x z) (spareAt ws x z))) ≡ pairReads ws n x z
-    unfolding pairReads
+        → (linkFits (bits 0 24 (clockAt ws x)) (apart noLink x z (linkAt ws x z)) && spareFits n x z (flag 24 (linkAt ws x z)) (apart noSpare x z (spareAt ws x z))) ≡ pairReads ws n x z
+    unfolding pairReads spareFits
     pair-running r z hz =
         decide (eqb x z)
         (λ e. rw (e, link-own z e, spare-own z e, no-link-fits (bits 0 24 (clockAt ws x))))
-        (λ e. rw (e, r, link-fits (bits 0 24 (clockAt ws x)) (linkAt ws x z)) (two-of-three (linkReads (bits 0 24 (clockAt ws x)) (linkAt ws x z)) (spareReads n x z (linkAt ws x z) (spareAt ws x z))))
+        (λ e. rw (e, r, link-fits (bits 0 24 (clockAt ws x)) (linkAt ws x z), spare-fits n x z (linkAt ws x z) (spareAt ws x z) hn (omega arith) (omega arith)) (two-of-three (linkReads (bits 0 24 (clockAt ws x)) (linkAt ws x z)) (spareReads n x z (linkAt ws x z) (spareAt ws x z))))
       where
         two-of-three : (a b : Bool) → (a && b) ≡ every (a ∷ b ∷ true ∷ [])
         two-of-three true true = refl
@@ -300,8 +357,8 @@ module _ (ws : List ℕ) (n x : ℕ) (hn : n ≤ 64) (hx : x < n) where
     -- a running node's row
     pub running-reads : flag 24 (keyAt ws x) ≡ true → (linksFit ws n x && sparesFit ws n x) ≡ all n (pairReads ws n x)
     running-reads r =
-        all-both (λ z. linkFits (bits 0 24 (clockAt ws x)) (apart noLink x z (linkAt ws x z))) (λ z. eqb x z || spareReads n x z (linkAt ws x z) (spareAt ws x z)) n
-        ∙ all-cong (λ z. linkFits (bits 0 24 (clockAt ws x)) (apart noLink x z (linkAt ws x z)) && (eqb x z || spareReads n x z (linkAt ws x z) (spareAt ws x z))) (pairReads ws n x) n (pair-running r)
+        all-both (λ z. linkFits (bits 0 24 (clockAt ws x)) (apart noLink x z (linkAt ws x z))) (λ z. spareFits n x z (flag 24 (linkAt ws x z)) (apart noSpare x z (spareAt ws x z))) n
+        ∙ all-cong (λ z. linkFits (bits 0 24 (clockAt ws x)) (apart noLink x z (linkAt ws x z)) && spareFits n x z (flag 24 (linkAt ws x z)) (apart noSpare x z (spareAt ws x z))) (pairReads ws n x) n (pair-running r)
 
     -- the row of a node that is off
     pub off-reads : flag 24 (keyAt ws x) ≡ false → (noLinks ws n x && noSpares ws n x) ≡ all n (pairReads ws n x)
@@ -334,8 +391,7 @@ module _ (ws : List ℕ) (n x : ℕ) (hn : n ≤ 64) (hx : x < n) where
 
   -- where none has a spare, the spares fit
   pub bare-fits : noSpares ws n x ≡ true → sparesFit ws n x ≡ true
+  unfolding spareFits
   bare-fits t =
-      all-in n (λ z. eqb x z || spareReads n x z (linkAt ws x z) (spareAt ws x z)) (λ z hz. decide (eqb x z)
-      (λ e. or-left (spareReads n x z (linkAt ws x z) (spareAt ws x z)) e)
-      (λ e. let p : spareAt ws x z ≡ noSpare = eqb-true (spareAt ws x z) noSpare (sym (xor-test (spareAt ws x z) noSpare) ∙ (rw e at (all-out n (λ z. eqb (apart noSpare x z (spareAt ws x z)) 0) t z hz))) in
-      or-right (eqb x z) (rw p (no-spare-reads n x z (linkAt ws x z) hn (omega arith) (omega arith)))))
+      all-in n (λ z. spareFits n x z (flag 24 (linkAt ws x z)) (apart noSpare x z (spareAt ws x z)))
+      (λ z h. or-left _ (all-out n (λ z. eqb (apart noSpare x z (spareAt ws x z)) 0) t z h))

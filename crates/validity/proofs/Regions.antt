@@ -1,5 +1,5 @@
 -- Words read as a ring exactly where each of their regions does.
-use mathlib.Core.Path.{_≡_, refl, sym, ap, ap₂, _∙_}
+use mathlib.Core.Path.{_≡_, refl, sym, ap, _∙_}
 use Prim.Native.Nat.{ℕ, zero, suc, _+_, _-_, _*_, _/_, _%_, _≤_, _<_}
 use native.Mathlib.Omega.{arith}
 use native.Mathlib.Nat.{add-zero, mod-lt, div-add-mod'}
@@ -8,17 +8,17 @@ use mathlib.Core.Bool.{Bool, true, false, not, _&&_, _||_}
 use mathlib.Core.List.{List, [], _∷_}
 use lib.ListN.{length, getD}
 use lib.Dec.{ltb, leb, eqb, lit<}
-use borrow.Author.Tests.{eqb-true, eqb-false, eq-eqb, ne-eqb, ltb-true, ltb-false, lt-ltb, le-ltb, leb-true, le-leb}
+use borrow.Author.Tests.{eqb-true, eq-eqb, ltb-false, lt-ltb, le-ltb, leb-true, le-leb}
 use Rattle.model.specs.Choice.{if_then_else_, _⇒_, every}
-use Rattle.model.specs.Sets.{all, tabulate, noneNode}
-use Rattle.model.specs.Leafset.{Table, size, key}
-use Rattle.model.specs.Ring.{Ring, Message, messageAt, blank}
+use Rattle.model.specs.Sets.{all, noneNode}
+use Rattle.model.specs.Leafset.{size, key}
+use Rattle.model.specs.Ring.{Message, messageAt, blank}
 use Rattle.model.specs.Fields.{bits, flag}
 use Rattle.model.specs.WellFormed.{Each, nil, cons}
 use Rattle.model.specs.Words.{at, headWord, keyWord, clockWord, pairWord, spareWord, nodePlace, pairPlace, messagePlace, between, inRange, keysDiffer, isPair, ofNode, ofPair, ofMessage, nodeWords, pairWords, messageWords, wordAt, ringLength, decodeTable, decodeOwn, decodeNode, decodeMessage, decode, pairFits, nodeFits, messageFits, ringFits, formatFits, readsAsRing}
 use Rattle.model.proofs.Laws.{clash, between-low, between-high, and-left, and-right, and-in, or-left, or-right, or-case, implies-in, implies-out, not-in, not-out, decide, is-false, same-test, every-in, every-out, all-in, all-out, length-tabulate, getD-tabulate}
 use Rattle.model.proofs.Lists.{first, rest}
-use Rattle.model.proofs.Words.{node-at, pair-at, message-at, pair-in, pair-low, pair-other, ReadsAsRing, reads-in, reads-out}
+use Rattle.model.proofs.Words.{node-at, pair-at, message-at, pair-low, pair-other, ReadsAsRing, reads-in, reads-out}
 use Rattle.validity.specs.Messages.{messageReads, messagesRead}
 use Rattle.validity.specs.Regions.{clear, sizeOf, countOf, keyAt, clockAt, linkAt, spareAt, headReads, nodeReads, nodesRead, linkReads, spareReads, pairReads, rowReads, pairsRead, regionsRead}
 

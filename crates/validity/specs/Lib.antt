@@ -1,4 +1,5 @@
-pub mod Messages
 pub mod Regions
-pub mod Rows
+pub mod Messages
 pub mod MessagesParts
+pub mod Rows
+pub mod Marks

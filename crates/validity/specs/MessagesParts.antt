@@ -15,8 +15,8 @@ module _ (ws : List ℕ) (k : ℕ) where
   kept i = eqb (getD ws (messagePlace k + i) 0) (getD (messageWords (decodeMessage ws k)) i 0)
 
 -- what `messageFits` asks but for the view
-unfoldable pub headFits : Table → Message → Bool
-headFits t m =
+unfoldable pub frontFits : Table → Message → Bool
+frontFits t m =
     every
     (between 1 12 (m .type)
     ∷ ltb (m .sender) (size t)
@@ -27,8 +27,8 @@ headFits t m =
     ∷ (usesStamp (m .type) || eqb (m .stamp) 0)
     ∷ [])
 
-unfoldable pub headReads : List ℕ → Table → ℕ → Bool
-headReads ws t k = every (kept ws k 0 ∷ kept ws k 1 ∷ headFits t (decodeMessage ws k) ∷ [])
+unfoldable pub frontReads : List ℕ → Table → ℕ → Bool
+frontReads ws t k = every (kept ws k 0 ∷ kept ws k 1 ∷ frontFits t (decodeMessage ws k) ∷ [])
 
 unfoldable pub viewReads : List ℕ → Table → ℕ → Bool
 viewReads ws t k = every (kept ws k 2 ∷ kept ws k 3 ∷ kept ws k 4 ∷ viewFits t (decodeMessage ws k) ∷ [])

@@ -1,6 +1,5 @@
 // Word 0.
 ghost use mathlib.Core.Path.{_≡_};
-ghost use Prim.Native.Nat.{_≤_};
 ghost use Rattle.model.specs.Fields.{bits};
 ghost use Rattle.validity.specs.Regions.{headReads};
 

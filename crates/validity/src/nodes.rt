@@ -1,13 +1,11 @@
 // The words of the nodes.
 ghost use mathlib.Core.Path.{_≡_};
-ghost use mathlib.Core.Bool.{not, _||_};
+ghost use mathlib.Core.Bool.{true, false};
 ghost use Prim.Native.Nat.{_≤_, _<_};
 ghost use lib.ListN.{length};
-ghost use lib.Dec.{eqb};
-ghost use Rattle.model.specs.Fields.{bits};
-ghost use Rattle.model.specs.Sets.{all};
 ghost use Rattle.model.specs.Words.{keysDiffer, decodeTable};
-ghost use Rattle.validity.specs.Regions.{sizeOf, keyAt, nodesRead};
+ghost use Rattle.validity.specs.Regions.{sizeOf, nodesRead};
+ghost use Rattle.validity.specs.Marks.{markOf, keyOf, isNew};
 use super::clear::clear;
 
 // The words of n nodes, and nothing after them. What is or-ed is 0 in a word of the right kind whose unnamed bits are 0.
@@ -25,10 +23,19 @@ pub fn nodes_read(words: &[u32], n: usize) -> bool
     (keys >> 25 == 0) & (clocks >> 24 == 0) & clear(words, 1 + 2 * n, 129)
 }
 
+// The mark of the key of node x.
+fn mark(words: &[u32], x: usize) -> usize
+    requires { ⌜ (length (now words) ≡ 13441) × (x < 64) ⌝ }
+    ensures { λ r. ⌜ r ≡ markOf (keyOf (now (words .entry)) x) ⌝ }
+{
+    let key = words[1 + 2 * x] % 0x100_0000;
+    (((key as u64) * 0x9E37_79B1 >> 23) % 512) as usize
+}
+
 // The key of node x is not met before x.
 fn key_is_new(words: &[u32], x: usize) -> bool
     requires { ⌜ (length (now words) ≡ 13441) × (x < 64) ⌝ }
-    ensures { λ r. ⌜ r ≡ all x (λ y. not (eqb (bits 0 24 (keyAt (now (words .entry)) y)) (bits 0 24 (keyAt (now (words .entry)) x)))) ⌝ }
+    ensures { λ r. ⌜ r ≡ isNew (now (words .entry)) x ⌝ }
 {
     let key = words[1 + 2 * x] % 0x100_0000;
     let mut ok = true;
@@ -38,14 +45,29 @@ fn key_is_new(words: &[u32], x: usize) -> bool
     ok
 }
 
+// The same, looked for only where the key's mark was met.
+fn marked_is_new(words: &[u32], x: usize, met: bool) -> bool
+    requires { ⌜ (length (now words) ≡ 13441) × (x < 64) × (met ≡ false → isNew (now words) x ≡ true) ⌝ }
+    ensures { λ r. ⌜ r ≡ isNew (now (words .entry)) x ⌝ }
+{
+    if !met {
+        return true;
+    }
+    key_is_new(words, x)
+}
+
 // The n keys differ.
 pub fn keys_differ(words: &[u32], n: usize) -> bool
     requires { ⌜ (length (now words) ≡ 13441) × (n ≤ 64) × (n ≡ sizeOf (now words)) ⌝ }
     ensures { λ r. ⌜ r ≡ keysDiffer (decodeTable (now (words .entry))) ⌝ }
 {
-    let mut ok = true;
+    let mut met = [false; 512];
     for x in 0..n {
-        ok = ok & key_is_new(words, x);
+        let m = mark(words, x);
+        if !marked_is_new(words, x, met[m]) {
+            return false;
+        }
+        met[m] = true;
     }
-    ok
+    true
 }

@@ -5,8 +5,8 @@ ghost use Prim.Native.Nat.{_+_, _*_, _/_, _%_, _^_, _≤_, _<_};
 ghost use lib.ListN.{length};
 ghost use Rattle.model.specs.Fields.{flag};
 ghost use Rattle.model.specs.Sets.{all};
-ghost use Rattle.validity.specs.Regions.{keyAt, spareReads, pairReads, rowReads, pairsRead};
-ghost use Rattle.validity.specs.Rows.{offDiagonal, noLinks, noSpares, linksFit, sparesFit};
+ghost use Rattle.validity.specs.Regions.{pairReads, rowReads, pairsRead};
+ghost use Rattle.validity.specs.Rows.{noSpare, offDiagonal, GivenRow, spareFits, noLinks, noSpares, linksFit, sparesFit};
 use super::clear::clear;
 
 // The first word of a pair that is not held and no candidate, and the second of one that has no spare.
@@ -21,16 +21,16 @@ struct Row {
 }
 
 // u without bit 25, the candidate mark, plus 2^24 - 1. Bit 24 of that is clear exactly where a held pair has a stamp and
-// another has none.
+// another has none; it is then at most 2^25 - 1 plus the clock exactly where the stamp is at most the clock.
 fn lifted(u: u32) -> u32
     ensures { λ r. ⌜ r ≡ u / 2 ^ 26 * 2 ^ 26 + u % 2 ^ 25 + 16777215 ⌝ }
 {
     (u & 0xFDFF_FFFF) + 0xFF_FFFF
 }
 
-// The row of a running node x. In the tables, `63 + z - x` is 63 where x is z.
+// The row of a running node x. Each condition has a word in which the bits that break it are gathered.
 fn running_row(words: &[u32], links: &[u32; 127], spares: &[u32; 127], x: usize, n: usize) -> Row
-    requires { ⌜ (length (now words) ≡ 13441) × (n ≤ 64) × (x < n) × (now links ≡ offDiagonal 805306368) × (now spares ≡ offDiagonal 1073741888) ⌝ }
+    requires { ⌜ GivenRow (now words) (now links) (now spares) x n ⌝ }
     ensures { λ r. ⌜ (r .fits ≡ linksFit (now (words .entry)) n x) × (r .bare ≡ noSpares (now (words .entry)) n x) ⌝ }
 {
     let most = 0x1FF_FFFF + words[1 + 2 * x + 1] % 0x100_0000;
@@ -52,7 +52,7 @@ fn running_row(words: &[u32], links: &[u32; 127], spares: &[u32; 127], x: usize,
 
 // The row of a node x that is off: nothing but what a pair without a link and a spare has.
 fn off_row(words: &[u32], links: &[u32; 127], spares: &[u32; 127], x: usize, n: usize) -> bool
-    requires { ⌜ (length (now words) ≡ 13441) × (n ≤ 64) × (x < n) × (now links ≡ offDiagonal 805306368) × (now spares ≡ offDiagonal 1073741888) ⌝ }
+    requires { ⌜ GivenRow (now words) (now links) (now spares) x n ⌝ }
     ensures { λ r. ⌜ r ≡ noLinks (now (words .entry)) n x && noSpares (now (words .entry)) n x ⌝ }
 {
     let mut link = 0;
@@ -65,25 +65,25 @@ fn off_row(words: &[u32], links: &[u32; 127], spares: &[u32; 127], x: usize, n: 
     (link == 0) & (spare == 0)
 }
 
-// p is the second word of the pair (x, z), w being its first.
-fn spare_reads(w: u32, p: u32, n: u32, x: u32, z: u32) -> bool
+// u is what the second word of (x, z) may have beyond that of no spare, w being its first word.
+fn spare_fits(w: u32, u: u32, n: u32, x: u32, z: u32) -> bool
     requires { ⌜ (n ≤ 64) × (x < 64) × (z < 64) ⌝ }
-    ensures { λ r. ⌜ r ≡ spareReads n x z w p ⌝ }
+    ensures { λ r. ⌜ r ≡ spareFits n x z (flag 24 w) u ⌝ }
 {
-    let spare = p % 128;
-    (p >> 7 == 0x80_0000)
-        & ((spare == 64) | (((w >> 24) % 2 == 1) & (spare < n) & !(spare == x) & !(spare == z)))
+    let held = (w >> 24) % 2 == 1;
+    (u == 0) | (held & (64 <= u) & (u < 64 + n) & !(u == 64 + x) & !(u == 64 + z))
 }
 
 // The spares of the row of x.
-fn spares_fit(words: &[u32], x: usize, n: usize) -> bool
-    requires { ⌜ (length (now words) ≡ 13441) × (n ≤ 64) × (x < n) ⌝ }
+fn spares_fit(words: &[u32], spares: &[u32; 127], x: usize, n: usize) -> bool
+    requires { ⌜ (length (now words) ≡ 13441) × (n ≤ 64) × (x < n) × (now spares ≡ offDiagonal noSpare) ⌝ }
     ensures { λ r. ⌜ r ≡ sparesFit (now (words .entry)) n x ⌝ }
 {
     let mut ok = true;
     for z in 0..n {
         let at = 129 + 2 * (64 * x + z);
-        ok = ok & ((x == z) | spare_reads(words[at], words[at + 1], n as u32, x as u32, z as u32));
+        let u = words[at + 1] ^ spares[63 - x + z];
+        ok = ok & spare_fits(words[at], u, n as u32, x as u32, z as u32);
     }
     ok
 }
@@ -96,7 +96,7 @@ fn row_pairs_read(
     x: usize,
     n: usize,
 ) -> bool
-    requires { ⌜ (length (now words) ≡ 13441) × (n ≤ 64) × (x < n) × (now links ≡ offDiagonal 805306368) × (now spares ≡ offDiagonal 1073741888) ⌝ }
+    requires { ⌜ GivenRow (now words) (now links) (now spares) x n ⌝ }
     ensures { λ r. ⌜ r ≡ all n (pairReads (now (words .entry)) n x) ⌝ }
 {
     let own = 129 + 2 * (64 * x + x);
@@ -113,19 +113,20 @@ fn row_pairs_read(
     if row.bare {
         return true;
     }
-    spares_fit(words, x, n)
+    spares_fit(words, spares, x, n)
 }
 
 // The row of x: its pairs, and nothing after them.
 fn row_reads(words: &[u32], links: &[u32; 127], spares: &[u32; 127], x: usize, n: usize) -> bool
-    requires { ⌜ (length (now words) ≡ 13441) × (n ≤ 64) × (x < n) × (now links ≡ offDiagonal 805306368) × (now spares ≡ offDiagonal 1073741888) ⌝ }
+    requires { ⌜ GivenRow (now words) (now links) (now spares) x n ⌝ }
     ensures { λ r. ⌜ r ≡ rowReads (now (words .entry)) n x ⌝ }
 {
     row_pairs_read(words, links, spares, x, n)
         & clear(words, 129 + 2 * (64 * x + n), 129 + 2 * (64 * x + 64))
 }
 
-// The pairs of n nodes, and nothing after them.
+// The pairs of n nodes, and nothing after them. The tables are read at 63 - x + z, which is 63 where x is z: there, the words
+// are 0.
 pub fn pairs_read(words: &[u32], n: usize) -> bool
     requires { ⌜ (length (now words) ≡ 13441) × (n ≤ 64) ⌝ }
     ensures { λ r. ⌜ r ≡ pairsRead (now (words .entry)) n ⌝ }
@@ -138,5 +139,5 @@ pub fn pairs_read(words: &[u32], n: usize) -> bool
     for x in 0..n {
         ok = ok & row_reads(words, &links, &spares, x, n);
     }
-    ok & clear(words, 129 + 2 * (64 * n + 0), 8321)
+    ok & clear(words, 129 + 128 * n, 8321)
 }

@@ -1,12 +1,9 @@
 use mathlib.Core.Path.{fun-ext}
-use Rattle.leafset.proofs.Bits.{of-none}
 use borrow.Author.Needs.{needs}
+use Rattle.leafset.proofs.Bits.{of-none}
 use Rattle.buffer.proofs.sending.plain.Statement.{statement}
 use Rattle.buffer.proofs.sending.plain.Tie as tie
-use Rattle.buffer.proofs.sending.plain.Reads as reads
-use Rattle.buffer.proofs.sending.plain.Lts as lts
 
--- src/sending.rt:22:1
 returns : tie.Need-returns
 returns c = (λ i. record { type = c .args .tag; sender = c .args .sender .0; receiver = c .args .receiver .0; subject = 64; stamp = 0; view = fun-ext of-none i }, search needs)
 

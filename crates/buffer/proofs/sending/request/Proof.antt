@@ -1,12 +1,9 @@
 use mathlib.Core.Path.{fun-ext}
-use Rattle.leafset.proofs.Bits.{of-none}
 use borrow.Author.Needs.{needs}
+use Rattle.leafset.proofs.Bits.{of-none}
 use Rattle.buffer.proofs.sending.request.Statement.{statement}
 use Rattle.buffer.proofs.sending.request.Tie as tie
-use Rattle.buffer.proofs.sending.request.Reads as reads
-use Rattle.buffer.proofs.sending.request.Lts as lts
 
--- src/sending.rt:53:1
 returns : tie.Need-returns
 returns c = (λ i. record { type = 9; sender = c .args .me .0; receiver = c .args .spare .0; subject = c .args .z .0; stamp = c .args .time .0; view = fun-ext of-none i }, search needs)
 

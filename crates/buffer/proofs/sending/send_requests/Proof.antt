@@ -1,20 +1,13 @@
-use Prim.Native.Nat.{ℕ}
-use native.Mathlib.Omega.{arith}
-use Prim.Native.Nat.{_<_}
 use mathlib.Core.Path.{sym, ap, _∙_}
+use Prim.Native.Nat.{ℕ, _<_}
+use native.Mathlib.Omega.{arith}
+use borrow.Author.Needs.{needs}
 use Rattle.model.specs.Steps.{stamped, pingReplace}
 use Rattle.model.specs.Structs.{spareAt}
 use Rattle.buffer.proofs.Sends.{Sending, send-none, send-more, send-all, sent-below, sent-member, sent-room}
 use Rattle.buffer.proofs.Updates.{spare-read}
-use borrow.Author.Needs.{needs}
 use Rattle.buffer.proofs.sending.send_requests.Statement.{statement}
 use Rattle.buffer.proofs.sending.send_requests.Tie as tie
-use Rattle.buffer.proofs.sending.send_requests.Reads as reads
-use Rattle.buffer.proofs.sending.send_requests.Lts as lts
-use Rattle.buffer.proofs.messages.append.Reads as append-reads
-use Rattle.buffer.proofs.sending.request.Reads as request-reads
-use Rattle.leafset.proofs.sets.lowest.Reads as lowest-reads
-use Rattle.leafset.proofs.sets.rest.Reads as rest-reads
 
 abbrev Inv-loop : tie.InvT-loop
 Inv-loop words₀ m me time to own sent₀ rest₀ words sent rest = Sending words₀ words m sent (λ z. stamped pingReplace (me .0) (spareAt own z) z (time .0)) to rest
@@ -22,23 +15,12 @@ Inv-loop words₀ m me time to own sent₀ rest₀ words sent rest = Sending wor
 abbrev μ-loop : tie.MeasureT-loop
 μ-loop words₀ m me time to own sent₀ rest₀ words sent rest = rest
 
--- src/sending.rt:83:5
 loop-holds : tie.Need-loop-holds Inv-loop μ-loop
 loop-holds c = send-none _ _ _ _ (c .before .pre .0 .0) (search needs) (c .before .pre .0 .3)
 
--- src/sending.rt:84:13
-lowest-requires : tie.Need-lowest-requires Inv-loop μ-loop
-lowest-requires c κs = search needs
-
--- src/sending.rt:85:18
-cast-at : tie.Need-cast-at Inv-loop μ-loop
-cast-at c = search needs
-
--- src/sending.rt:86:51
 element-copy-out-request : tie.Need-element-copy-out-request Inv-loop μ-loop
 element-copy-out-request c = sent-below _ _ _ _ _ _ _ (c .before .before .before .before .loop .inv) (c .before .before .before .loop-test .taken) _ (c .before .before .lowest .ensures)
 
--- src/sending.rt:86:39
 request-requires : tie.Need-request-requires Inv-loop μ-loop
 request-requires c κs =
     let p = c .before .before .before .before .before .before .before .pre in
@@ -48,25 +30,19 @@ request-requires c κs =
     let t = s .part y (sent-member _ _ _ _ _ _ _ s (c .before .before .before .before .loop-test .taken) _ (c .before .before .before .lowest .ensures)) in
     (p .0 .1, rw (spare-read (c .before .before .before .before .before .before .before .args .t5) y (p .1 .0) b) (p .1 .1 y t), omega arith, p .0 .2)
 
--- src/sending.rt:86:9
 append-requires : tie.Need-append-requires Inv-loop μ-loop
-append-requires c κs = (c .before .before .before .before .before .before .loop .inv .long, sent-room _ _ _ _ _ _ _ (c .before .before .before .before .before .before .loop .inv) (c .before .before .before .before .before .loop-test .taken) _ (c .before .before .before .before .lowest .ensures), c .request .ensures .1)
+append-requires c κs =
+    let s = c .before .before .before .before .before .before .loop .inv in
+    (s .long, sent-room _ _ _ _ _ _ _ s (c .before .before .before .before .before .loop-test .taken) _ (c .before .before .before .before .lowest .ensures), c .request .ensures .1)
 
--- src/sending.rt:87:9
-rest-requires : tie.Need-rest-requires Inv-loop μ-loop
-rest-requires c κs = search needs
-
--- src/sending.rt:88:9
 add-sent : tie.Need-add-sent Inv-loop μ-loop
 add-sent c =
     let h = sent-room _ _ _ _ _ _ _ (c .before .before .before .before .before .before .before .before .before .before .loop .inv) (c .before .before .before .before .before .before .before .before .before .loop-test .taken) _ (c .before .before .before .before .before .before .before .before .lowest .ensures) in
     search needs
 
--- src/sending.rt:83:5
 loop-less : tie.Need-loop-less Inv-loop μ-loop
 loop-less c = c .rest .ensures .less
 
--- src/sending.rt:83:5
 loop-again : tie.Need-loop-again Inv-loop μ-loop
 loop-again c =
     let a = c .before .before .before .before .before .before .before .before .before .before .before .before .args in
@@ -78,11 +54,9 @@ loop-again c =
     (c .before .before .before .before .request .ensures .0 ∙ ap (λ (z : ℕ). stamped pingReplace (a .me .0) z y (a .time .0)) (spare-read (a .t5) y (c .before .before .before .before .before .before .before .before .before .before .before .before .pre .1 .0) b))
     (c .before .before .before .append .ensures)
 
--- src/sending.rt:69:1
 same-length : tie.Need-same-length Inv-loop μ-loop
 same-length c = c .before .loop .inv .long ∙ sym (c .before .before .before .pre .0 .0)
 
--- src/sending.rt:69:1
 returns : tie.Need-returns Inv-loop μ-loop
 returns c = send-all _ _ _ _ _ _ _ (c .before .loop .inv) (c .loop-test .left)
 
@@ -90,17 +64,5 @@ pub send-requests-spec : {M : Type 1} → statement M
 send-requests-spec =
     tie.close
     (tie.spec
-    Inv-loop
-    μ-loop
-    loop-holds
-    lowest-requires
-    cast-at
-    element-copy-out-request
-    request-requires
-    append-requires
-    rest-requires
-    add-sent
-    loop-less
-    loop-again
-    same-length
-    returns)
+    Inv-loop μ-loop loop-holds (λ c κs. search needs) (λ c. search needs) element-copy-out-request
+    request-requires append-requires (λ c κs. search needs) add-sent loop-less loop-again same-length returns)

@@ -36,7 +36,9 @@ mul-t13 : tie.Need-mul-t13 Inv-loop μ-loop
 mul-t13 c = search needs
 
 shared-slice-read-t15 : tie.Need-shared-slice-read-t15 Inv-loop μ-loop
-shared-slice-read-t15 c = rising-below (c .before .before .before .before .before .loop .inv .0) (c .before .before .before .before .loop-test .taken) _ (c .before .before .before .lowest .ensures)
+shared-slice-read-t15 c =
+    let l = c .before .before .before .before .before .loop in
+    rising-below (l .inv .0) (c .before .before .before .before .loop-test .taken) _ (c .before .before .before .lowest .ensures)
 
 span-requires : tie.Need-span-requires Inv-loop μ-loop
 span-requires c κs = search needs
@@ -53,13 +55,15 @@ loop-again c =
     let l = c .before .before .before .before .before .before .before .before .loop in
     let y = c .before .before .before .before .before .before .lowest .result .0 in
     let is = c .before .before .before .before .before .before .lowest .ensures in
+    let first = rising-first (l .inv .0) (c .before .before .before .before .before .before .before .loop-test .taken) y is in
     let test = ap (λ (far : ℕ). ltb far (a .limit)) (c .before .before .span .ensures) in
     let rest = sym (rising-set (l .inv .0) (c .rest .ensures) y is) in (
       rising-rest (l .inv .0) (c .rest .ensures),
       ⊎-elim
           (λ w. subst₂ (Collected (ofBits (a .set)) _) (sym (ap ofBits (w .1) ∙ c .before .before .before .before .with .ensures)) rest
-          (collected-kept (l .inv .1) y (rising-first (l .inv .0) (c .before .before .before .before .before .before .before .loop-test .taken) y is .member) (sym test ∙ lt-ltb _ _ (w .0 .taken))))
-          (λ w. subst₂ (Collected (ofBits (a .set)) _) (sym (ap ofBits (w .1))) rest (collected-passed (l .inv .1) y (sym test ∙ le-ltb _ _ (w .0 .left))))
+          (collected-kept (l .inv .1) y (first .member) (sym test ∙ lt-ltb _ _ (w .0 .taken))))
+          (λ w. subst₂ (Collected (ofBits (a .set)) _) (sym (ap ofBits (w .1))) rest
+          (collected-passed (l .inv .1) y (sym test ∙ le-ltb _ _ (w .0 .left))))
           (c .before .if1 .came),
     )
 

@@ -40,7 +40,9 @@ span-requires : tie.Need-span-requires Inv-loop μ-loop
 span-requires c κs = search needs
 
 add-limit : tie.Need-add-limit Inv-loop μ-loop
-add-limit c = omega (arith, c .span .ensures, span< (c .before .before .before .before .before .before .before .args .way) (c .before .before .before .before .before .before .before .args .from .0) (getD (c .before .before .before .before .before .before .before .args .keys .now) (c .before .before .before .nearest .result .0) 0))
+add-limit c =
+    let a = c .before .before .before .before .before .before .before .args in
+    omega (arith, c .span .ensures, span< (a .way) (a .from .0) (getD (a .keys .now) (c .before .before .before .nearest .result .0) 0))
 
 without-requires : tie.Need-without-requires Inv-loop μ-loop
 without-requires c κs =
@@ -55,9 +57,7 @@ loop-less c = search needs
 
 loop-again : tie.Need-loop-again Inv-loop μ-loop
 loop-again c =
-    let a = c .before .before .before .before .before .before .before .before .args in
-    let t = c .before .before .before .before .before .before .loop .inv .1 in
-    let m = spanTo (a .way) (a .from .0) (a .keys .now) in (
+    let t = c .before .before .before .before .before .before .loop .inv .1 in (
       omega arith,
       rw (c .without .ensures, c .before .span .ensures) (taken-more t (taken-least t (omega arith) (c .before .before .before .before .nearest .ensures))),
     )

@@ -1,5 +1,4 @@
 -- `leafset::leafset::near` meets its contract.
-use mathlib.Core.Path.{_∙_}
 use borrow.Author.Needs.{needs}
 use Rattle.model.specs.Sets.{ofBits}
 use Rattle.leafset.specs.Span.{spanTo}
@@ -16,7 +15,7 @@ below-requires c κs = search needs
 returns : tie.Need-returns
 returns c =
     let a = c .before .before .before .args in
-    λ y. c .below .ensures y ∙ limit-near (a .leaf) (ofBits (a .set)) (spanTo (a .way) (a .from .0) (a .keys .now)) (c .before .limit .result) (c .before .limit .ensures) y
+    limit-near (a .leaf) (ofBits (a .set)) (spanTo (a .way) (a .from .0) (a .keys .now)) (c .before .limit .result) (c .before .limit .ensures) (ofBits (c .below .result)) (c .below .ensures)
 
 pub near-spec : {M : Type 1} → statement M
 near-spec = tie.close (tie.spec limit-requires below-requires returns)

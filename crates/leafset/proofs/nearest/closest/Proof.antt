@@ -1,7 +1,6 @@
 -- `leafset::nearest::closest` meets its contract.
 use mathlib.Core.Path.{subst₂}
 use Prim.Native.Nat.{ℕ, _<_, _≤_}
-use native.Mathlib.Omega.{arith}
 use borrow.Author.Needs.{needs}
 use Rattle.leafset.proofs.Bits.{none-left, first-bit}
 use Rattle.leafset.proofs.Pick.{found-least}
@@ -17,7 +16,10 @@ without-requires c κs = search needs
 
 returns : tie.Need-returns
 returns c =
-    closest-nobody (c .before .before .before .before .args .leaf) (c .before .before .before .before .pre .0) _ _ _ (c .before .before .leafset .ensures) (c .before .without .ensures) (none-left (c .if1 .taken))
+    let w = c .before in
+    let l = c .before .before in
+    let s = c .before .before .before .before in
+    closest-nobody (s .args .leaf) (s .pre .0) _ _ _ (l .leafset .ensures) (w .without .ensures) (none-left (c .if1 .taken))
 
 cast-at : tie.Need-cast-at
 cast-at c = search needs
@@ -29,7 +31,11 @@ shared-slice-read-if2 : tie.Need-shared-slice-read-if2
 shared-slice-read-if2 c = search needs
 
 nearest-requires : tie.Need-nearest-requires
-nearest-requires c κs = others-low (c .before .before .before .before .before .before .args .leaf) (c .before .before .before .before .before .before .pre .0) _ _ _ (c .before .before .before .before .leafset .ensures) (c .before .before .before .without .ensures)
+nearest-requires c κs =
+    let w = c .before .before .before in
+    let l = w .before in
+    let s = l .before .before in
+    others-low (s .args .leaf) (s .pre .0) _ _ _ (l .leafset .ensures) (w .without .ensures)
 
 cast-me : tie.Need-cast-me
 cast-me c = search needs
@@ -42,8 +48,11 @@ mul-t14 c = search needs
 
 shared-slice-read-t19 : tie.Need-shared-slice-read-t19
 shared-slice-read-t19 c =
-    let f = first-bit (c .before .before .before .before .before .before .before .without .result) (search needs) (omega arith) in
-    others-low (c .before .before .before .before .before .before .before .before .before .before .args .leaf) (c .before .before .before .before .before .before .before .before .before .before .pre .0) _ _ _ (c .before .before .before .before .before .before .before .before .leafset .ensures) (c .before .before .before .before .before .before .before .without .ensures) _ (found-least _ (f .member) (c .before .before .before .nearest .ensures) .member)
+    let w = c .before .before .before .before .before .before .before in
+    let l = w .before in
+    let s = l .before .before in
+    let f = first-bit (w .without .result) (search needs) (c .before .before .before .before .before .before .if1 .left) in
+    others-low (s .args .leaf) (s .pre .0) _ _ _ (l .leafset .ensures) (w .without .ensures) _ (found-least _ (f .member) (c .before .before .before .nearest .ensures) .member)
 
 distance-requires : tie.Need-distance-requires
 distance-requires c κs = search needs
@@ -59,15 +68,21 @@ distance-requires-2 c κs = search needs
 
 returns-2 : tie.Need-returns-2
 returns-2 c =
-    let f = first-bit (c .before .before .before .before .before .before .before .before .before .before .before .without .result) (search needs) (omega arith) in
-    closest-found (c .before .before .before .before .before .before .before .before .before .before .before .before .before .before .args .leaf) (c .before .before .before .before .before .before .before .before .before .before .before .before .before .before .pre .0) _ _ _ (c .before .before .before .before .before .before .before .before .before .before .before .before .leafset .ensures) (c .before .before .before .before .before .before .before .before .before .before .before .without .ensures)
+    let w = c .before .before .before .before .before .before .before .before .before .before .before in
+    let l = w .before in
+    let s = l .before .before in
+    let f = first-bit (w .without .result) (search needs) (c .before .before .before .before .before .before .before .before .before .before .if1 .left) in
+    closest-found (s .args .leaf) (s .pre .0) _ _ _ (l .leafset .ensures) (w .without .ensures)
     (found-least _ (f .member) (c .before .before .before .before .before .before .before .nearest .ensures))
     (subst₂ (λ (m n : ℕ). m < n) (c .before .before .before .distance .ensures) (c .before .distance2 .ensures) (c .if2 .taken))
 
 returns-3 : tie.Need-returns-3
 returns-3 c =
-    let f = first-bit (c .before .before .before .before .before .before .before .before .before .before .before .without .result) (search needs) (omega arith) in
-    closest-none (c .before .before .before .before .before .before .before .before .before .before .before .before .before .before .args .leaf) (c .before .before .before .before .before .before .before .before .before .before .before .before .before .before .pre .0) _ _ _ (c .before .before .before .before .before .before .before .before .before .before .before .before .leafset .ensures) (c .before .before .before .before .before .before .before .before .before .before .before .without .ensures)
+    let w = c .before .before .before .before .before .before .before .before .before .before .before in
+    let l = w .before in
+    let s = l .before .before in
+    let f = first-bit (w .without .result) (search needs) (c .before .before .before .before .before .before .before .before .before .before .if1 .left) in
+    closest-none (s .args .leaf) (s .pre .0) _ _ _ (l .leafset .ensures) (w .without .ensures)
     (found-least _ (f .member) (c .before .before .before .before .before .before .before .nearest .ensures))
     (subst₂ (λ (m n : ℕ). m ≤ n) (c .before .distance2 .ensures) (c .before .before .before .distance .ensures) (c .if2 .left))
 

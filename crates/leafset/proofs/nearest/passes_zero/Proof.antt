@@ -1,5 +1,4 @@
 -- `leafset::nearest::passes_zero` meets its contract.
-use native.Mathlib.Omega.{arith}
 use borrow.Author.Needs.{needs}
 use Rattle.leafset.proofs.Bits.{none-left, first-bit}
 use Rattle.leafset.proofs.Choices.{successor-low, passes-found, passes-nobody}
@@ -32,16 +31,18 @@ mul-t9 c = search needs
 
 shared-slice-read-t15 : tie.Need-shared-slice-read-t15
 shared-slice-read-t15 c =
-    let f = first-bit (c .before .before .before .before .before .before .before .before .args .held) (c .before .before .before .before .before .before .before .before .fits .held .fits) (omega arith) in
-    rw (c .before .before .before .before .before .successor .ensures 0) (successor-low 0 _ _ _ (c .before .before .before .before .before .before .before .before .pre .within) _ (f .member))
+    let s = c .before .before .before .before .before .before .before .before in
+    let f = first-bit (s .args .held) (s .fits .held .fits) (c .before .before .before .before .before .before .if1 .left) in
+    rw (c .before .before .before .before .before .successor .ensures 0) (successor-low 0 _ _ _ (s .pre .within) _ (f .member))
 
 clockwise-requires-2 : tie.Need-clockwise-requires-2
 clockwise-requires-2 c κs = search needs
 
 returns-2 : tie.Need-returns-2
 returns-2 c =
-    let f = first-bit (c .before .before .before .before .before .before .before .before .before .args .held) (c .before .before .before .before .before .before .before .before .before .fits .held .fits) (omega arith) in
-    λ leaf. passes-found leaf _ _ _ (_, c .before .before .before .before .before .before .before .before .before .pre .within _ (f .member), f .member) _ _ _ (c .before .before .before .before .before .before .successor .ensures leaf) (c .before .before .clockwise .ensures) (c .clockwise2 .ensures)
+    let s = c .before .before .before .before .before .before .before .before .before in
+    let f = first-bit (s .args .held) (s .fits .held .fits) (c .before .before .before .before .before .before .before .if1 .left) in
+    λ leaf. passes-found leaf _ _ _ (_, s .pre .within _ (f .member), f .member) _ _ _ (c .before .before .before .before .before .before .successor .ensures leaf) (c .before .before .clockwise .ensures) (c .clockwise2 .ensures)
 
 pub passes-zero-spec : {M : Type 1} → statement M
 passes-zero-spec =

@@ -52,12 +52,11 @@ loop-again c =
     let a = c .before .before .before .before .before .before .before .before .before .args in
     let m = spanTo (a .way) (a .from .0) (a .keys .now) in
     let next = rising-next (l .inv .0) (c .rest .ensures) _ (c .before .before .before .before .before .lowest .ensures) in
-    let kept : (w : ℕ × ℕ) → (c .before .if1 .best .0 ≡ w .0) → (c .before .if1 .limit ≡ w .1) → pick m (members 64 (ofBits (c .rest .result))) (c .before .if1 .best .0, c .before .if1 .limit) ≡ pick m (members 64 (ofBits (c .rest .result))) w =
-    λ w p q. ap₂ (λ (b v : ℕ). pick m (members 64 (ofBits (c .rest .result))) (b, v)) p q in (
+    let kept : ℕ → ℕ → Pair = λ b v. pick m (members 64 (ofBits (c .rest .result))) (b, v) in (
       rising-rest (l .inv .0) (c .rest .ensures),
       ⊎-elim
-          (λ w. kept _ (ap (λ n. n .0) (w .1)) (w .2) ∙ pick-next m _ _ _ _ _ _ next (c .before .before .span .ensures) (w .0 .taken))
-          (λ w. kept _ (ap (λ n. n .0) (w .1)) (w .2) ∙ pick-same m _ _ _ _ _ _ next (c .before .before .span .ensures) (w .0 .left))
+          (λ w. ap₂ kept (ap (λ n. n .0) (w .1)) (w .2) ∙ pick-next m _ _ _ _ _ _ next (c .before .before .span .ensures) (w .0 .taken))
+          (λ w. ap₂ kept (ap (λ n. n .0) (w .1)) (w .2) ∙ pick-same m _ _ _ _ _ _ next (c .before .before .span .ensures) (w .0 .left))
           (c .before .if1 .came)
           ∙ l .inv .1,
     )

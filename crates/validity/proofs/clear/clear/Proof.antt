@@ -1,15 +1,13 @@
+use mathlib.Core.Path.{_≡_, sym}
+use Prim.Native.Nat.{_-_, _≤_}
 use native.Mathlib.Nat.{le-refl}
-use Rattle.validity.proofs.Gather.{clear-none, clear-more}
-use Rattle.validity.specs.Regions.{clear}
 use native.Mathlib.Omega.{arith}
 use lib.Dec.{eqb}
-use mathlib.Core.Path.{_≡_, sym, _∙_}
-use Prim.Native.Nat.{_-_, _≤_}
 use borrow.Author.Needs.{needs}
+use Rattle.validity.specs.Regions.{clear}
+use Rattle.validity.proofs.Gather.{clear-none, clear-more}
 use Rattle.validity.proofs.clear.clear.Statement.{statement}
 use Rattle.validity.proofs.clear.clear.Tie as tie
-use Rattle.validity.proofs.clear.clear.Reads as reads
-use Rattle.validity.proofs.clear.clear.Lts as lts
 
 abbrev Inv-loop : tie.InvT-loop
 Inv-loop words from to met₀ i₀ met i = (from ≤ i) × (i ≤ to) × (eqb met 0 ≡ clear words from i)
@@ -17,31 +15,24 @@ Inv-loop words from to met₀ i₀ met i = (from ≤ i) × (i ≤ to) × (eqb me
 abbrev μ-loop : tie.MeasureT-loop
 μ-loop words from to met₀ i₀ met i = to - i
 
--- src/clear.rt:13:5
 loop-holds : tie.Need-loop-holds Inv-loop μ-loop
 loop-holds c = (le-refl _, search needs, sym (clear-none _ _))
 
--- src/clear.rt:14:21
 mul-met : tie.Need-mul-met Inv-loop μ-loop
 mul-met c = search needs
 
--- src/clear.rt:14:21
 shared-slice-read-met : tie.Need-shared-slice-read-met Inv-loop μ-loop
 shared-slice-read-met c = search needs
 
--- src/clear.rt:13:9
 add-i : tie.Need-add-i Inv-loop μ-loop
 add-i c = search needs
 
--- src/clear.rt:13:5
 loop-less : tie.Need-loop-less Inv-loop μ-loop
 loop-less c = search needs
 
--- src/clear.rt:13:5
 loop-again : tie.Need-loop-again Inv-loop μ-loop
 loop-again c = let l = c .before .before .loop in (search needs, search needs, clear-more _ _ (l .i) (l .met) (l .inv .0) (l .inv .2))
 
--- src/clear.rt:8:1
 returns : tie.Need-returns Inv-loop μ-loop
 returns c =
     let l = c .before .loop in

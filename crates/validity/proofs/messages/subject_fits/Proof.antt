@@ -1,15 +1,10 @@
-use mathlib.Core.Path.{_≡_}
 use mathlib.Core.Bool.{_&&_, _||_}
-use lib.Dec.{ltb, leb, eqb}
+use lib.Dec.{ltb, eqb}
 use Rattle.model.specs.Words.{usesSubject}
 use Rattle.validity.proofs.MessagesLaws.{pick}
-use borrow.Author.Needs.{needs}
 use Rattle.validity.proofs.messages.subject_fits.Statement.{statement}
 use Rattle.validity.proofs.messages.subject_fits.Tie as tie
-use Rattle.validity.proofs.messages.subject_fits.Reads as reads
-use Rattle.validity.proofs.messages.subject_fits.Lts as lts
 
--- src/messages.rt:16:1
 returns : tie.Need-returns
 returns c t m e f g = rw (e, f, g) (pick (usesSubject (c .args .tag)) (ltb (c .args .subject) (c .args .n) || (eqb (c .args .tag) 8 && eqb (c .args .subject) 64)) (eqb (c .args .subject) 64))
 

@@ -1,19 +1,15 @@
-use Prim.Native.Nat.{zero-le}
-use Rattle.model.proofs.Laws.{clash, is-false, not-out, not-out-false, and-in, all-out}
-use Rattle.validity.proofs.MessagesLaws.{all-more}
-use mathlib.Core.Path.{_≡_, refl, sym, ap, ap₂, _∙_}
-use mathlib.Core.Bool.{true, _&&_}
-use Prim.Native.Nat.{_-_, _≤_}
+use mathlib.Core.Path.{_≡_, refl, sym, _∙_}
+use mathlib.Core.Bool.{true}
+use Prim.Native.Nat.{zero-le, _-_, _≤_}
 use native.Mathlib.Omega.{arith}
 use borrow.Author.Needs.{needs}
+use Rattle.model.proofs.Laws.{clash, is-false, not-out, not-out-false, all-out}
 use Rattle.model.specs.Leafset.{Table, size}
 use Rattle.model.specs.Sets.{all}
 use Rattle.validity.specs.MessagesParts.{viewReads}
+use Rattle.validity.proofs.Gather.{all-more}
 use Rattle.validity.proofs.messages.views_read.Statement.{statement}
 use Rattle.validity.proofs.messages.views_read.Tie as tie
-use Rattle.validity.proofs.messages.views_read.Reads as reads
-use Rattle.validity.proofs.messages.views_read.Lts as lts
-use Rattle.validity.proofs.messages.view_reads.Reads as view-reads-reads
 
 abbrev Inv-loop : tie.InvT-loop
 Inv-loop words n m k₀ k = (k ≤ m) × ((t : Table) → size t ≡ n → all k (viewReads words t) ≡ true)
@@ -21,16 +17,13 @@ Inv-loop words n m k₀ k = (k ≤ m) × ((t : Table) → size t ≡ n → all k
 abbrev μ-loop : tie.MeasureT-loop
 μ-loop words n m k₀ k = m - k
 
--- src/messages.rt:108:5
 loop-holds : tie.Need-loop-holds Inv-loop μ-loop
 unfolding all
 loop-holds c = (zero-le, λ t e. refl)
 
--- src/messages.rt:109:13
 view-reads-requires : tie.Need-view-reads-requires Inv-loop μ-loop
 view-reads-requires c κs = search needs
 
--- src/messages.rt:110:13
 returns : tie.Need-returns Inv-loop μ-loop
 returns c t e =
     let S = viewReads (c .before .before .before .before .before .args .words .now) t in
@@ -38,22 +31,22 @@ returns c t e =
     (is-false (all (c .before .before .before .before .before .args .m) S)
     (λ a. clash (c .before .view-reads .ensures t e ∙ all-out (c .before .before .before .before .before .args .m) S a (c .before .before .before .loop .k) (search needs)) (not-out (c .before .view-reads .result) (c .if1 .taken))))
 
--- src/messages.rt:108:9
 add-k : tie.Need-add-k Inv-loop μ-loop
 add-k c = search needs
 
--- src/messages.rt:108:5
 loop-less : tie.Need-loop-less Inv-loop μ-loop
 loop-less c = search needs
 
--- src/messages.rt:108:5
 loop-again : tie.Need-loop-again Inv-loop μ-loop
-loop-again c = (
-  search needs,
-  λ t e. all-more (c .before .before .before .loop .k) (viewReads (c .before .before .before .before .before .args .words .now) t) ∙ and-in (c .before .before .before .loop .inv .1 t e) (sym (c .before .view-reads .ensures t e) ∙ not-out-false (c .before .view-reads .result) (c .if1 .left)),
-)
+loop-again c =
+    let l = c .before .before .before .loop in (
+      search needs,
+      λ t e.
+          sym
+          (all-more (viewReads (c .before .before .before .before .before .args .words .now) t) (l .k) true true (sym (l .inv .1 t e))
+          (sym (not-out-false (c .before .view-reads .result) (c .if1 .left)) ∙ c .before .view-reads .ensures t e)),
+    )
 
--- src/messages.rt:104:1
 returns-2 : tie.Need-returns-2 Inv-loop μ-loop
 returns-2 c t e =
     let done : c .before .loop .k ≡ c .before .before .before .args .m = omega arith in

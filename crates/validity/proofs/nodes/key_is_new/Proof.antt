@@ -1,19 +1,18 @@
-use Rattle.validity.proofs.Formats.{lowest}
-use denote.Ref.{now}
-use Rattle.validity.proofs.Gather.{all-more}
-use Rattle.validity.specs.Regions.{keyAt}
-use Rattle.model.specs.Sets.{all}
-use Rattle.model.specs.Fields.{bits}
-use native.Mathlib.Omega.{arith}
-use lib.Dec.{eqb}
-use mathlib.Core.Bool.{not}
 use mathlib.Core.Path.{_≡_, refl}
 use Prim.Native.Nat.{_-_, _≤_}
+use native.Mathlib.Omega.{arith}
+use mathlib.Core.Bool.{not}
+use lib.Dec.{eqb}
+use denote.Ref.{now}
 use borrow.Author.Needs.{needs}
+use Rattle.model.specs.Sets.{all}
+use Rattle.model.specs.Fields.{bits}
+use Rattle.validity.specs.Marks.{isNew}
+use Rattle.validity.specs.Regions.{keyAt}
+use Rattle.validity.proofs.Formats.{lowest}
+use Rattle.validity.proofs.Gather.{all-more}
 use Rattle.validity.proofs.nodes.key_is_new.Statement.{statement}
 use Rattle.validity.proofs.nodes.key_is_new.Tie as tie
-use Rattle.validity.proofs.nodes.key_is_new.Reads as reads
-use Rattle.validity.proofs.nodes.key_is_new.Lts as lts
 
 abbrev Inv-loop : tie.InvT-loop
 Inv-loop words x key ok₀ y₀ ok y = (y ≤ x) × (ok ≡ all y (λ k. not (eqb (bits 0 24 (keyAt words k)) (bits 0 24 (keyAt words x)))))
@@ -21,52 +20,40 @@ Inv-loop words x key ok₀ y₀ ok y = (y ≤ x) × (ok ≡ all y (λ k. not (eq
 abbrev μ-loop : tie.MeasureT-loop
 μ-loop words x key ok₀ y₀ ok y = x - y
 
--- src/nodes.rt:32:25
 mul-key : tie.Need-mul-key Inv-loop μ-loop
 mul-key c = search needs
 
--- src/nodes.rt:32:21
 add-key : tie.Need-add-key Inv-loop μ-loop
 add-key c = search needs
 
--- src/nodes.rt:32:15
 mul-key-2 : tie.Need-mul-key-2 Inv-loop μ-loop
 mul-key-2 c = search needs
 
--- src/nodes.rt:32:15
 shared-slice-read-key : tie.Need-shared-slice-read-key Inv-loop μ-loop
 shared-slice-read-key c = search needs
 
--- src/nodes.rt:34:5
 loop-holds : tie.Need-loop-holds Inv-loop μ-loop
 unfolding all
 loop-holds c = (search needs, refl)
 
--- src/nodes.rt:35:31
 mul-ok : tie.Need-mul-ok Inv-loop μ-loop
 mul-ok c = search needs
 
--- src/nodes.rt:35:27
 add-ok : tie.Need-add-ok Inv-loop μ-loop
 add-ok c = search needs
 
--- src/nodes.rt:35:21
 mul-ok-2 : tie.Need-mul-ok-2 Inv-loop μ-loop
 mul-ok-2 c = search needs
 
--- src/nodes.rt:35:21
 shared-slice-read-ok : tie.Need-shared-slice-read-ok Inv-loop μ-loop
 shared-slice-read-ok c = search needs
 
--- src/nodes.rt:34:9
 add-y : tie.Need-add-y Inv-loop μ-loop
 add-y c = search needs
 
--- src/nodes.rt:34:5
 loop-less : tie.Need-loop-less Inv-loop μ-loop
 loop-less c = search needs
 
--- src/nodes.rt:34:5
 loop-again : tie.Need-loop-again Inv-loop μ-loop
 loop-again c =
     let l = c .before .before .loop in
@@ -77,8 +64,8 @@ loop-again c =
           (rw (lowest 24 (keyAt ws (l .y)), lowest 24 (keyAt ws x))),
     )
 
--- src/nodes.rt:28:1
 returns : tie.Need-returns Inv-loop μ-loop
+unfolding isNew
 returns c =
     let l = c .before .loop in
     let e : l .y ≡ c .before .before .before .args .x = omega arith in

@@ -1,61 +1,92 @@
-use Rattle.validity.proofs.NodeTests.{keys-tests}
-use mathlib.Core.Path.{_∙_}
-use denote.Ref.{now}
-use Rattle.validity.proofs.Gather.{all-more}
-use Rattle.validity.specs.Regions.{keyAt}
-use Rattle.model.specs.Sets.{all}
-use Rattle.model.specs.Fields.{bits}
+use mathlib.Core.Path.{_≡_, refl, sym, ap, _∙_}
+use Prim.Native.Nat.{ℕ, _-_, _≤_}
+use native.Mathlib.Nat.{not-suc-le-zero}
 use native.Mathlib.Omega.{arith}
-use lib.Dec.{eqb}
-use mathlib.Core.Bool.{not}
-use mathlib.Core.Path.{_≡_, refl}
-use Prim.Native.Nat.{_-_, _≤_}
+use mathlib.Core.Bool.{true, false}
+use lib.ListN.{length, getD}
+use denote.Ref.{now}
+use borrow.Author.Tests.{not-true, not-false}
 use borrow.Author.Needs.{needs}
+use Rattle.model.proofs.Laws.{clash, is-false, all-out}
+use Rattle.model.specs.Sets.{all}
+use Rattle.validity.specs.Marks.{isNew}
+use Rattle.validity.proofs.NodeTests.{Marked, unmet-new, marked-more, keys-tests}
+use Rattle.validity.proofs.Gather.{all-more}
 use Rattle.validity.proofs.nodes.keys_differ.Statement.{statement}
 use Rattle.validity.proofs.nodes.keys_differ.Tie as tie
-use Rattle.validity.proofs.nodes.keys_differ.Reads as reads
-use Rattle.validity.proofs.nodes.keys_differ.Lts as lts
-use Rattle.validity.proofs.nodes.key_is_new.Reads as key-is-new-reads
 
 abbrev Inv-loop : tie.InvT-loop
-Inv-loop words n ok₀ x₀ ok x = (x ≤ n) × (ok ≡ all x (λ k. all k (λ j. not (eqb (bits 0 24 (keyAt words j)) (bits 0 24 (keyAt words k))))))
+Inv-loop words n met₀ x₀ met x = (x ≤ n) × (length met ≡ 512) × (true ≡ all x (isNew words)) × Marked met words x
 
 abbrev μ-loop : tie.MeasureT-loop
-μ-loop words n ok₀ x₀ ok x = n - x
+μ-loop words n met₀ x₀ met x = n - x
 
--- src/nodes.rt:46:5
 loop-holds : tie.Need-loop-holds Inv-loop μ-loop
 unfolding all
-loop-holds c = (search needs, refl)
+loop-holds c = (search needs, refl, refl, λ y h. absurd (not-suc-le-zero h))
 
--- src/nodes.rt:47:19
-key-is-new-requires : tie.Need-key-is-new-requires Inv-loop μ-loop
-key-is-new-requires c κs = search needs
+mark-requires : tie.Need-mark-requires Inv-loop μ-loop
+mark-requires c κs = search needs
 
--- src/nodes.rt:46:9
+array-read-marked-is-new : tie.Need-array-read-marked-is-new Inv-loop μ-loop
+array-read-marked-is-new c = let e = c .mark .ensures in omega arith
+
+marked-is-new-requires : tie.Need-marked-is-new-requires Inv-loop μ-loop
+marked-is-new-requires c κs =
+    let l = c .before .before .loop in
+    let ws = now (c .before .before .before .before .args .words) in (
+      c .before .before .before .before .pre .0,
+      omega arith,
+      λ unmet. unmet-new (l .met) ws (l .x) (l .inv .3) (ap (λ (i : ℕ). getD (l .met) i false) (sym (c .mark .ensures)) ∙ unmet),
+    )
+
+returns : tie.Need-returns Inv-loop μ-loop
+returns c =
+    let l = c .before .before .before .before .loop in
+    let a = c .before .before .before .before .before .before .args in
+    let ws = now (a .words) in
+    let old : isNew ws (l .x) ≡ false = sym (c .before .marked-is-new .ensures) ∙ not-true (c .before .marked-is-new .result) (c .if1 .taken) in
+    sym (sym (keys-tests ws (a .n) (c .before .before .before .before .before .before .pre .2)) ∙ is-false (all (a .n) (isNew ws)) (λ t. clash (all-out (a .n) (isNew ws) t (l .x) (omega arith)) old))
+
+array-write-met : tie.Need-array-write-met Inv-loop μ-loop
+array-write-met c = let e = c .before .before .mark .ensures in omega arith
+
 add-x : tie.Need-add-x Inv-loop μ-loop
 add-x c = search needs
 
--- src/nodes.rt:46:5
 loop-less : tie.Need-loop-less Inv-loop μ-loop
 loop-less c = search needs
 
--- src/nodes.rt:46:5
 loop-again : tie.Need-loop-again Inv-loop μ-loop
 loop-again c =
-    let l = c .before .before .loop in
-    let ws = now (c .before .before .before .before .args .words) in
-    (search needs, all-more (λ k. all k (λ j. not (eqb (bits 0 24 (keyAt ws j)) (bits 0 24 (keyAt ws k))))) (l .x) _ _ (l .inv .1) (c .key-is-new .ensures))
+    let l = c .before .before .before .before .loop in
+    let ws = now (c .before .before .before .before .before .before .args .words) in (
+      search needs,
+      search needs,
+      all-more (isNew ws) (l .x) true true (l .inv .2) (sym (not-false (c .before .marked-is-new .result) (c .if1 .left)) ∙ c .before .marked-is-new .ensures),
+      rw (c .before .before .mark .ensures) (marked-more (l .met) ws (l .x) (l .inv .1) (l .inv .3)),
+    )
 
--- src/nodes.rt:41:1
-returns : tie.Need-returns Inv-loop μ-loop
-returns c =
+returns-2 : tie.Need-returns-2 Inv-loop μ-loop
+returns-2 c =
     let l = c .before .loop in
     let a = c .before .before .before .args in
     let e : l .x ≡ a .n = omega arith in
-    (rw e at (l .inv .1)) ∙ keys-tests (now (a .words)) (a .n) (c .before .before .before .pre .2)
+    (rw e at (l .inv .2)) ∙ keys-tests (now (a .words)) (a .n) (c .before .before .before .pre .2)
 
 pub keys-differ-spec : {M : Type 1} → statement M
 keys-differ-spec =
     tie.close
-    (tie.spec Inv-loop μ-loop loop-holds key-is-new-requires add-x loop-less loop-again returns)
+    (tie.spec
+    Inv-loop
+    μ-loop
+    loop-holds
+    mark-requires
+    array-read-marked-is-new
+    marked-is-new-requires
+    returns
+    array-write-met
+    add-x
+    loop-less
+    loop-again
+    returns-2)

@@ -1,22 +1,18 @@
-use Rattle.validity.proofs.NodeTests.{key-word, clock-word, nodes-tests}
-use Rattle.validity.proofs.Gather.{or-more, above}
+use mathlib.Core.Path.{ap₂, _∙_, _≡_, refl}
+use Prim.Native.Nat.{_-_, _≤_, _/_, _^_}
+use native.Mathlib.Omega.{arith}
 use mathlib.Core.Bool.{_&&_}
-use mathlib.Core.Path.{ap₂, _∙_}
+use lib.Dec.{eqb}
 use denote.Ref.{now}
-use Rattle.validity.specs.Regions.{keyAt, clockAt, nodesRead}
+use borrow.Author.Needs.{needs}
 use Rattle.model.specs.Words.{keyWord, clockWord}
 use Rattle.model.specs.Sets.{all}
 use Rattle.model.specs.Fields.{bits, flag}
-use native.Mathlib.Omega.{arith}
-use lib.Dec.{eqb}
-use mathlib.Core.Path.{_≡_, refl}
-use Prim.Native.Nat.{_-_, _≤_, _/_, _^_}
-use borrow.Author.Needs.{needs}
+use Rattle.validity.specs.Regions.{keyAt, clockAt}
+use Rattle.validity.proofs.NodeTests.{key-word, clock-word, nodes-tests}
+use Rattle.validity.proofs.Gather.{or-more, above}
 use Rattle.validity.proofs.nodes.nodes_read.Statement.{statement}
 use Rattle.validity.proofs.nodes.nodes_read.Tie as tie
-use Rattle.validity.proofs.nodes.nodes_read.Reads as reads
-use Rattle.validity.proofs.nodes.nodes_read.Lts as lts
-use Rattle.validity.proofs.clear.clear.Reads as clear-reads
 
 abbrev Inv-loop : tie.InvT-loop
 Inv-loop words n keys₀ clocks₀ s₀ keys clocks s =
@@ -27,48 +23,37 @@ Inv-loop words n keys₀ clocks₀ s₀ keys clocks s =
 abbrev μ-loop : tie.MeasureT-loop
 μ-loop words n keys₀ clocks₀ s₀ keys clocks s = n - s
 
--- src/nodes.rt:20:5
 loop-holds : tie.Need-loop-holds Inv-loop μ-loop
 unfolding all
 loop-holds c = (search needs, refl, refl)
 
--- src/nodes.rt:21:22
 mul-at : tie.Need-mul-at Inv-loop μ-loop
 mul-at c = search needs
 
--- src/nodes.rt:21:18
 add-at : tie.Need-add-at Inv-loop μ-loop
 add-at c = search needs
 
--- src/nodes.rt:22:24
 mul-keys : tie.Need-mul-keys Inv-loop μ-loop
 mul-keys c = search needs
 
--- src/nodes.rt:22:24
 shared-slice-read-keys : tie.Need-shared-slice-read-keys Inv-loop μ-loop
 shared-slice-read-keys c = search needs
 
--- src/nodes.rt:23:34
 add-clocks : tie.Need-add-clocks Inv-loop μ-loop
 add-clocks c = search needs
 
--- src/nodes.rt:23:28
 mul-clocks : tie.Need-mul-clocks Inv-loop μ-loop
 mul-clocks c = search needs
 
--- src/nodes.rt:23:28
 shared-slice-read-clocks : tie.Need-shared-slice-read-clocks Inv-loop μ-loop
 shared-slice-read-clocks c = search needs
 
--- src/nodes.rt:20:9
 add-s : tie.Need-add-s Inv-loop μ-loop
 add-s c = search needs
 
--- src/nodes.rt:20:5
 loop-less : tie.Need-loop-less Inv-loop μ-loop
 loop-less c = search needs
 
--- src/nodes.rt:20:5
 loop-again : tie.Need-loop-again Inv-loop μ-loop
 loop-again c =
     let l = c .before .before .before .loop in
@@ -78,19 +63,15 @@ loop-again c =
       or-more (λ w. w / 2 ^ 24) (above 24) (λ i. eqb (clockAt ws i) (clockWord (bits 0 24 (clockAt ws i)))) (l .s) (l .clocks) _ (l .inv .2) (clock-word (clockAt ws (l .s))),
     )
 
--- src/nodes.rt:25:64
 mul-clear : tie.Need-mul-clear Inv-loop μ-loop
 mul-clear c = search needs
 
--- src/nodes.rt:25:60
 add-clear : tie.Need-add-clear Inv-loop μ-loop
 add-clear c = search needs
 
--- src/nodes.rt:25:47
 clear-requires : tie.Need-clear-requires Inv-loop μ-loop
 clear-requires c κs = search needs
 
--- src/nodes.rt:14:1
 returns : tie.Need-returns Inv-loop μ-loop
 returns c =
     let l = c .before .before .loop in

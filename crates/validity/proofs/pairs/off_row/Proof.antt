@@ -1,19 +1,17 @@
-use Rattle.validity.proofs.PairTests.{table-apart}
-use Rattle.validity.proofs.Gather.{or-more}
+use mathlib.Core.Path.{_≡_, refl, ap, ap₂}
+use Prim.Native.Nat.{_-_, _≤_}
+use native.Mathlib.Omega.{arith}
+use mathlib.Core.Bool.{_&&_}
+use lib.Dec.{eqb}
+use denote.Ref.{now}
+use borrow.Author.Needs.{needs}
+use Rattle.model.specs.Sets.{all}
 use Rattle.validity.specs.Rows.{noLink, noSpare, apart, noLinks, noSpares}
 use Rattle.validity.specs.Regions.{linkAt, spareAt}
-use Rattle.model.specs.Sets.{all}
-use denote.Ref.{now}
-use native.Mathlib.Omega.{arith}
-use lib.Dec.{eqb}
-use mathlib.Core.Bool.{_&&_}
-use mathlib.Core.Path.{_≡_, refl, ap, ap₂, sym, _∙_}
-use Prim.Native.Nat.{_-_, _≤_}
-use borrow.Author.Needs.{needs}
+use Rattle.validity.proofs.PairTests.{table-apart}
+use Rattle.validity.proofs.Gather.{or-more}
 use Rattle.validity.proofs.pairs.off_row.Statement.{statement}
 use Rattle.validity.proofs.pairs.off_row.Tie as tie
-use Rattle.validity.proofs.pairs.off_row.Reads as reads
-use Rattle.validity.proofs.pairs.off_row.Lts as lts
 
 abbrev Inv-loop : tie.InvT-loop
 Inv-loop words links spares x n link₀ spare₀ z₀ link spare z = (z ≤ n) × (eqb link 0 ≡ noLinks words z x) × (eqb spare 0 ≡ noSpares words z x)
@@ -21,88 +19,67 @@ Inv-loop words links spares x n link₀ spare₀ z₀ link spare z = (z ≤ n) �
 abbrev μ-loop : tie.MeasureT-loop
 μ-loop words links spares x n link₀ spare₀ z₀ link spare z = n - z
 
--- src/pairs.rt:59:5
 loop-holds : tie.Need-loop-holds Inv-loop μ-loop
 unfolding all
 loop-holds c = (search needs, refl, refl)
 
--- src/pairs.rt:60:29
 mul-at : tie.Need-mul-at Inv-loop μ-loop
 mul-at c = search needs
 
--- src/pairs.rt:60:29
 add-at : tie.Need-add-at Inv-loop μ-loop
 add-at c = search needs
 
--- src/pairs.rt:60:24
 mul-at-2 : tie.Need-mul-at-2 Inv-loop μ-loop
 mul-at-2 c = search needs
 
--- src/pairs.rt:60:18
 add-at-2 : tie.Need-add-at-2 Inv-loop μ-loop
 add-at-2 c = search needs
 
--- src/pairs.rt:61:24
 mul-link : tie.Need-mul-link Inv-loop μ-loop
 mul-link c = search needs
 
--- src/pairs.rt:61:24
 shared-slice-read-link : tie.Need-shared-slice-read-link Inv-loop μ-loop
 shared-slice-read-link c = search needs
 
--- src/pairs.rt:61:42
 sub-link : tie.Need-sub-link Inv-loop μ-loop
 sub-link c = search needs
 
--- src/pairs.rt:61:42
 add-link : tie.Need-add-link Inv-loop μ-loop
 add-link c = search needs
 
--- src/pairs.rt:61:36
 mul-link-2 : tie.Need-mul-link-2 Inv-loop μ-loop
 mul-link-2 c = search needs
 
--- src/pairs.rt:61:36
 element-copy-out-link : tie.Need-element-copy-out-link Inv-loop μ-loop
 element-copy-out-link c = search needs
 
--- src/pairs.rt:62:32
 add-spare : tie.Need-add-spare Inv-loop μ-loop
 add-spare c = search needs
 
--- src/pairs.rt:62:26
 mul-spare : tie.Need-mul-spare Inv-loop μ-loop
 mul-spare c = search needs
 
--- src/pairs.rt:62:26
 shared-slice-read-spare : tie.Need-shared-slice-read-spare Inv-loop μ-loop
 shared-slice-read-spare c = search needs
 
--- src/pairs.rt:62:49
 sub-spare : tie.Need-sub-spare Inv-loop μ-loop
 sub-spare c = search needs
 
--- src/pairs.rt:62:49
 add-spare-2 : tie.Need-add-spare-2 Inv-loop μ-loop
 add-spare-2 c = search needs
 
--- src/pairs.rt:62:42
 mul-spare-2 : tie.Need-mul-spare-2 Inv-loop μ-loop
 mul-spare-2 c = search needs
 
--- src/pairs.rt:62:42
 element-copy-out-spare : tie.Need-element-copy-out-spare Inv-loop μ-loop
 element-copy-out-spare c = search needs
 
--- src/pairs.rt:59:9
 add-z : tie.Need-add-z Inv-loop μ-loop
 add-z c = search needs
 
--- src/pairs.rt:59:5
 loop-less : tie.Need-loop-less Inv-loop μ-loop
 loop-less c = search needs
 
--- src/pairs.rt:59:5
 loop-again : tie.Need-loop-again Inv-loop μ-loop
 loop-again c =
     let l = c .before .before .before .before .before .loop in
@@ -111,12 +88,11 @@ loop-again c =
     let ws = now (a .words) in (
       search needs,
       or-more (λ w. w) (λ v w. refl) (λ z. eqb (apart noLink (a .x) z (linkAt ws (a .x) z)) 0) (l .z) (l .link) _ (l .inv .1)
-          (ap (λ v. eqb v 0) (table-apart noLink (a .x) (l .z) (linkAt ws (a .x) (l .z)) _ (omega arith) (omega arith) (p .3))),
+          (ap (λ v. eqb v 0) (table-apart noLink (a .x) (l .z) (linkAt ws (a .x) (l .z)) _ (omega arith) (omega arith) (p .link-table))),
       or-more (λ w. w) (λ v w. refl) (λ z. eqb (apart noSpare (a .x) z (spareAt ws (a .x) z)) 0) (l .z) (l .spare) _ (l .inv .2)
-          (ap (λ v. eqb v 0) (table-apart noSpare (a .x) (l .z) (spareAt ws (a .x) (l .z)) _ (omega arith) (omega arith) (p .4))),
+          (ap (λ v. eqb v 0) (table-apart noSpare (a .x) (l .z) (spareAt ws (a .x) (l .z)) _ (omega arith) (omega arith) (p .spare-table))),
     )
 
--- src/pairs.rt:53:1
 returns : tie.Need-returns Inv-loop μ-loop
 returns c =
     let l = c .before .loop in

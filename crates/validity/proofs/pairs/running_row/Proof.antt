@@ -1,22 +1,17 @@
-use Prim.Native.Nat.{ℕ}
-use Rattle.validity.proofs.PairTests.{table-apart, lift, wrapped, is-wrapped, links-tests}
-use Rattle.validity.proofs.Gather.{or-more, above, bit-at}
+use mathlib.Core.Path.{_≡_, refl, ap, ap₂, _∙_}
+use Prim.Native.Nat.{ℕ, _-_, _≤_, _/_, _%_, _^_}
+use native.Mathlib.Omega.{arith}
+use mathlib.Core.Bool.{_&&_}
+use lib.Dec.{eqb}
+use denote.Ref.{now}
+use borrow.Author.Needs.{needs}
+use Rattle.model.specs.Sets.{all}
 use Rattle.validity.specs.Rows.{noLink, noSpare, apart, noSpares}
 use Rattle.validity.specs.Regions.{linkAt, spareAt}
-use Rattle.model.specs.Sets.{all}
-use denote.Ref.{now}
-use native.Mathlib.Omega.{arith}
-use lib.Dec.{eqb}
-use mathlib.Core.Bool.{_&&_}
-use mathlib.Core.Path.{_≡_, refl, ap, ap₂, sym, _∙_}
-use Prim.Native.Nat.{_-_, _≤_, _/_, _%_, _^_}
-use borrow.Author.Needs.{needs}
+use Rattle.validity.proofs.PairTests.{table-apart, lift, wrapped, is-wrapped, links-tests}
+use Rattle.validity.proofs.Gather.{or-more, above, bit-at}
 use Rattle.validity.proofs.pairs.running_row.Statement.{statement}
 use Rattle.validity.proofs.pairs.running_row.Tie as tie
-use Rattle.validity.proofs.pairs.running_row.Reads as reads
-use Rattle.validity.proofs.pairs.running_row.Lts as lts
-use Rattle.std.proofs.num.wrapping_sub_u32.Reads as wrapping-sub-u32-reads
-use Rattle.validity.proofs.pairs.lifted.Reads as lifted-reads
 
 abbrev Inv-loop : tie.InvT-loop
 Inv-loop words links spares x n most link₀ late₀ spare₀ z₀ link late spare z =
@@ -29,120 +24,91 @@ Inv-loop words links spares x n most link₀ late₀ spare₀ z₀ link late spa
 abbrev μ-loop : tie.MeasureT-loop
 μ-loop words links spares x n most link₀ late₀ spare₀ z₀ link late spare z = n - z
 
--- src/pairs.rt:35:39
 mul-most : tie.Need-mul-most Inv-loop μ-loop
 mul-most c = search needs
 
--- src/pairs.rt:35:35
 add-most : tie.Need-add-most Inv-loop μ-loop
 add-most c = search needs
 
--- src/pairs.rt:35:35
 add-most-2 : tie.Need-add-most-2 Inv-loop μ-loop
 add-most-2 c = search needs
 
--- src/pairs.rt:35:29
 mul-most-2 : tie.Need-mul-most-2 Inv-loop μ-loop
 mul-most-2 c = search needs
 
--- src/pairs.rt:35:29
 shared-slice-read-most : tie.Need-shared-slice-read-most Inv-loop μ-loop
 shared-slice-read-most c = search needs
 
--- src/pairs.rt:35:16
 add-most-3 : tie.Need-add-most-3 Inv-loop μ-loop
 add-most-3 c = search needs
 
--- src/pairs.rt:39:5
 loop-holds : tie.Need-loop-holds Inv-loop μ-loop
 unfolding all
 loop-holds c = (search needs, refl, refl, refl, refl)
 
--- src/pairs.rt:40:29
 mul-at : tie.Need-mul-at Inv-loop μ-loop
 mul-at c = search needs
 
--- src/pairs.rt:40:29
 add-at : tie.Need-add-at Inv-loop μ-loop
 add-at c = search needs
 
--- src/pairs.rt:40:24
 mul-at-2 : tie.Need-mul-at-2 Inv-loop μ-loop
 mul-at-2 c = search needs
 
--- src/pairs.rt:40:18
 add-at-2 : tie.Need-add-at-2 Inv-loop μ-loop
 add-at-2 c = search needs
 
--- src/pairs.rt:41:24
 mul-lifted : tie.Need-mul-lifted Inv-loop μ-loop
 mul-lifted c = search needs
 
--- src/pairs.rt:41:24
 shared-slice-read-lifted : tie.Need-shared-slice-read-lifted Inv-loop μ-loop
 shared-slice-read-lifted c = search needs
 
--- src/pairs.rt:41:42
 sub-lifted : tie.Need-sub-lifted Inv-loop μ-loop
 sub-lifted c = search needs
 
--- src/pairs.rt:41:42
 add-lifted : tie.Need-add-lifted Inv-loop μ-loop
 add-lifted c = search needs
 
--- src/pairs.rt:41:36
 mul-lifted-2 : tie.Need-mul-lifted-2 Inv-loop μ-loop
 mul-lifted-2 c = search needs
 
--- src/pairs.rt:41:36
 element-copy-out-lifted : tie.Need-element-copy-out-lifted Inv-loop μ-loop
 element-copy-out-lifted c = search needs
 
--- src/pairs.rt:41:13
 lifted-requires : tie.Need-lifted-requires Inv-loop μ-loop
 lifted-requires c κs = search needs
 
--- src/pairs.rt:43:23
 wrapping-sub-u32-requires : tie.Need-wrapping-sub-u32-requires Inv-loop μ-loop
 wrapping-sub-u32-requires c κs = search needs
 
--- src/pairs.rt:44:32
 add-spare : tie.Need-add-spare Inv-loop μ-loop
 add-spare c = search needs
 
--- src/pairs.rt:44:26
 mul-spare : tie.Need-mul-spare Inv-loop μ-loop
 mul-spare c = search needs
 
--- src/pairs.rt:44:26
 shared-slice-read-spare : tie.Need-shared-slice-read-spare Inv-loop μ-loop
 shared-slice-read-spare c = search needs
 
--- src/pairs.rt:44:49
 sub-spare : tie.Need-sub-spare Inv-loop μ-loop
 sub-spare c = search needs
 
--- src/pairs.rt:44:49
 add-spare-2 : tie.Need-add-spare-2 Inv-loop μ-loop
 add-spare-2 c = search needs
 
--- src/pairs.rt:44:42
 mul-spare-2 : tie.Need-mul-spare-2 Inv-loop μ-loop
 mul-spare-2 c = search needs
 
--- src/pairs.rt:44:42
 element-copy-out-spare : tie.Need-element-copy-out-spare Inv-loop μ-loop
 element-copy-out-spare c = search needs
 
--- src/pairs.rt:39:9
 add-z : tie.Need-add-z Inv-loop μ-loop
 add-z c = search needs
 
--- src/pairs.rt:39:5
 loop-less : tie.Need-loop-less Inv-loop μ-loop
 loop-less c = search needs
 
--- src/pairs.rt:39:5
 loop-again : tie.Need-loop-again Inv-loop μ-loop
 loop-again c =
     let l = c .before .before .before .before .before .before .before .loop in
@@ -151,7 +117,7 @@ loop-again c =
     let ws = now (a .words) in
     let A = c .before .before .before .lifted .result in
     let L : A ≡ lift (apart noLink (a .x) (l .z) (linkAt ws (a .x) (l .z))) =
-    c .before .before .before .lifted .ensures ∙ ap lift (table-apart noLink (a .x) (l .z) (linkAt ws (a .x) (l .z)) _ (omega arith) (omega arith) (p .3)) in (
+    c .before .before .before .lifted .ensures ∙ ap lift (table-apart noLink (a .x) (l .z) (linkAt ws (a .x) (l .z)) _ (omega arith) (omega arith) (p .link-table)) in (
       search needs,
       or-more (λ w. w / 2 ^ 26) (above 26) (λ k. eqb (lift (apart noLink (a .x) k (linkAt ws (a .x) k)) / 2 ^ 26) 0) (l .z) (l .link) A (l .inv .1)
           (ap (λ (v : ℕ). eqb (v / 2 ^ 26) 0) L),
@@ -160,16 +126,15 @@ loop-again c =
       or-more (λ w. w / 2 ^ 31) (above 31) (λ k. eqb (wrapped _ (lift (apart noLink (a .x) k (linkAt ws (a .x) k))) / 2 ^ 31) 0) (l .z) (l .late) (c .before .before .wrapping-sub-u32 .result) (l .inv .3)
           (ap (λ (v : ℕ). eqb (v / 2 ^ 31) 0) (is-wrapped _ A (c .before .before .wrapping-sub-u32 .result) (omega arith) (omega arith) (c .before .before .wrapping-sub-u32 .ensures) ∙ ap (wrapped _) L)),
       or-more (λ w. w) (λ v w. refl) (λ k. eqb (apart noSpare (a .x) k (spareAt ws (a .x) k)) 0) (l .z) (l .spare) _ (l .inv .4)
-          (ap (λ v. eqb v 0) (table-apart noSpare (a .x) (l .z) (spareAt ws (a .x) (l .z)) _ (omega arith) (omega arith) (p .4))),
+          (ap (λ v. eqb v 0) (table-apart noSpare (a .x) (l .z) (spareAt ws (a .x) (l .z)) _ (omega arith) (omega arith) (p .spare-table))),
     )
 
--- src/pairs.rt:31:1
 returns : tie.Need-returns Inv-loop μ-loop
 returns c =
     let l = c .before .loop in
     let a = c .before .before .before .before .args in
     let e : l .z ≡ a .n = omega arith in (
-      ap₂ _&&_ (ap₂ _&&_ (rw e at (l .inv .1)) (rw e at (l .inv .2))) (rw e at (l .inv .3)) ∙ links-tests (now (a .words)) (a .n) (a .x) (c .before .before .before .before .pre .1) (c .before .before .before .before .pre .2) _ refl,
+      ap₂ _&&_ (ap₂ _&&_ (rw e at (l .inv .1)) (rw e at (l .inv .2))) (rw e at (l .inv .3)) ∙ links-tests (now (a .words)) (a .n) (a .x) (c .before .before .before .before .pre .few) (c .before .before .before .before .pre .node) _ refl,
       rw e at (l .inv .4),
     )
 

@@ -1,103 +1,94 @@
-use Rattle.validity.proofs.Gather.{all-more}
-use Rattle.validity.specs.Rows.{sparesFit}
-use Rattle.validity.specs.Regions.{linkAt, spareAt, spareReads}
-use Rattle.model.specs.Sets.{all}
-use denote.Ref.{now}
-use native.Mathlib.Omega.{arith}
-use lib.Dec.{eqb}
-use mathlib.Core.Bool.{Bool, _||_}
-use mathlib.Core.Path.{_≡_, refl, ap}
+use mathlib.Core.Path.{_≡_, refl, ap, _∙_}
 use Prim.Native.Nat.{_-_, _≤_}
+use native.Mathlib.Omega.{arith}
+use denote.Ref.{now}
 use borrow.Author.Needs.{needs}
+use Rattle.model.specs.Fields.{flag}
+use Rattle.model.specs.Sets.{all}
+use Rattle.validity.specs.Rows.{noSpare, apart, spareFits}
+use Rattle.validity.specs.Regions.{linkAt, spareAt}
+use Rattle.validity.proofs.PairTests.{table-apart}
+use Rattle.validity.proofs.Gather.{all-more}
 use Rattle.validity.proofs.pairs.spares_fit.Statement.{statement}
 use Rattle.validity.proofs.pairs.spares_fit.Tie as tie
-use Rattle.validity.proofs.pairs.spares_fit.Reads as reads
-use Rattle.validity.proofs.pairs.spares_fit.Lts as lts
-use Rattle.validity.proofs.pairs.spare_reads.Reads as spare-reads-reads
 
 abbrev Inv-loop : tie.InvT-loop
-Inv-loop words x n ok₀ z₀ ok z = (z ≤ n) × (ok ≡ all z (λ k. eqb x k || spareReads n x k (linkAt words x k) (spareAt words x k)))
+Inv-loop words spares x n ok₀ z₀ ok z = (z ≤ n) × (ok ≡ all z (λ k. spareFits n x k (flag 24 (linkAt words x k)) (apart noSpare x k (spareAt words x k))))
 
 abbrev μ-loop : tie.MeasureT-loop
-μ-loop words x n ok₀ z₀ ok z = n - z
+μ-loop words spares x n ok₀ z₀ ok z = n - z
 
--- src/pairs.rt:83:5
 loop-holds : tie.Need-loop-holds Inv-loop μ-loop
 unfolding all
 loop-holds c = (search needs, refl)
 
--- src/pairs.rt:84:29
 mul-at : tie.Need-mul-at Inv-loop μ-loop
 mul-at c = search needs
 
--- src/pairs.rt:84:29
 add-at : tie.Need-add-at Inv-loop μ-loop
 add-at c = search needs
 
--- src/pairs.rt:84:24
 mul-at-2 : tie.Need-mul-at-2 Inv-loop μ-loop
 mul-at-2 c = search needs
 
--- src/pairs.rt:84:18
 add-at-2 : tie.Need-add-at-2 Inv-loop μ-loop
 add-at-2 c = search needs
 
--- src/pairs.rt:85:43
-mul-spare-reads : tie.Need-mul-spare-reads Inv-loop μ-loop
-mul-spare-reads c = search needs
+add-u : tie.Need-add-u Inv-loop μ-loop
+add-u c = search needs
 
--- src/pairs.rt:85:43
-shared-slice-read-spare-reads : tie.Need-shared-slice-read-spare-reads Inv-loop μ-loop
-shared-slice-read-spare-reads c = search needs
+mul-u : tie.Need-mul-u Inv-loop μ-loop
+mul-u c = search needs
 
--- src/pairs.rt:85:60
-add-spare-reads : tie.Need-add-spare-reads Inv-loop μ-loop
-add-spare-reads c = search needs
+shared-slice-read-u : tie.Need-shared-slice-read-u Inv-loop μ-loop
+shared-slice-read-u c = search needs
 
--- src/pairs.rt:85:54
-mul-spare-reads-2 : tie.Need-mul-spare-reads-2 Inv-loop μ-loop
-mul-spare-reads-2 c = search needs
+sub-u : tie.Need-sub-u Inv-loop μ-loop
+sub-u c = search needs
 
--- src/pairs.rt:85:54
-shared-slice-read-spare-reads-2 : tie.Need-shared-slice-read-spare-reads-2 Inv-loop μ-loop
-shared-slice-read-spare-reads-2 c = search needs
+add-u-2 : tie.Need-add-u-2 Inv-loop μ-loop
+add-u-2 c = search needs
 
--- src/pairs.rt:85:69
-cast-spare-reads : tie.Need-cast-spare-reads Inv-loop μ-loop
-cast-spare-reads c = search needs
+mul-u-2 : tie.Need-mul-u-2 Inv-loop μ-loop
+mul-u-2 c = search needs
 
--- src/pairs.rt:85:79
-cast-spare-reads-2 : tie.Need-cast-spare-reads-2 Inv-loop μ-loop
-cast-spare-reads-2 c = search needs
+element-copy-out-u : tie.Need-element-copy-out-u Inv-loop μ-loop
+element-copy-out-u c = search needs
 
--- src/pairs.rt:85:89
-cast-spare-reads-3 : tie.Need-cast-spare-reads-3 Inv-loop μ-loop
-cast-spare-reads-3 c = search needs
+mul-spare-fits : tie.Need-mul-spare-fits Inv-loop μ-loop
+mul-spare-fits c = search needs
 
--- src/pairs.rt:85:31
-spare-reads-requires : tie.Need-spare-reads-requires Inv-loop μ-loop
-spare-reads-requires c κs = search needs
+shared-slice-read-spare-fits : tie.Need-shared-slice-read-spare-fits Inv-loop μ-loop
+shared-slice-read-spare-fits c = search needs
 
--- src/pairs.rt:83:9
+cast-spare-fits : tie.Need-cast-spare-fits Inv-loop μ-loop
+cast-spare-fits c = search needs
+
+cast-spare-fits-2 : tie.Need-cast-spare-fits-2 Inv-loop μ-loop
+cast-spare-fits-2 c = search needs
+
+cast-spare-fits-3 : tie.Need-cast-spare-fits-3 Inv-loop μ-loop
+cast-spare-fits-3 c = search needs
+
+spare-fits-requires : tie.Need-spare-fits-requires Inv-loop μ-loop
+spare-fits-requires c κs = search needs
+
 add-z : tie.Need-add-z Inv-loop μ-loop
 add-z c = search needs
 
--- src/pairs.rt:83:5
 loop-less : tie.Need-loop-less Inv-loop μ-loop
 loop-less c = search needs
 
--- src/pairs.rt:83:5
 loop-again : tie.Need-loop-again Inv-loop μ-loop
 loop-again c =
-    let l = c .before .before .before .before .loop in
-    let a = c .before .before .before .before .before .before .args in
+    let l = c .before .before .before .before .before .loop in
+    let a = c .before .before .before .before .before .before .before .args in
     let ws = now (a .words) in (
       search needs,
-      all-more (λ k. eqb (a .x) k || spareReads (a .n) (a .x) k (linkAt ws (a .x) k) (spareAt ws (a .x) k)) (l .z) _ _ (l .inv .1)
-          (ap (λ (b : Bool). eqb (a .x) (l .z) || b) (c .spare-reads .ensures)),
+      all-more (λ k. spareFits (a .n) (a .x) k (flag 24 (linkAt ws (a .x) k)) (apart noSpare (a .x) k (spareAt ws (a .x) k))) (l .z) _ _ (l .inv .1)
+          (c .spare-fits .ensures ∙ ap (spareFits (a .n) (a .x) (l .z) (flag 24 (linkAt ws (a .x) (l .z)))) (table-apart noSpare (a .x) (l .z) (spareAt ws (a .x) (l .z)) _ (omega arith) (omega arith) (c .before .before .before .before .before .before .before .pre .3))),
     )
 
--- src/pairs.rt:78:1
 returns : tie.Need-returns Inv-loop μ-loop
 returns c =
     let l = c .before .loop in
@@ -115,15 +106,19 @@ spares-fit-spec =
     add-at
     mul-at-2
     add-at-2
-    mul-spare-reads
-    shared-slice-read-spare-reads
-    add-spare-reads
-    mul-spare-reads-2
-    shared-slice-read-spare-reads-2
-    cast-spare-reads
-    cast-spare-reads-2
-    cast-spare-reads-3
-    spare-reads-requires
+    add-u
+    mul-u
+    shared-slice-read-u
+    sub-u
+    add-u-2
+    mul-u-2
+    element-copy-out-u
+    mul-spare-fits
+    shared-slice-read-spare-fits
+    cast-spare-fits
+    cast-spare-fits-2
+    cast-spare-fits-3
+    spare-fits-requires
     add-z
     loop-less
     loop-again

@@ -1,0 +1,88 @@
+-- `connection::running` meets its contract.
+use mathlib.Core.Path.{_≡_, sym, ap, _∙_}
+use mathlib.Core.Logic.{⊎-elim}
+use mathlib.Core.Bool.{_&&_}
+use Prim.Native.Nat.{ℕ, _≤_, _-_}
+use native.Mathlib.Omega.{arith}
+use lib.Dec.{ltb}
+use borrow.Author.Needs.{needs}
+use Rattle.model.specs.Sets.{Set, ofBits, with}
+use Rattle.model.specs.Leafset.{size}
+use Rattle.model.specs.Fields.{flag}
+use Rattle.model.specs.Words.{at, nodePlace, decodeTable, decodeNode, decode}
+use Rattle.leafset.proofs.Bits.{of-none}
+use Rattle.connection.proofs.UpTo.{upTo, up-to-none, up-to-kept, up-to-passed}
+use Rattle.connection.proofs.running.Statement.{statement}
+use Rattle.connection.proofs.running.Tie as tie
+
+abbrev Inv-loop : tie.InvT-loop
+Inv-loop words n set₀ x₀ set x = (x ≤ n) × (ofBits set ≡ upTo x (λ y. flag 24 (at words (nodePlace y))))
+
+abbrev μ-loop : tie.MeasureT-loop
+μ-loop words n set₀ x₀ set x = n - x
+
+loop-holds : tie.Need-loop-holds Inv-loop μ-loop
+loop-holds c = (search needs, up-to-none _ of-none)
+
+cast-t7 : tie.Need-cast-t7 Inv-loop μ-loop
+cast-t7 c = search needs
+
+with-requires : tie.Need-with-requires Inv-loop μ-loop
+with-requires c κs = search needs
+
+mul-t10 : tie.Need-mul-t10 Inv-loop μ-loop
+mul-t10 c = search needs
+
+add-t11 : tie.Need-add-t11 Inv-loop μ-loop
+add-t11 c = search needs
+
+mul-t12 : tie.Need-mul-t12 Inv-loop μ-loop
+mul-t12 c = search needs
+
+shared-slice-read-t14 : tie.Need-shared-slice-read-t14 Inv-loop μ-loop
+shared-slice-read-t14 c = search needs
+
+running-requires : tie.Need-running-requires Inv-loop μ-loop
+running-requires c κs = search needs
+
+add-x : tie.Need-add-x Inv-loop μ-loop
+add-x c = search needs
+
+loop-less : tie.Need-loop-less Inv-loop μ-loop
+loop-less c = search needs
+
+loop-again : tie.Need-loop-again Inv-loop μ-loop
+loop-again c =
+    let l = c .before .before .before .before .before .loop in (
+      omega arith,
+      ⊎-elim
+          (λ w. ap ofBits (w .1) ∙ c .before .before .before .with .ensures ∙ ap (λ (S : Set). with S (l .x)) (l .inv .1) ∙ up-to-kept _ (l .x) (sym (c .before .running .ensures) ∙ w .0 .taken))
+          (λ w. ap ofBits (w .1) ∙ l .inv .1 ∙ up-to-passed _ (l .x) (sym (c .before .running .ensures) ∙ w .0 .left))
+          (c .if1 .came),
+    )
+
+returns : tie.Need-returns Inv-loop μ-loop
+unfolding decode decodeNode
+returns c =
+    let l = c .before .loop in
+    let e : l .x ≡ size (decodeTable (c .before .before .before .args .words .now)) = omega arith in
+    λ y. ap (λ (S : Set). S y) (l .inv .1) ∙ ap (λ (k : ℕ). ltb y k && flag 24 (at (c .before .before .before .args .words .now) (nodePlace y))) e
+
+pub running-spec : {M : Type 1} → statement M
+running-spec =
+    tie.close
+    (tie.spec
+    Inv-loop
+    μ-loop
+    loop-holds
+    cast-t7
+    with-requires
+    mul-t10
+    add-t11
+    mul-t12
+    shared-slice-read-t14
+    running-requires
+    add-x
+    loop-less
+    loop-again
+    returns)

@@ -1,0 +1,4 @@
+pub mod Changes
+pub mod Bits
+pub mod Steps
+pub mod WellFormed

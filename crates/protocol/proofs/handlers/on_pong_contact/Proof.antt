@@ -1,0 +1,18 @@
+-- `protocol::handlers::on_pong_contact` meets its contract.
+use borrow.Author.Needs.{needs}
+use Rattle.model.specs.Steps as steps
+use Rattle.protocol.proofs.handlers.on_pong_contact.Statement.{statement}
+use Rattle.protocol.proofs.handlers.on_pong_contact.Tie as tie
+
+hold-requires : tie.Need-hold-requires
+hold-requires c κs = search needs
+
+quiet-requires : tie.Need-quiet-requires
+quiet-requires c κs = search needs
+
+returns : tie.Need-returns
+unfolding steps.onPongContact
+returns c = λ t me n fits low. c .quiet .ensures n _ (c .before .hold .ensures n fits low)
+
+pub on-pong-contact-spec : {M : Type 1} → statement M
+on-pong-contact-spec = tie.close (tie.spec hold-requires quiet-requires returns)

@@ -1,0 +1,31 @@
+-- `protocol::own::hold` meets its contract.
+use mathlib.Core.Path.{sym, _∙_}
+use borrow.Author.Needs.{needs}
+use Rattle.model.specs.Steps as steps
+use Rattle.protocol.proofs.Changes.{unchanged, within-with}
+use Rattle.protocol.proofs.own.hold.Statement.{statement}
+use Rattle.protocol.proofs.own.hold.Tie as tie
+
+has-requires : tie.Need-has-requires
+has-requires c κs = search needs
+
+returns : tie.Need-returns
+unfolding steps.hold
+returns c = λ n fits low. rw (sym (c .before .has .ensures) ∙ c .if1 .taken) (unchanged fits)
+
+with-requires : tie.Need-with-requires
+with-requires c κs = search needs
+
+set-held-requires : tie.Need-set-held-requires
+set-held-requires c κs = search needs
+
+returns-2 : tie.Need-returns-2
+unfolding steps.hold
+returns-2 c =
+    let a = c .before .before .before .before .args in
+    λ n fits low.
+    rw (sym (c .before .before .before .has .ensures) ∙ c .before .before .if1 .left)
+    (rw (c .before .with .ensures) at (c .set-held .ensures n fits (within-with n (a .own .held) _ (fits .held-within) (a .y .0) (c .before .with .ensures) low)))
+
+pub hold-spec : {M : Type 1} → statement M
+hold-spec = tie.close (tie.spec has-requires returns with-requires set-held-requires returns-2)

@@ -1,0 +1,24 @@
+-- `protocol::own::release` meets its contract.
+use mathlib.Core.Bool.{not}
+use lib.Dec.{eqb}
+use borrow.Author.Needs.{needs}
+use Rattle.model.specs.Sets.{ofBits}
+use Rattle.model.specs.Steps as steps
+use Rattle.protocol.proofs.Changes.{within-part}
+use Rattle.protocol.proofs.own.release.Statement.{statement}
+use Rattle.protocol.proofs.own.release.Tie as tie
+
+without-requires : tie.Need-without-requires
+without-requires c κs = search needs
+
+set-held-requires : tie.Need-set-held-requires
+set-held-requires c κs = search needs
+
+returns : tie.Need-returns
+unfolding steps.release
+returns c =
+    let a = c .before .before .args in
+    λ n fits. rw (c .before .without .ensures) at (c .set-held .ensures n fits (within-part n _ (ofBits (a .own .held)) (λ y. not (eqb y (a .z .0))) (fits .held-within) (c .before .without .ensures)))
+
+pub release-spec : {M : Type 1} → statement M
+release-spec = tie.close (tie.spec without-requires set-held-requires returns)

@@ -1,0 +1,36 @@
+-- `protocol::timers::requests` meets its contract.
+use mathlib.Core.Path.{sym, ap, _∙_, fun-ext}
+use mathlib.Core.Bool.{not, _&&_}
+use native.Mathlib.Omega.{arith}
+use lib.Dec.{eqb}
+use borrow.Author.Tests.{eqb-false}
+use borrow.Author.Needs.{needs}
+use Rattle.model.specs.Sets.{Set, ofBits}
+use Rattle.model.specs.Structs.{spareAt}
+use Rattle.model.proofs.Laws.{and-right, not-out}
+use Rattle.protocol.proofs.Changes.{within-part}
+use Rattle.protocol.proofs.timers.requests.Statement.{statement}
+use Rattle.protocol.proofs.timers.requests.Tie as tie
+
+outside-requires : tie.Need-outside-requires
+outside-requires c κs = search needs
+
+spared-requires : tie.Need-spared-requires
+spared-requires c κs = search needs
+
+returns : tie.Need-returns
+returns c =
+    let start = c .before .before .before in
+    let a = start .args in
+    let q = start .pre .0 in
+    let outside = c .before .outside .ensures in
+    λ time. record {
+      set = fun-ext (λ z. c .spared .ensures z ∙ ap (λ (S : Set). S z && not (eqb (spareAt (a .own) z) 64)) outside);
+      within = within-part _ _ (ofBits (c .before .outside .result)) _ (within-part _ _ (ofBits (a .own .held)) _ (q .within) outside) (fun-ext (c .spared .ensures));
+      spare-low = λ z e.
+          let some = eqb-false (spareAt (a .own) z) 64 (not-out (eqb (spareAt (a .own) z) 64) (and-right (ofBits (c .before .outside .result) z) (not (eqb (spareAt (a .own) z) 64)) (sym (c .spared .ensures z) ∙ e))) in
+          omega (arith, start .pre .3 z);
+    }
+
+pub requests-spec : {M : Type 1} → statement M
+requests-spec = tie.close (tie.spec outside-requires spared-requires returns)

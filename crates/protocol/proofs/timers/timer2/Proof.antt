@@ -1,0 +1,23 @@
+-- `protocol::timers::timer2` meets its contract.
+use borrow.Author.Needs.{needs}
+use Rattle.model.specs.Sets.{ofBits}
+use Rattle.model.specs.Steps as steps
+use Rattle.protocol.proofs.Changes.{unchanged, within-part}
+use Rattle.protocol.proofs.Steps.{calls}
+use Rattle.protocol.proofs.timers.timer2.Statement.{statement}
+use Rattle.protocol.proofs.timers.timer2.Tie as tie
+
+outside-requires : tie.Need-outside-requires
+outside-requires c κs = search needs
+
+returns : tie.Need-returns
+unfolding steps.timer2
+returns c =
+    let start = c .before .before in
+    let a = start .args in
+    λ time.
+    calls (a .me .0) 7 _ _ (start .pre .0 .few) (unchanged (start .pre .1)) (c .outside .ensures)
+    (within-part _ _ (ofBits (a .own .held)) _ (start .pre .0 .within) (c .outside .ensures))
+
+pub timer2-spec : {M : Type 1} → statement M
+timer2-spec = tie.close (tie.spec outside-requires returns)

@@ -1,0 +1,44 @@
+// The step of a delivered message.
+ghost use Prim.Native.Nat.{ℕ, _<_, _≤_, _^_};
+ghost use lib.ListN.{length};
+ghost use Rattle.model.specs.Steps as steps;
+ghost use Rattle.model.specs.Structs.{tableOf, ownOf, messageOf};
+ghost use Rattle.leafset.specs.Table.{InTable};
+ghost use Rattle.protocol.specs.Effects.{OwnFits, Replies, Delivered};
+use super::handlers;
+use super::reply::Reply;
+use model::message::MessageRecord;
+use model::node::NodeRecord;
+use model::values::NodeNumber;
+use model::values::Stamp;
+use model::word::MessageWord;
+
+// The step of the message's type; nothing for a number that is no type.
+pub fn deliver(
+    keys: &[u32],
+    leaf: u32,
+    me: NodeNumber,
+    time: Stamp,
+    own: NodeRecord,
+    message: MessageRecord,
+) -> Reply
+    requires { ⌜ InTable (now keys) (me .0) (own .held) × OwnFits (length (now keys)) own × (leaf ≤ 8) × (time .0 < 2 ^ 24) × Delivered (length (now keys)) message ⌝ }
+    ensures { λ r. ⌜ Replies (length (now (keys .entry))) r (steps.deliver (tableOf leaf (now (keys .entry))) (me .0) (time .0) (ownOf own) (messageOf message)) ⌝ }
+{
+    let tag = message.tag;
+    match tag {
+        MessageWord::PING_CONTACT => handlers::on_ping_contact(me, own, message),
+        MessageWord::PONG_CONTACT => handlers::on_pong_contact(time, own, message),
+        MessageWord::PING_ASK_INV => handlers::on_ping_ask_inv(keys, leaf, me, own, message),
+        MessageWord::PONG_ASK_INV => handlers::on_pong_ask_inv(own, message),
+        MessageWord::PING_INVITE => handlers::on_ping_invite(me, own, message),
+        MessageWord::PONG_INVITE => handlers::on_pong_invite(keys, leaf, me, time, own, message),
+        MessageWord::PING_ASK_REPL => handlers::on_ping_ask_repl(keys, leaf, me, own, message),
+        MessageWord::PONG_ASK_REPL => handlers::on_pong_ask_repl(own, message),
+        MessageWord::PING_REPLACE => handlers::on_ping_replace(me, time, own, message),
+        MessageWord::PONG_REPLACE => handlers::on_pong_replace(keys, leaf, me, time, own, message),
+        MessageWord::PING_DELOOPY => handlers::on_ping_deloopy(keys, me, own, message),
+        MessageWord::PONG_DELOOPY => handlers::on_pong_deloopy(own, message),
+        _ => Reply::quiet(own),
+    }
+}

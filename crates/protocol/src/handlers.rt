@@ -1,0 +1,223 @@
+// The steps of a delivered message, by its type.
+ghost use Prim.Native.Nat.{ℕ, _<_, _≤_, _^_};
+ghost use lib.Dec.{ltb};
+ghost use lib.ListN.{length};
+ghost use Rattle.model.specs.Choice.{if_then_else_};
+ghost use Rattle.model.specs.Leafset.{Table};
+ghost use Rattle.model.specs.Steps as steps;
+ghost use Rattle.model.specs.Structs.{tableOf, ownOf, messageOf, stampAt, RoomNode, RoomMessage};
+ghost use Rattle.leafset.specs.Table.{Within, InTable};
+ghost use Rattle.protocol.specs.Effects.{OwnFits, Owns, Replies};
+use super::make::naming;
+use super::make::plain;
+use super::make::stamped;
+use super::make::viewing;
+use super::outside::outside;
+use super::own::add_candidate;
+use super::own::add_candidates;
+use super::own::hold;
+use super::own::release;
+use super::own::set_commit;
+use super::own::set_spare;
+use super::reply::Reply;
+use leafset::leafset::leafset;
+use leafset::nearest::closest;
+use leafset::nearest::passes_zero;
+use leafset::nearest::successor;
+use leafset::sets;
+use model::message::MessageRecord;
+use model::node::NodeRecord;
+use model::values::NodeNumber;
+use model::values::Stamp;
+use model::word::MessageWord;
+
+// On 1: "its receiver answers type 2".
+pub fn on_ping_contact(me: NodeNumber, own: NodeRecord, message: MessageRecord) -> Reply
+    requires { ⌜ (me .0 < 64) × (message .sender .0 < 64) ⌝ }
+    ensures { λ r. ⌜ ((t : Table) (time n : ℕ) → OwnFits n own → Replies n r (steps.onPingContact t (me .0) time (ownOf own) (messageOf message))) ⌝ }
+{
+    Reply::sending(own, plain(MessageWord::PONG_CONTACT, me, message.sender))
+}
+
+// "on type 2, take the sender in"
+pub fn on_pong_contact(time: Stamp, own: NodeRecord, message: MessageRecord) -> Reply
+    requires { ⌜ (time .0 < 2 ^ 24) × (message .sender .0 < 64) × RoomNode own ⌝ }
+    ensures { λ r. ⌜ ((t : Table) (me n : ℕ) → OwnFits n own → message .sender .0 < n → Replies n r (steps.onPongContact t me (time .0) (ownOf own) (messageOf message))) ⌝ }
+{
+    Reply::quiet(hold(own, time, message.sender))
+}
+
+// "On 3: answer type 4 with view = leafset of the sender in my held set; sender becomes a candidate."
+pub fn on_ping_ask_inv(
+    keys: &[u32],
+    leaf: u32,
+    me: NodeNumber,
+    own: NodeRecord,
+    message: MessageRecord,
+) -> Reply
+    requires { ⌜ InTable (now keys) (message .sender .0) (own .held) × OwnFits (length (now keys)) own × (leaf ≤ 8) × (me .0 < 64) ⌝ }
+    ensures { λ r. ⌜ ((time : ℕ) → Replies (length (now (keys .entry))) r (steps.onPingAskInv (tableOf leaf (now (keys .entry))) (me .0) time (ownOf own) (messageOf message))) ⌝ }
+{
+    let view = leafset(keys, leaf, message.sender, own.held);
+    let next = add_candidate(own, message.sender);
+    Reply::sending(
+        next,
+        viewing(MessageWord::PONG_ASK_INV, me, message.sender, view),
+    )
+}
+
+// "On 4: the view joins the candidates."
+pub fn on_pong_ask_inv(own: NodeRecord, message: MessageRecord) -> Reply
+    ensures { λ r. ⌜ ((t : Table) (me time n : ℕ) → OwnFits n own → Within n (message .view) → Replies n r (steps.onPongAskInv t me time (ownOf own) (messageOf message))) ⌝ }
+{
+    Reply::quiet(add_candidates(own, message.view))
+}
+
+// "On 5: answer 6."
+pub fn on_ping_invite(me: NodeNumber, own: NodeRecord, message: MessageRecord) -> Reply
+    requires { ⌜ (me .0 < 64) × (message .sender .0 < 64) ⌝ }
+    ensures { λ r. ⌜ ((t : Table) (time n : ℕ) → OwnFits n own → Replies n r (steps.onPingInvite t (me .0) time (ownOf own) (messageOf message))) ⌝ }
+{
+    Reply::sending(own, plain(MessageWord::PONG_INVITE, me, message.sender))
+}
+
+// "On 6: take the sender in if it lies in my leafset of held plus sender."
+pub fn on_pong_invite(
+    keys: &[u32],
+    leaf: u32,
+    me: NodeNumber,
+    time: Stamp,
+    own: NodeRecord,
+    message: MessageRecord,
+) -> Reply
+    requires { ⌜ InTable (now keys) (me .0) (own .held) × OwnFits (length (now keys)) own × (leaf ≤ 8) × (time .0 < 2 ^ 24) × (message .sender .0 < length (now keys)) ⌝ }
+    ensures { λ r. ⌜ Replies (length (now (keys .entry))) r (steps.onPongInvite (tableOf leaf (now (keys .entry))) (me .0) (time .0) (ownOf own) (messageOf message)) ⌝ }
+{
+    let y = message.sender;
+    let near = leafset(keys, leaf, me, sets::with(own.held, y));
+    if !sets::has(near, y) {
+        return Reply::quiet(own);
+    }
+    Reply::quiet(hold(own, time, y))
+}
+
+// "On 7 from a: answer 8 whose subject is the member of my leafset, other than a, nearest to a and strictly nearer to
+// a than I am; .. else 64."
+pub fn on_ping_ask_repl(
+    keys: &[u32],
+    leaf: u32,
+    me: NodeNumber,
+    own: NodeRecord,
+    message: MessageRecord,
+) -> Reply
+    requires { ⌜ InTable (now keys) (me .0) (own .held) × OwnFits (length (now keys)) own × (leaf ≤ 8) × (message .sender .0 < length (now keys)) ⌝ }
+    ensures { λ r. ⌜ ((time : ℕ) → Replies (length (now (keys .entry))) r (steps.onPingAskRepl (tableOf leaf (now (keys .entry))) (me .0) time (ownOf own) (messageOf message))) ⌝ }
+{
+    let spare = closest(keys, leaf, me, own.held, message.sender);
+    Reply::sending(
+        own,
+        naming(MessageWord::PONG_ASK_REPL, me, message.sender, spare),
+    )
+}
+
+// "On 8: if the sender is held, its spare becomes the subject."
+pub fn on_pong_ask_repl(own: NodeRecord, message: MessageRecord) -> Reply
+    requires { ⌜ RoomNode own × RoomMessage message ⌝ }
+    ensures { λ r. ⌜ ((t : Table) (me time n : ℕ) → OwnFits n own → Replies n r (steps.onPongAskRepl t me time (ownOf own) (messageOf message))) ⌝ }
+{
+    if !sets::has(own.held, message.sender) {
+        return Reply::quiet(own);
+    }
+    Reply::quiet(set_spare(own, message.sender, message.subject))
+}
+
+// "On 9: if z is held, its commit becomes now and I answer 10 with the same subject and stamp."
+pub fn on_ping_replace(
+    me: NodeNumber,
+    time: Stamp,
+    own: NodeRecord,
+    message: MessageRecord,
+) -> Reply
+    requires { ⌜ (me .0 < 64) × (time .0 < 2 ^ 24) × (message .subject .0 < 64) × RoomNode own × RoomMessage message ⌝ }
+    ensures { λ r. ⌜ ((t : Table) (n : ℕ) → OwnFits n own → Replies n r (steps.onPingReplace t (me .0) (time .0) (ownOf own) (messageOf message))) ⌝ }
+{
+    if !sets::has(own.held, message.subject) {
+        return Reply::quiet(own);
+    }
+    let next = set_commit(own, message.subject, time);
+    let answer = stamped(
+        MessageWord::PONG_REPLACE,
+        me,
+        message.sender,
+        message.subject,
+        message.stamp,
+    );
+    Reply::sending(next, answer)
+}
+
+// "take y in; then, if z's commit is below the message's stamp, let go of z and set y's commit to now"
+fn replaced(time: Stamp, own: NodeRecord, y: NodeNumber, z: NodeNumber, stamp: Stamp) -> NodeRecord
+    requires { ⌜ (time .0 < 2 ^ 24) × (y .0 < 64) × (z .0 < 64) × OwnFits 64 own ⌝ }
+    ensures { λ r. ⌜ ((n : ℕ) → OwnFits n own → y .0 < n → Owns n r (if ltb (stampAt own (z .0)) (stamp .0) then steps.setCommit (y .0) (time .0) (steps.release (z .0) (steps.hold (time .0) (y .0) (ownOf own))) else steps.hold (time .0) (y .0) (ownOf own))) ⌝ }
+{
+    let next = hold(own, time, y);
+    let at = z.0 as usize;
+    let commit = own.commit[at];
+    if !commit.is_before(stamp) {
+        return next;
+    }
+    set_commit(release(next, z), y, time)
+}
+
+// "On 10 from y: if z is held, outside my leafset, and its spare is y, .." replaced.
+pub fn on_pong_replace(
+    keys: &[u32],
+    leaf: u32,
+    me: NodeNumber,
+    time: Stamp,
+    own: NodeRecord,
+    message: MessageRecord,
+) -> Reply
+    requires { ⌜ InTable (now keys) (me .0) (own .held) × OwnFits (length (now keys)) own × (leaf ≤ 8) × (time .0 < 2 ^ 24) × (message .sender .0 < length (now keys)) × (message .subject .0 < 64) ⌝ }
+    ensures { λ r. ⌜ Replies (length (now (keys .entry))) r (steps.onPongReplace (tableOf leaf (now (keys .entry))) (me .0) (time .0) (ownOf own) (messageOf message)) ⌝ }
+{
+    let outside = outside(keys, leaf, me, own.held);
+    let at = message.subject.0 as usize;
+    if !(sets::has(outside, message.subject) & (own.spare[at].0 == message.sender.0)) {
+        return Reply::quiet(own);
+    }
+    Reply::quiet(replaced(time, own, message.sender, message.subject, message.stamp))
+}
+
+// "On 11, subject o: nothing if o is me or I hold nobody; if my successor passes zero, o becomes a candidate and I
+// send type 12 to o; else type 11, subject o, to my successor."
+pub fn on_ping_deloopy(
+    keys: &[u32],
+    me: NodeNumber,
+    own: NodeRecord,
+    message: MessageRecord,
+) -> Reply
+    requires { ⌜ InTable (now keys) (me .0) (own .held) × OwnFits (length (now keys)) own × (message .subject .0 < length (now keys)) ⌝ }
+    ensures { λ r. ⌜ ((leaf time : ℕ) → Replies (length (now (keys .entry))) r (steps.onPingDeloopy (tableOf leaf (now (keys .entry))) (me .0) time (ownOf own) (messageOf message))) ⌝ }
+{
+    if (message.subject.0 == me.0) | (own.held == 0) {
+        return Reply::quiet(own);
+    }
+    if passes_zero(keys, me, own.held) {
+        let next = add_candidate(own, message.subject);
+        return Reply::sending(next, plain(MessageWord::PONG_DELOOPY, me, message.subject));
+    }
+    let next = successor(keys, me, own.held);
+    Reply::sending(
+        own,
+        naming(MessageWord::PING_DELOOPY, me, next, message.subject),
+    )
+}
+
+// "On 12: the sender becomes a candidate."
+pub fn on_pong_deloopy(own: NodeRecord, message: MessageRecord) -> Reply
+    requires { ⌜ message .sender .0 < 64 ⌝ }
+    ensures { λ r. ⌜ ((t : Table) (me time n : ℕ) → OwnFits n own → message .sender .0 < n → Replies n r (steps.onPongDeloopy t me time (ownOf own) (messageOf message))) ⌝ }
+{
+    Reply::quiet(add_candidate(own, message.sender))
+}
