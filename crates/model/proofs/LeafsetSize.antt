@@ -4,7 +4,7 @@ use Prim.Native.Nat.{ℕ, zero, suc, _+_, _*_, _≤_, _<_, min, zero-le}
 use native.Mathlib.Nat.{le-of-lt, le-of-eq, add-comm}
 use native.Mathlib.Omega.{arith}
 use native.Mathlib.Decide.{decLt}
-use mathlib.Core.Bool.{Bool, true, false, not, _&&_, _||_}
+use mathlib.Core.Bool.{Bool, true, false, not, _&&_, _||_, and-true, and-false}
 use lib.Dec.{eqb, ltb}
 use lib.Arith.{lt-of-le-ne}
 use borrow.Author.Tests.{ne-eqb, eqb-true, eqb-false, lt-ltb, le-ltb, ltb-true, ltb-false}
@@ -17,14 +17,6 @@ use Rattle.model.specs.Words.{keysDiffer}
 use Rattle.model.proofs.Laws.{clash, and-left, and-right, or-case, not-out, decide, one, all-out, count-add, count-cong, count-none, count-one}
 
 -- ---- tests
-
-and-true : (b : Bool) → (b && true) ≡ b
-and-true true = refl
-and-true false = refl
-
-and-false : (b : Bool) → (b && false) ≡ false
-and-false true = refl
-and-false false = refl
 
 guard : (g k : Bool) → (g ≡ true → k ≡ true) → (g && k) ≡ g
 guard true k h = h refl

@@ -1,0 +1,26 @@
+-- What the events use of words that read as a ring.
+use mathlib.Core.Path.{_≡_}
+use mathlib.Core.Bool.{true}
+use mathlib.Core.List.{List}
+use Prim.Native.Nat.{ℕ, _≤_}
+use lib.ListN.{length}
+use Rattle.model.specs.Leafset.{size}
+use Rattle.model.specs.Words.{ringLength, decodeTable, decodeNode, decode, readsAsRing}
+use Rattle.model.proofs.Words.{reads-out}
+use Rattle.model.proofs.Decoded.{reads-well}
+use Rattle.buffer.proofs.ReadRing.{read-sizes}
+
+module _ (ws : List ℕ) (reads : readsAsRing ws ≡ true) where
+  pub long : length ws ≡ ringLength
+  long = reads-out ws reads .long
+
+  pub few : size (decodeTable ws) ≤ 64
+  unfolding decode
+  few = read-sizes ws reads .nodes-high
+
+  pub room : length (decode ws .messages) ≤ 1024
+  room = read-sizes ws reads .count-high
+
+  pub clock-high : (x : ℕ) → decodeNode ws x .clock ≤ 16777215
+  unfolding decode
+  clock-high x = reads-well ws reads .node-well x .clock-high

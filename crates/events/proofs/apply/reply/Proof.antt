@@ -1,0 +1,61 @@
+use mathlib.Core.Path.{_≡_}
+use mathlib.Core.Bool.{true}
+use Prim.Native.Nat.{ℕ, _+_, _≤_}
+use native.Mathlib.Omega.{arith}
+use lib.ListN.{length-append}
+use borrow.Author.Tests.{not-true, not-false}
+use Rattle.protocol.specs.Effects.{replyEffect}
+use Rattle.events.specs.Applied.{acted}
+use Rattle.events.proofs.Answered.{applied-room, applied-full}
+use Rattle.events.proofs.Acted.{acted-silent, acted-reply}
+use borrow.Author.Needs.{needs}
+use Rattle.events.proofs.apply.reply.Statement.{statement}
+use Rattle.events.proofs.apply.reply.Tie as tie
+
+store-requires : tie.Need-store-requires
+store-requires c κs = search needs
+
+same-length : tie.Need-same-length
+same-length c = search needs
+
+returns : tie.Need-returns
+returns c = λ ρ is now.
+    applied-room (c .before .before .before .before .before .before .before .before .args .words .now) (c .before .before .store .ensures ρ _ is)
+    (acted-silent (c .before .before .before .before .before .before .before .before .args .x .0) (c .before .before .before .before .before .before .before .before .args .time .0) ρ now (c .before .before .before .before .before .before .before .before .args .reply) (not-true _ (c .before .before .before .before .if1 .taken)))
+    (c .before .before .before .before .before .before .before .before .pre .0 .3)
+
+returns-2 : tie.Need-returns-2
+returns-2 c = λ ρ is now.
+    let sends : c .before .before .before .before .before .args .reply .sends ≡ true = not-false _ (c .before .if1 .left) in
+    applied-full (c .before .before .before .before .before .args .words .now) (acted (c .before .before .before .before .before .args .x .0) (replyEffect (c .before .before .before .before .before .args .reply)) ρ)
+    (rw sends (simp length-append (omega (arith, is .count, c .if2 .taken))))
+
+store-requires-2 : tie.Need-store-requires-2
+store-requires-2 c κs = search needs
+
+append-requires : tie.Need-append-requires
+append-requires c κs = (search needs, search needs, c .before .before .before .before .before .before .before .before .before .before .before .pre .1 .1 (not-false _ (c .before .before .before .before .before .before .before .if1 .left)))
+
+same-length-2 : tie.Need-same-length-2
+same-length-2 c = search needs
+
+returns-3 : tie.Need-returns-3
+returns-3 c = λ ρ is now.
+    let m : ℕ = c .before .before .before .before .before .before .before .before .before .before .before .before .before .before .args .m in
+    let low : m + 1 ≤ 1024 = omega arith in
+    applied-room (c .before .before .before .before .before .before .before .before .before .before .before .before .before .before .args .words .now) (c .before .before .append .ensures _ _ (c .before .before .before .before .before .before .store2 .ensures ρ _ is))
+    (acted-reply (c .before .before .before .before .before .before .before .before .before .before .before .before .before .before .args .x .0) (c .before .before .before .before .before .before .before .before .before .before .before .before .before .before .args .time .0) ρ now (c .before .before .before .before .before .before .before .before .before .before .before .before .before .before .args .reply) (not-false _ (c .before .before .before .before .before .before .before .before .before .before .if1 .left)))
+    low
+
+pub reply-spec : {M : Type 1} → statement M
+reply-spec =
+    tie.close
+    (tie.spec
+    store-requires
+    same-length
+    returns
+    returns-2
+    store-requires-2
+    append-requires
+    same-length-2
+    returns-3)

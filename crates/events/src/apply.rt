@@ -1,0 +1,70 @@
+// A step's effect, written over the ring's words; refusal 11 where the messages have no room.
+ghost use mathlib.Core.Path.{_≡_};
+ghost use mathlib.Core.Bool.{true};
+ghost use Prim.Native.Nat.{ℕ, _+_, _^_, _<_, _≤_};
+ghost use lib.ListN.{length};
+ghost use Rattle.model.specs.Ring.{Ring};
+ghost use Rattle.model.specs.Words.{ringLength};
+ghost use Rattle.model.specs.Structs.{RoomNode, RoomMessage};
+ghost use Rattle.buffer.specs.Parts.{Is};
+ghost use Rattle.protocol.specs.Effects.{replyEffect, callsEffect};
+ghost use Rattle.events.specs.Applied.{written, acted, applied};
+use buffer::messages;
+use buffer::node;
+use buffer::sending;
+use leafset::sets;
+use model::answer::Answer;
+use model::values::NodeNumber;
+use model::values::Stamp;
+use protocol::reply::Calls;
+use protocol::reply::Reply;
+
+// Node x, of n, acts at `time` with one message or none, after the m messages.
+pub fn reply(
+    words: &mut [u32],
+    n: usize,
+    m: usize,
+    x: NodeNumber,
+    time: Stamp,
+    reply: Reply,
+) -> Answer
+    requires { ⌜ (length (now words) ≡ ringLength) × (n ≤ 64) × (x .0 < n) × (m ≤ 1024) × (time .0 < 2 ^ 24) ⌝ }
+    requires { ⌜ RoomNode (reply .own) × (reply .sends ≡ true → RoomMessage (reply .message)) ⌝ }
+    ensures { λ r. ⌜ ((ρ : Ring) → Is (now (words .entry)) n m ρ → time .0 ≡ ρ .node (x .0) .clock + 1 → written r (now (words .exit)) ≡ applied (now (words .entry)) (acted (x .0) (replyEffect reply) ρ)) ⌝ }
+{
+    let own = reply.own;
+    if !reply.sends {
+        node::store(words, n, x, time, own);
+        return Answer::Accepted;
+    }
+    if m == 1024 {
+        return Answer::PoolFull;
+    }
+    let message = reply.message;
+    node::store(words, n, x, time, own);
+    messages::append(words, m, message);
+    Answer::Accepted
+}
+
+// Node x, of n, acts at `time` with a message to each node of a set, after the m messages.
+pub fn calls(
+    words: &mut [u32],
+    n: usize,
+    m: usize,
+    x: NodeNumber,
+    time: Stamp,
+    calls: Calls,
+) -> Answer
+    requires { ⌜ (length (now words) ≡ ringLength) × (n ≤ 64) × (x .0 < n) × (m ≤ 1024) × (time .0 < 2 ^ 24) ⌝ }
+    requires { ⌜ RoomNode (calls .own) × (calls .tag < 2 ^ 4) ⌝ }
+    ensures { λ r. ⌜ ((ρ : Ring) → Is (now (words .entry)) n m ρ → time .0 ≡ ρ .node (x .0) .clock + 1 → written r (now (words .exit)) ≡ applied (now (words .entry)) (acted (x .0) (callsEffect (x .0) calls) ρ)) ⌝ }
+{
+    let own = calls.own;
+    let to = calls.to;
+    if 1024 < m + sets::size(to) as usize {
+        return Answer::PoolFull;
+    }
+    node::store(words, n, x, time, own);
+    sending::send_each(words, m, calls.tag, x, to);
+    Answer::Accepted
+}

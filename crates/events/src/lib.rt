@@ -1,0 +1,3 @@
+// The events on words that read as a ring: below the public calls, which see to the words first.
+pub mod apply;
+pub mod state;
