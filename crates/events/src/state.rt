@@ -4,15 +4,13 @@ ghost use mathlib.Core.Bool.{true};
 ghost use Rattle.model.specs.Words.{readsAsRing};
 ghost use Rattle.model.specs.declared.event.Event.the-variants.{On, Off, Lose};
 ghost use Rattle.events.specs.Applied.{written, eventOn};
+use super::acting::LAST;
 use buffer::head;
 use buffer::messages;
 use buffer::node;
 use model::answer::Answer;
 use model::values::NodeNumber;
 use model::values::Stamp;
-
-// The clock's last value.
-const LAST: u32 = 16_777_215;
 
 pub fn on(words: &mut [u32], x: NodeNumber) -> Answer
     requires { ⌜ readsAsRing (now words) ≡ true ⌝ }
