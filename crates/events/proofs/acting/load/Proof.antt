@@ -1,35 +1,53 @@
+use mathlib.Core.Path.{_≡_, refl, sym, ap, _∙_}
+use Prim.Native.Nat.{ℕ, _+_, _<_, _≤_}
+use mathlib.Core.List.{List}
+use native.Mathlib.Omega.{arith}
+use Rattle.model.specs.Leafset.{size}
+use Rattle.model.specs.Words.{decodeTable, decodeNode, decode}
+use Rattle.buffer.proofs.ReadRing.{read-node}
+use Rattle.events.proofs.Valid.{long, few, room, clock-high}
+use Rattle.events.proofs.Actors.{acts-in-table, acts-below-last, loaded-fits, loaded-spare}
+use borrow.Author.Needs.{needs}
 use Rattle.events.proofs.acting.load.Statement.{statement}
 use Rattle.events.proofs.acting.load.Tie as tie
-use Rattle.events.proofs.acting.load.Reads as reads
-use Rattle.events.proofs.acting.load.Lts as lts
-use Rattle.buffer.proofs.head.messages.Reads as messages-reads
-use Rattle.buffer.proofs.head.nodes.Reads as nodes-reads
-use Rattle.buffer.proofs.node.clock.Reads as clock-reads
-use Rattle.buffer.proofs.node.load.Reads as load-reads
 
--- src/acting.rt:48:9
 nodes-requires : tie.Need-nodes-requires
-nodes-requires c κs = ?
+nodes-requires c κs = long (c .before .args .words .now) (c .before .pre .0)
 
--- src/acting.rt:49:9
 messages-requires : tie.Need-messages-requires
-messages-requires c κs = ?
+messages-requires c κs = long (c .before .before .args .words .now) (c .before .before .pre .0)
 
--- src/acting.rt:50:17
 clock-requires : tie.Need-clock-requires
-clock-requires c κs = ?
+clock-requires c κs = (long (c .before .before .before .args .words .now) (c .before .before .before .pre .0), acts-in-table (c .before .before .before .args .words .now) (c .before .before .before .args .x .0) (c .before .before .before .pre .1))
 
--- src/acting.rt:51:9
 load-requires : tie.Need-load-requires
-load-requires c κs = ?
+load-requires c κs = (long (c .before .before .before .before .args .words .now) (c .before .before .before .before .pre .0), c .before .before .nodes .ensures .0, omega (arith, c .before .before .nodes .ensures .0, few (c .before .before .before .before .args .words .now) (c .before .before .before .before .pre .0)), omega (arith, c .before .before .nodes .ensures .0, acts-in-table (c .before .before .before .before .args .words .now) (c .before .before .before .before .args .x .0) (c .before .before .before .before .pre .1)))
 
--- src/acting.rt:55:21
 add-t8 : tie.Need-add-t8
-add-t8 c = ?
+add-t8 c = omega (arith, c .before .clock .ensures, clock-high (c .before .before .before .before .before .args .words .now) (c .before .before .before .before .before .pre .0) (c .before .before .before .before .before .args .x .0))
 
--- src/acting.rt:44:1
 returns : tie.Need-returns
-returns c = ?
+unfolding decode decodeNode
+returns c =
+    let ws : List ℕ = c .before .before .before .before .before .args .words .now in
+    let x : ℕ = c .before .before .before .before .before .args .x .0 in
+    let reads = c .before .before .before .before .before .pre .0 in
+    let ok = c .before .before .before .before .before .pre .1 in
+    let n : c .before .before .before .nodes .result ≡ size (decodeTable ws) = c .before .before .before .nodes .ensures .0 in
+    let low = acts-in-table ws x ok in
+    let time : c .before .clock .result .0 + 1 ≡ decode ws .node x .clock + 1 = ap (λ (k : ℕ). k + 1) (c .before .clock .ensures) in
+    record {
+      nodes = n;
+      few = omega (arith, n, few ws reads);
+      member = omega (arith, n, low);
+      count = c .before .before .messages .ensures .0;
+      room = omega (arith, c .before .before .messages .ensures .0, room ws reads);
+      time = time;
+      time-room = omega (arith, time, acts-below-last ws x reads ok);
+      own = c .load .ensures .own;
+      fits = rw n (loaded-fits ws x reads _ (c .load .ensures));
+      spare-high = loaded-spare ws x reads _ (c .load .ensures);
+    }
 
 pub load-spec : {M : Type 1} → statement M
 load-spec =

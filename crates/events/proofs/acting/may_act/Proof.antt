@@ -1,43 +1,48 @@
+use mathlib.Core.Path.{_≡_, refl, sym, _∙_}
+use Prim.Native.Nat.{ℕ, _<_}
+use mathlib.Core.List.{List}
+use native.Mathlib.Omega.{arith}
+use borrow.Author.Tests.{not-true, not-false}
+use Rattle.model.specs.Leafset.{size}
+use Rattle.model.specs.Words.{decodeTable}
+use Rattle.events.proofs.Valid.{long}
+use Rattle.events.proofs.Refusals
 use borrow.Author.Needs.{needs}
 use Rattle.events.proofs.acting.may_act.Statement.{statement}
 use Rattle.events.proofs.acting.may_act.Tie as tie
-use Rattle.events.proofs.acting.may_act.Reads as reads
-use Rattle.events.proofs.acting.may_act.Lts as lts
-use Rattle.buffer.proofs.head.nodes.Reads as nodes-reads
-use Rattle.buffer.proofs.node.clock.Reads as clock-reads
-use Rattle.buffer.proofs.node.is_running.Reads as is-running-reads
 
--- src/acting.rt:31:8
 nodes-requires : tie.Need-nodes-requires
-nodes-requires c κs = ?
+nodes-requires c κs = long (c .before .args .words .now) (c .before .pre)
 
--- src/acting.rt:31:30
 cast-if1 : tie.Need-cast-if1
 cast-if1 c = search needs
 
--- src/acting.rt:32:9
 returns : tie.Need-returns
-returns c = ?
+returns c = sym (Refusals.here _ _ (Refusals.out-of-table (c .before .before .before .before .args .words .now) (c .before .before .before .before .args .x .0) (omega (arith, c .before .before .nodes .ensures .0))))
 
--- src/acting.rt:34:9
 is-running-requires : tie.Need-is-running-requires
-is-running-requires c κs = ?
+is-running-requires c κs = (long (c .before .before .before .before .args .words .now) (c .before .before .before .before .pre), omega (arith, c .before .before .nodes .ensures .0))
 
--- src/acting.rt:35:9
 returns-2 : tie.Need-returns-2
-returns-2 c = ?
+returns-2 c = sym (
+    Refusals.next _ _ (Refusals.in-table (c .before .before .before .before .before .before .args .words .now) (c .before .before .before .before .before .before .args .x .0) (omega (arith, c .before .before .before .before .nodes .ensures .0)))
+    ∙ Refusals.here _ _ (Refusals.off (c .before .before .before .before .before .before .args .words .now) (c .before .before .before .before .before .before .args .x .0) (sym (c .before .is-running .ensures) ∙ not-true _ (c .if2 .taken))))
 
--- src/acting.rt:37:8
 clock-requires : tie.Need-clock-requires
-clock-requires c κs = ?
+clock-requires c κs = (long (c .before .before .before .before .before .before .args .words .now) (c .before .before .before .before .before .before .pre), omega (arith, c .before .before .before .before .nodes .ensures .0))
 
--- src/acting.rt:38:9
 returns-3 : tie.Need-returns-3
-returns-3 c = ?
+returns-3 c = sym (
+    Refusals.next _ _ (Refusals.in-table (c .before .before .before .before .before .before .before .before .before .args .words .now) (c .before .before .before .before .before .before .before .before .before .args .x .0) (omega (arith, c .before .before .before .before .before .before .before .nodes .ensures .0)))
+    ∙ Refusals.next _ _ (Refusals.on (c .before .before .before .before .before .before .before .before .before .args .words .now) (c .before .before .before .before .before .before .before .before .before .args .x .0) (sym (c .before .before .before .before .is-running .ensures) ∙ not-false _ (c .before .before .before .if2 .left)))
+    ∙ Refusals.here _ _ (Refusals.spent (c .before .before .before .before .before .before .before .before .before .args .words .now) (c .before .before .before .before .before .before .before .before .before .args .x .0) (sym (c .before .before .clock .ensures) ∙ c .if3 .taken)))
 
--- src/acting.rt:27:1
 returns-4 : tie.Need-returns-4
-returns-4 c = ?
+returns-4 c = sym (
+    Refusals.next _ _ (Refusals.in-table (c .before .before .before .before .before .before .before .before .before .args .words .now) (c .before .before .before .before .before .before .before .before .before .args .x .0) (omega (arith, c .before .before .before .before .before .before .before .nodes .ensures .0)))
+    ∙ Refusals.next _ _ (Refusals.on (c .before .before .before .before .before .before .before .before .before .args .words .now) (c .before .before .before .before .before .before .before .before .before .args .x .0) (sym (c .before .before .before .before .is-running .ensures) ∙ not-false _ (c .before .before .before .if2 .left)))
+    ∙ Refusals.next _ _ (Refusals.unspent (c .before .before .before .before .before .before .before .before .before .args .words .now) (c .before .before .before .before .before .before .before .before .before .args .x .0) (λ e. c .if3 .left (c .before .before .clock .ensures ∙ e)))
+    ∙ Refusals.no-more)
 
 pub may-act-spec : {M : Type 1} → statement M
 may-act-spec =
