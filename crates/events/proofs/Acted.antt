@@ -4,9 +4,9 @@ use mathlib.Core.Bool.{true, false}
 use mathlib.Core.List.{List, [], _∷_, _++_, map, append-nil}
 use Prim.Native.Nat.{ℕ, _+_}
 use Rattle.model.specs.Sets.{ofBits, members}
-use Rattle.model.specs.Ring.{Message, Ring}
+use Rattle.model.specs.Ring.{Own, Message, Ring}
 use Rattle.model.specs.Steps.{Effect, plain}
-use Rattle.model.specs.Play.{setMessages}
+use Rattle.model.specs.Play.{setMessages, act}
 use Rattle.model.specs.Structs.{ownOf, messageOf}
 use Rattle.buffer.specs.Parts.{update, stepped}
 use Rattle.protocol.specs.Effects.{replyEffect, callsEffect}
@@ -25,3 +25,8 @@ module _ (x time : ℕ) (ρ : Ring) (now : time ≡ ρ .node x .clock + 1) where
   pub acted-calls : (r : Calls)
       → setMessages (ρ .messages ++ map (plain (r .tag) x) (members 64 (ofBits (r .to)))) (update x (stepped time (ownOf (r .own))) ρ) ≡ acted x (callsEffect x r) ρ
   acted-calls r = rw now
+
+-- acting with the effect of a step is the act of the step
+pub acted-is : (x : ℕ) (step : ℕ → Own → Effect) (ρ : Ring) (f : Effect) → f ≡ step (ρ .node x .clock + 1) (ρ .node x .own) → acted x f ρ ≡ act x step ρ
+unfolding act
+acted-is x step ρ f i = ap (λ (g : Effect). acted x g ρ) i

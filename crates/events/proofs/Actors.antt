@@ -1,17 +1,19 @@
 -- A node that may act is in the table, runs, and its clock can rise; and what is loaded of it has room.
 use mathlib.Core.Path.{_≡_, refl, sym, ap, _∙_}
-use mathlib.Core.Bool.{true, false, not}
+use mathlib.Core.Bool.{Bool, true, false}
 use mathlib.Core.List.{List}
 use Prim.Native.Nat.{ℕ, _≤_, _<_}
 use native.Mathlib.Omega.{arith}
 use borrow.Author.Tests.{ltb-true, eqb-false, not-false}
 use Rattle.model.specs.Leafset.{size}
+use Rattle.model.specs.Choice.{if_then_else_}
 use Rattle.model.specs.Ring.{Own}
 use Rattle.model.specs.WellFormed.{Each, nil, cons, WellFormedOwn}
 use Rattle.model.specs.Answers.{Refusal, firstOf}
 use Rattle.model.specs.Words.{decodeTable, decodeNode, decodeOwn, decode, readsAsRing}
+use Rattle.model.specs.Play.{noNode}
 use Rattle.model.specs.Structs.{ownOf, spareAt}
-use Rattle.model.specs.declared.answer.Answer.the-variants.{Accepted}
+use Rattle.model.specs.declared.answer.Answer.the-variants.{Accepted, OutOfTable}
 use Rattle.model.specs.declared.node.NodeRecord.{NodeRecord}
 use Rattle.model.proofs.Answers.{none-applies}
 use Rattle.model.proofs.Decoded.{reads-well}
@@ -19,7 +21,7 @@ use Rattle.model.proofs.Lists.{first, rest}
 use Rattle.buffer.specs.Parts.{LoadedNode}
 use Rattle.protocol.specs.Effects.{OwnFits}
 use Rattle.protocol.proofs.WellFormed as protocol
-use Rattle.events.specs.Acting.{mayAct}
+use Rattle.events.specs.Acting.{mayAct, mayMeet}
 use Rattle.events.proofs.Valid.{few, clock-high}
 
 module _ (ws : List ℕ) (x : ℕ) (ok : firstOf (mayAct (decode ws) x) ≡ Accepted) where
@@ -39,6 +41,31 @@ module _ (ws : List ℕ) (x : ℕ) (ok : firstOf (mayAct (decode ws) x) ≡ Acce
 pub acts-below-last : (ws : List ℕ) (x : ℕ) → readsAsRing ws ≡ true → firstOf (mayAct (decode ws) x) ≡ Accepted → decode ws .node x .clock < 16777215
 unfolding decode
 acts-below-last ws x reads ok = omega (arith, clock-high ws reads x, acts-unspent ws x ok)
+
+-- a node that is to act on another one
+module _ (ws : List ℕ) (x y : ℕ) where
+  pub meets-none : noNode (decode ws) y .applies ≡ true → OutOfTable ≡ firstOf (mayMeet (decode ws) x y)
+  unfolding firstOf
+  meets-none e = rw e (go (noNode (decode ws) x .applies))
+    where
+      go : (b : Bool) → OutOfTable ≡ (if b then OutOfTable else OutOfTable)
+      go true = refl
+      go false = refl
+
+  pub meets-one : noNode (decode ws) y .applies ≡ false → firstOf (mayAct (decode ws) x) ≡ firstOf (mayMeet (decode ws) x y)
+  unfolding firstOf
+  meets-one e = rw e refl
+
+  module _ (ok : firstOf (mayMeet (decode ws) x y) ≡ Accepted) where
+    none-meets : Each (λ (q : Refusal). q .applies ≡ false) (mayMeet (decode ws) x y)
+    none-meets = none-applies (mayMeet (decode ws) x y) (cons refl (cons refl (cons refl (cons refl nil)))) ok
+
+    pub meets-in-table : y < size (decodeTable ws)
+    unfolding decode
+    meets-in-table = ltb-true y (size (decodeTable ws)) (not-false _ (first (rest none-meets)))
+
+    pub meets-acts : firstOf (mayAct (decode ws) x) ≡ Accepted
+    meets-acts = meets-one (first (rest none-meets)) ∙ ok
 
 module _ (ws : List ℕ) (x : ℕ) (reads : readsAsRing ws ≡ true) (q : NodeRecord) (loaded : LoadedNode ws x q) where
   well : WellFormedOwn (size (decodeTable ws)) x (decodeNode ws x .clock) (ownOf q)

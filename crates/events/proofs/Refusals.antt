@@ -1,17 +1,20 @@
 -- Which refusals from the state apply, read off what the code asks of the words.
 use mathlib.Core.Path.{_≡_, refl, ap, _∙_}
 use mathlib.Core.Bool.{Bool, true, false, not, _&&_}
-use mathlib.Core.List.{List, [], _∷_}
+use mathlib.Core.List.{List, [], _∷_, _++_}
 use Prim.Native.Nat.{ℕ, _≤_, _<_}
 use lib.ListN.{length}
 use lib.Dec.{eqb}
 use borrow.Author.Tests.{lt-ltb, le-ltb, eq-eqb, ne-eqb}
 use Rattle.model.specs.Leafset.{size}
-use Rattle.model.specs.Answers.{Refusal, firstOf}
+use Rattle.model.specs.Choice.{if_then_else_}
+use Rattle.model.specs.WellFormed.{Each, nil, cons}
+use Rattle.model.specs.Answers.{Refusal, firstOf, isAccepted}
 use Rattle.model.specs.Words.{decodeTable, decodeNode, decode}
 use Rattle.model.specs.Play.{after, noNode, noMessage, nodeOff, alreadyRunning, clockSpent, poolFull}
 use Rattle.model.specs.declared.answer.Answer.the-variants.{Accepted}
 use Rattle.model.specs.declared.event.Event.{Event}
+use Rattle.model.proofs.Laws.{clash}
 
 -- the first refusal, and the next one
 pub here : (q : Refusal) (qs : List Refusal) → q .applies ≡ true → firstOf (q ∷ qs) ≡ q .refusal
@@ -21,6 +24,23 @@ here q qs e = rw e
 pub next : (q : Refusal) (qs : List Refusal) → q .applies ≡ false → firstOf (q ∷ qs) ≡ firstOf qs
 unfolding firstOf
 next q qs e = rw e
+
+-- refusals before others: where one of them applies, and where none does
+pub stays : (qs after : List Refusal) → isAccepted (firstOf qs) ≡ false → firstOf (qs ++ after) ≡ firstOf qs
+unfolding firstOf
+stays [] after r = clash refl r
+stays (q ∷ qs) after r = go (q .applies) r (stays qs after)
+  where
+    go : (b : Bool) → isAccepted (if b then q .refusal else firstOf qs) ≡ false
+        → (isAccepted (firstOf qs) ≡ false → firstOf (qs ++ after) ≡ firstOf qs)
+        → (if b then q .refusal else firstOf (qs ++ after)) ≡ (if b then q .refusal else firstOf qs)
+    go true i later = refl
+    go false i later = later i
+
+pub passes : (qs after : List Refusal) → Each (λ q. q .applies ≡ false) qs → firstOf (qs ++ after) ≡ firstOf after
+unfolding firstOf
+passes [] after nil = refl
+passes (q ∷ qs) after (cons e es) = rw e (passes qs after es)
 
 module _ (ws : List ℕ) (x : ℕ) where
   pub out-of-table : size (decodeTable ws) ≤ x → noNode (decode ws) x .applies ≡ true

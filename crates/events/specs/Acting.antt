@@ -17,6 +17,10 @@ use Rattle.events.specs.declared.acting.Actor.{Actor}
 abbrev pub mayAct : Ring → ℕ → List Refusal
 mayAct ρ x = noNode ρ x ∷ nodeOff ρ x ∷ clockSpent ρ true x ∷ []
 
+-- and where it is to act on node y
+abbrev pub mayMeet : Ring → ℕ → ℕ → List Refusal
+mayMeet ρ x y = noNode ρ x ∷ noNode ρ y ∷ nodeOff ρ x ∷ clockSpent ρ true x ∷ []
+
 -- a is node x of words that read as a ring
 pub record IsActor (ws : List ℕ) (x : ℕ) (a : Actor) : Type 0 where
   pub nodes : a .n ≡ size (decodeTable ws)
