@@ -32,7 +32,8 @@ load-requires c κs = (c .before .before .before .before .before .before .pre, m
 contact-requires : tie.Need-contact-requires
 contact-requires c κs =
     let is = c .load .ensures in
-    (omega (arith, is .member, is .few), omega (arith, is .nodes, is .few, meets-in-table (c .before .before .before .before .before .before .before .args .words .now) (c .before .before .before .before .before .before .before .args .x .0) (c .before .before .before .before .before .before .before .args .y .0) (sym (c .before .before .before .before .may-meet .ensures) ∙ is-accepted _ (c .before .before .before .number .ensures) (c .before .before .if1 .left))))
+    let low = meets-in-table (c .before .before .before .before .before .before .before .args .words .now) (c .before .before .before .before .before .before .before .args .x .0) (c .before .before .before .before .before .before .before .args .y .0) (sym (c .before .before .before .before .may-meet .ensures) ∙ is-accepted _ (c .before .before .before .number .ensures) (c .before .before .if1 .left)) in
+    (omega (arith, is .member, is .nodes, is .few, low), omega (arith, is .member, is .nodes, is .few, low))
 
 reply-requires : tie.Need-reply-requires
 reply-requires c κs =
