@@ -30,3 +30,8 @@ applied-room ws {ws'} {n} {m} {σ} {ρ} is e h =
 pub applied-full : (ws : List ℕ) (ρ : Ring) → 1024 < length (ρ .messages) → written PoolFull ws ≡ applied ws ρ
 unfolding firstOf
 applied-full ws ρ h = refuses ws (encode ρ) PoolFull _ refl (rw (lt-ltb 1024 (length (ρ .messages)) h))
+
+-- where it has room, the words before do not matter
+pub applied-same : (ws ws' : List ℕ) (ρ : Ring) → length (ρ .messages) ≤ 1024 → applied ws ρ ≡ applied ws' ρ
+unfolding firstOf
+applied-same ws ws' ρ h = rw (le-ltb 1024 (length (ρ .messages)) h)

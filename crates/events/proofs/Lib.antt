@@ -2,3 +2,5 @@ pub mod Valid
 pub mod Answered
 pub mod Refusals
 pub mod Acted
+pub mod Lent
+pub mod Delivery

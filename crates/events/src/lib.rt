@@ -1,4 +1,5 @@
 // The events on words that read as a ring: below the public calls, which see to the words first.
 pub mod acting;
 pub mod apply;
+pub mod deliver;
 pub mod state;

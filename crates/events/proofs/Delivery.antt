@@ -1,0 +1,76 @@
+-- A delivery: what is known of the message, the clock that must rise, and the ring that is left.
+use mathlib.Core.Path.{_≡_, refl, sym, ap, subst, _∙_}
+use mathlib.Core.Bool.{Bool, true, false, _&&_}
+use mathlib.Core.List.{List, [], _∷_, _++_}
+use Prim.Native.Nat.{ℕ, _+_, _≤_, _<_}
+use native.Mathlib.Omega.{arith}
+use lib.Dec.{eqb}
+use lib.ListN.{length, length-append}
+use Rattle.model.specs.Leafset.{Table, size}
+use Rattle.model.specs.Ring.{Own, Message, Ring, isRunning, messageAt}
+use Rattle.model.specs.Steps.{Effect, deliver}
+use Rattle.model.specs.Answers.{firstOf}
+use Rattle.model.specs.Words.{decodeTable, decodeNode, decode, readsAsRing}
+use Rattle.model.specs.Play.{removeMessage, act, after, clockSpent}
+use Rattle.model.specs.Structs.{tableOf, messageOf}
+use Rattle.model.specs.WellFormed.{WellFormedMessage, nil, cons}
+use Rattle.model.specs.declared.answer.Answer.the-variants.{Accepted}
+use Rattle.model.specs.declared.event.Event.the-variants.{Deliver}
+use Rattle.model.specs.declared.message.MessageRecord.{MessageRecord}
+use Rattle.model.proofs.Laws.{if-law, not-out-false}
+use Rattle.model.proofs.Lists.{first, rest}
+use Rattle.model.proofs.Answers.{none-applies}
+use Rattle.buffer.specs.Parts.{LoadedMessage}
+use Rattle.buffer.proofs.ReadRing.{read-message}
+use Rattle.protocol.specs.Effects.{replyEffect, Delivered}
+use Rattle.protocol.specs.declared.reply.Reply.{Reply}
+use Rattle.protocol.proofs.WellFormed.{delivered}
+use Rattle.events.specs.Acting.{mayAct}
+use Rattle.events.specs.Applied.{acted}
+use Rattle.events.proofs.Valid.{few, message-well}
+
+-- ---- the message that is loaded
+
+module _ (ws : List ℕ) (k : ℕ) (q : MessageRecord) (loaded : LoadedMessage ws k q) (low : k < length (decode ws .messages)) where
+  pub is-message : messageOf q ≡ messageAt (decode ws) k
+  is-message = loaded .message ∙ sym (read-message ws k low)
+
+  pub loaded-well : readsAsRing ws ≡ true → WellFormedMessage (size (decodeTable ws)) (messageOf q)
+  loaded-well reads = subst (WellFormedMessage (size (decodeTable ws))) (sym is-message) (message-well ws reads k low)
+
+  pub lent-message : (keys : List ℕ) → keys ≡ decodeTable ws .keys → readsAsRing ws ≡ true → Delivered (length keys) q
+  lent-message keys e reads = subst (λ (n : ℕ). Delivered n q) (ap length (sym e)) (delivered q (few ws reads) (loaded-well reads))
+
+  -- "10. The clock is 16,777,215 and must rise": where the receiver runs
+  pub must-rise : clockSpent (decode ws) (isRunning (decode ws) (messageAt (decode ws) k .receiver)) (messageAt (decode ws) k .receiver) .applies
+      ≡ (decodeNode ws (q .receiver .0) .running && eqb (decodeNode ws (q .receiver .0) .clock) 16777215)
+  unfolding decode
+  must-rise = ap (λ (m : Message). decodeNode ws (m .receiver) .running && eqb (decodeNode ws (m .receiver) .clock) 16777215) (sym is-message)
+
+-- ---- the ring that is left
+
+module _ (ρ : Ring) (k : ℕ) (m : Message) (is : m ≡ messageAt ρ k) where
+  pub delivered-off : isRunning ρ (m .receiver) ≡ false → removeMessage k ρ ≡ after ρ (Deliver k)
+  unfolding after
+  delivered-off off = rw (rw is at off)
+
+  pub delivered-on : (e : Effect) → isRunning ρ (m .receiver) ≡ true
+      → e ≡ deliver (ρ .table) (m .receiver) (ρ .node (m .receiver) .clock + 1) (ρ .node (m .receiver) .own) m
+      → acted (m .receiver) e (removeMessage k ρ) ≡ after ρ (Deliver k)
+  unfolding after act removeMessage
+  delivered-on e on s = rw (is, rw is at on, rw is at s)
+
+-- a node that may act runs
+pub acts-on : (ρ : Ring) (x : ℕ) → firstOf (mayAct ρ x) ≡ Accepted → isRunning ρ x ≡ true
+acts-on ρ x e = not-out-false (isRunning ρ x) (first (rest (none-applies (mayAct ρ x) (cons refl (cons refl (cons refl nil))) e)))
+
+-- the step is that of the ring's table, time and record
+pub same-step : (t : Table) (me time : ℕ) (o : Own) (m : Message) (leaf : ℕ) (keys : List ℕ) (time' : ℕ) (o' : Own)
+    → leaf ≡ t .leaf → keys ≡ t .keys → time' ≡ time → o' ≡ o → deliver (tableOf leaf keys) me time' o' m ≡ deliver t me time o m
+same-step t me time o m leaf keys time' o' p q r s = rw (p, q, r, s)
+
+-- one message went out first, and one comes in at most
+pub reply-few : (ρ : Ring) (me n : ℕ) (r : Reply) → length (ρ .messages) ≡ n → n < 1024 → length (acted me (replyEffect r) ρ .messages) ≤ 1024
+reply-few ρ me n r e h =
+    let few : length (replyEffect r .sent) ≤ 1 = if-law (λ (l : List Message). length l ≤ 1) (r .sends) (messageOf (r .message) ∷ []) [] (λ _. omega arith) (λ _. omega arith) in
+    simp length-append (omega arith)
