@@ -32,6 +32,6 @@ unfolding firstOf
 applied-full ws ρ h = refuses ws (encode ρ) PoolFull _ refl (rw (lt-ltb 1024 (length (ρ .messages)) h))
 
 -- where it has room, the words before do not matter
-pub applied-same : (ws ws' : List ℕ) (ρ : Ring) → length (ρ .messages) ≤ 1024 → applied ws ρ ≡ applied ws' ρ
+pub applied-over : (ws ws' : List ℕ) {w : Written} (ρ : Ring) {σ : Ring} → w ≡ applied ws' ρ → length (ρ .messages) ≤ 1024 → ρ ≡ σ → w ≡ applied ws σ
 unfolding firstOf
-applied-same ws ws' ρ h = rw (le-ltb 1024 (length (ρ .messages)) h)
+applied-over ws ws' ρ e h p = rw (← p, e, le-ltb 1024 (length (ρ .messages)) h)

@@ -6,7 +6,7 @@ use Prim.Native.Nat.{ℕ, _+_, _≤_, _<_}
 use native.Mathlib.Omega.{arith}
 use lib.Dec.{eqb}
 use lib.ListN.{length, length-append}
-use Rattle.model.specs.Leafset.{Table, size}
+use Rattle.model.specs.Leafset.{size}
 use Rattle.model.specs.Ring.{Own, Message, Ring, isRunning, messageAt}
 use Rattle.model.specs.Steps.{Effect, deliver}
 use Rattle.model.specs.Answers.{firstOf}
@@ -54,20 +54,17 @@ module _ (ρ : Ring) (k : ℕ) (m : Message) (is : m ≡ messageAt ρ k) where
   unfolding after
   delivered-off off = rw (rw is at off)
 
-  pub delivered-on : (e : Effect) → isRunning ρ (m .receiver) ≡ true
-      → e ≡ deliver (ρ .table) (m .receiver) (ρ .node (m .receiver) .clock + 1) (ρ .node (m .receiver) .own) m
+  -- by the step on the table, the time and the record that the code read
+  pub delivered-on : (e : Effect) (leaf : ℕ) (keys : List ℕ) (time : ℕ) (o : Own) → isRunning ρ (m .receiver) ≡ true
+      → e ≡ deliver (tableOf leaf keys) (m .receiver) time o m
+      → leaf ≡ ρ .table .leaf → keys ≡ ρ .table .keys → time ≡ ρ .node (m .receiver) .clock + 1 → o ≡ ρ .node (m .receiver) .own
       → acted (m .receiver) e (removeMessage k ρ) ≡ after ρ (Deliver k)
   unfolding after act removeMessage
-  delivered-on e on s = rw (is, rw is at on, rw is at s)
+  delivered-on e leaf keys time o on s p q r t = rw (s, p, q, r, t, is, rw is at on)
 
 -- a node that may act runs
 pub acts-on : (ρ : Ring) (x : ℕ) → firstOf (mayAct ρ x) ≡ Accepted → isRunning ρ x ≡ true
 acts-on ρ x e = not-out-false (isRunning ρ x) (first (rest (none-applies (mayAct ρ x) (cons refl (cons refl (cons refl nil))) e)))
-
--- the step is that of the ring's table, time and record
-pub same-step : (t : Table) (me time : ℕ) (o : Own) (m : Message) (leaf : ℕ) (keys : List ℕ) (time' : ℕ) (o' : Own)
-    → leaf ≡ t .leaf → keys ≡ t .keys → time' ≡ time → o' ≡ o → deliver (tableOf leaf keys) me time' o' m ≡ deliver t me time o m
-same-step t me time o m leaf keys time' o' p q r s = rw (p, q, r, s)
 
 -- one message went out first, and one comes in at most
 pub reply-few : (ρ : Ring) (me n : ℕ) (r : Reply) → length (ρ .messages) ≡ n → n < 1024 → length (acted me (replyEffect r) ρ .messages) ≤ 1024

@@ -15,7 +15,7 @@ use Rattle.protocol.specs.Effects.{replyEffect, Delivered}
 use Rattle.protocol.proofs.WellFormed.{delivered}
 use Rattle.events.specs.Applied.{acted, applied}
 use Rattle.events.proofs.Valid.{long, leaf-high}
-use Rattle.events.proofs.Answered.{applied-same}
+use Rattle.events.proofs.Answered.{applied-over}
 use Rattle.events.proofs.Lent.{lent-long, lent-table, lent-fits}
 use Rattle.events.proofs.Delivery
 use borrow.Author.Needs.{needs}
@@ -64,14 +64,14 @@ returns c =
     let k : ℕ = c .before .before .before .before .before .before .before .before .before .before .before .before .before .before .before .before .before .before .before .before .args .k in
     let y : ℕ = c .before .before .before .before .before .before .before .before .before .before .before .before .before .before .before .before .before .before .before .before .args .message .receiver .0 in
     let ρ : Ring = removeMessage k (decode ws) in
-    let same = Delivery.is-message ws k (c .before .before .before .before .before .before .before .before .before .before .before .before .before .before .before .before .before .before .before .before .args .message) (c .before .before .before .before .before .before .before .before .before .before .before .before .before .before .before .before .before .before .before .before .pre .2) (c .before .before .before .before .before .before .before .before .before .before .before .before .before .before .before .before .before .before .before .before .pre .1) in
     let actor = c .before .before .before .before .before .before .before .before .before .before .before .before .before .before .before .before .load .ensures in
     let reply = c .before .before .before .before .before .before .before .before .deliver .result in
     let left = c .before .before .before .before .before .before .remove .ensures (decode ws) (c .before .before .before .before .before .before .before .before .before .before .before .before .before .before .before .before .load .result .n) (read-is ws (c .before .before .before .before .before .before .before .before .before .before .before .before .before .before .before .before .before .before .before .before .pre .0) _ _ (actor .nodes) (actor .count)) in
-    let step = c .before .before .before .before .before .before .before .before .deliver .ensures .effect ∙ Delivery.same-step (decode ws .table) y _ _ (messageOf (c .before .before .before .before .before .before .before .before .before .before .before .before .before .before .before .before .before .before .before .before .args .message)) _ _ _ _ (c .before .before .before .before .before .before .before .before .before .before .leaf .ensures) (c .before .before .before .before .before .before .before .before .before .before .before .before .keys .ensures .1) (actor .time) (actor .own) in
-    c .before .before .reply .ensures ρ left (actor .time)
-    ∙ applied-same (c .before .before .before .before .before .before .remove .last .0) ws (acted y (replyEffect reply) ρ) (Delivery.reply-few ρ y (c .before .before .before .before .before .before .before .before .before .before .before .before .before .before .before .before .load .result .m - 1) reply (left .count) (omega (arith, actor .count, actor .room, c .before .before .before .before .before .before .before .before .before .before .before .before .before .before .before .before .before .before .before .before .pre .1)))
-    ∙ ap (λ (σ : Ring). applied ws σ) (Delivery.delivered-on (decode ws) k (messageOf (c .before .before .before .before .before .before .before .before .before .before .before .before .before .before .before .before .before .before .before .before .args .message)) same (replyEffect reply) (Delivery.acts-on (decode ws) y (c .before .before .before .before .before .before .before .before .before .before .before .before .before .before .before .before .before .before .before .before .pre .3)) step)
+    applied-over ws (c .before .before .before .before .before .before .remove .last .0) (acted y (replyEffect reply) ρ)
+    (c .before .before .reply .ensures ρ left (actor .time))
+    (Delivery.reply-few ρ y (c .before .before .before .before .before .before .before .before .before .before .before .before .before .before .before .before .load .result .m - 1) reply (left .count) (omega (arith, actor .count, actor .room, c .before .before .before .before .before .before .before .before .before .before .before .before .before .before .before .before .before .before .before .before .pre .1)))
+    (Delivery.delivered-on (decode ws) k (messageOf (c .before .before .before .before .before .before .before .before .before .before .before .before .before .before .before .before .before .before .before .before .args .message)) (Delivery.is-message ws k (c .before .before .before .before .before .before .before .before .before .before .before .before .before .before .before .before .before .before .before .before .args .message) (c .before .before .before .before .before .before .before .before .before .before .before .before .before .before .before .before .before .before .before .before .pre .2) (c .before .before .before .before .before .before .before .before .before .before .before .before .before .before .before .before .before .before .before .before .pre .1)) (replyEffect reply) _ _ _ _
+    (Delivery.acts-on (decode ws) y (c .before .before .before .before .before .before .before .before .before .before .before .before .before .before .before .before .before .before .before .before .pre .3)) (c .before .before .before .before .before .before .before .before .deliver .ensures .effect) (c .before .before .before .before .before .before .before .before .before .before .leaf .ensures) (c .before .before .before .before .before .before .before .before .before .before .before .before .keys .ensures .1) (actor .time) (actor .own))
 
 pub receive-spec : {M : Type 1} → statement M
 receive-spec =
