@@ -8,12 +8,14 @@ use borrow.Author.Tests.{lt-ltb, le-ltb}
 use Rattle.model.specs.Choice.{if_then_else_}
 use Rattle.model.specs.Ring.{Ring}
 use Rattle.model.specs.Answers.{isAccepted, firstOf}
-use Rattle.model.specs.Words.{encode}
+use Rattle.model.specs.Words.{encode, decode}
+use Rattle.model.specs.Play.{after, poolFull, stateRefusals}
 use Rattle.model.specs.Buffer.{Written, writes}
 use Rattle.model.specs.declared.answer.Answer.{Answer}
 use Rattle.model.specs.declared.answer.Answer.the-variants.{Accepted, PoolFull}
+use Rattle.model.specs.declared.event.Event.{Event}
 use Rattle.buffer.specs.Parts.{Is}
-use Rattle.events.specs.Applied.{written, applied}
+use Rattle.events.specs.Applied.{written, eventOn, applied}
 
 pub refuses : (ws l : List ℕ) (a b : Answer) → isAccepted a ≡ false → b ≡ a → written a ws ≡ writes ws b l
 refuses ws l a b n e = rw (e, n)
@@ -35,3 +37,8 @@ applied-full ws ρ h = refuses ws (encode ρ) PoolFull _ refl (rw (lt-ltb 1024 (
 pub applied-over : (ws ws' : List ℕ) {w : Written} (ρ : Ring) {σ : Ring} → w ≡ applied ws' ρ → length (ρ .messages) ≤ 1024 → ρ ≡ σ → w ≡ applied ws σ
 unfolding firstOf
 applied-over ws ws' ρ e h p = rw (← p, e, le-ltb 1024 (length (ρ .messages)) h)
+
+-- an event whose own refusals do not apply, so that only its messages can be too many
+pub applied-event : (ws : List ℕ) (e : Event) {w : Written} → w ≡ applied ws (after (decode ws) e)
+    → firstOf (stateRefusals (decode ws) e) ≡ firstOf (poolFull (decode ws) e ∷ []) → w ≡ eventOn ws e
+applied-event ws e p q = p ∙ ap (λ (a : Answer). writes ws a (encode (after (decode ws) e))) (sym q)

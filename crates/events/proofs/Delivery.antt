@@ -6,10 +6,11 @@ use Prim.Native.Nat.{ℕ, _+_, _≤_, _<_}
 use native.Mathlib.Omega.{arith}
 use lib.Dec.{eqb}
 use lib.ListN.{length, length-append}
+use borrow.Author.Tests.{eq-eqb, ne-eqb}
 use Rattle.model.specs.Leafset.{size}
 use Rattle.model.specs.Ring.{Own, Message, Ring, isRunning, messageAt}
 use Rattle.model.specs.Steps.{Effect, deliver}
-use Rattle.model.specs.Answers.{firstOf}
+use Rattle.model.specs.Answers.{Refusal, firstOf}
 use Rattle.model.specs.Words.{decodeTable, decodeNode, decode, readsAsRing}
 use Rattle.model.specs.Play.{removeMessage, act, after, clockSpent}
 use Rattle.model.specs.Structs.{tableOf, messageOf}
@@ -41,11 +42,22 @@ module _ (ws : List ℕ) (k : ℕ) (q : MessageRecord) (loaded : LoadedMessage w
   pub lent-message : (keys : List ℕ) → keys ≡ decodeTable ws .keys → readsAsRing ws ≡ true → Delivered (length keys) q
   lent-message keys e reads = subst (λ (n : ℕ). Delivered n q) (ap length (sym e)) (delivered q (few ws reads) (loaded-well reads))
 
-  -- "10. The clock is 16,777,215 and must rise": where the receiver runs
-  pub must-rise : clockSpent (decode ws) (isRunning (decode ws) (messageAt (decode ws) k .receiver)) (messageAt (decode ws) k .receiver) .applies
-      ≡ (decodeNode ws (q .receiver .0) .running && eqb (decodeNode ws (q .receiver .0) .clock) 16777215)
+  -- "10. The clock is 16,777,215 and must rise": only where the receiver runs
+  abbrev rise : Refusal
+  rise = clockSpent (decode ws) (isRunning (decode ws) (messageAt (decode ws) k .receiver)) (messageAt (decode ws) k .receiver)
+
+  must-rise : rise .applies ≡ (decodeNode ws (q .receiver .0) .running && eqb (decodeNode ws (q .receiver .0) .clock) 16777215)
   unfolding decode
   must-rise = ap (λ (m : Message). decodeNode ws (m .receiver) .running && eqb (decodeNode ws (m .receiver) .clock) 16777215) (sym is-message)
+
+  pub need-not-rise : decodeNode ws (q .receiver .0) .running ≡ false → rise .applies ≡ false
+  need-not-rise off = must-rise ∙ rw off
+
+  pub cannot-rise : decodeNode ws (q .receiver .0) .running ≡ true → decodeNode ws (q .receiver .0) .clock ≡ 16777215 → rise .applies ≡ true
+  cannot-rise on e = must-rise ∙ rw (on, eq-eqb (decodeNode ws (q .receiver .0) .clock) 16777215 e)
+
+  pub can-rise : decodeNode ws (q .receiver .0) .running ≡ true → (decodeNode ws (q .receiver .0) .clock ≡ 16777215 → ⊥) → rise .applies ≡ false
+  can-rise on d = must-rise ∙ rw (on, ne-eqb (decodeNode ws (q .receiver .0) .clock) 16777215 d)
 
 -- ---- the ring that is left
 
