@@ -49,6 +49,11 @@ pub applied-full : (ws : List ℕ) (ρ : Ring) → 1024 < length (ρ .messages) 
 unfolding firstOf
 applied-full ws ρ h = refuses ws (encode ρ) PoolFull _ refl (rw (lt-ltb 1024 (length (ρ .messages)) h))
 
+-- where it has room, the words before do not matter
+pub applied-over : (ws ws' : List ℕ) {w : Written} (ρ : Ring) {σ : Ring} → w ≡ applied ws' ρ → length (ρ .messages) ≤ 1024 → ρ ≡ σ → w ≡ applied ws σ
+unfolding firstOf
+applied-over ws ws' ρ e h p = rw (← p, e, le-ltb 1024 (length (ρ .messages)) h)
+
 -- every refusal of an event refuses
 each-refuses : (ρ : Ring) (e : Event) → Each (λ q. isAccepted (q .refusal) ≡ false) (refusals ρ e)
 each-refuses ρ (On x) = cons refl (cons refl (cons refl nil))

@@ -2,10 +2,13 @@
 use mathlib.Core.Path.{_≡_}
 use mathlib.Core.Bool.{true}
 use mathlib.Core.List.{List}
-use Prim.Native.Nat.{ℕ, _≤_}
+use Prim.Native.Nat.{ℕ, _≤_, _<_}
 use lib.ListN.{length}
 use Rattle.model.specs.Leafset.{size}
+use Rattle.model.specs.Ring.{blank, messageAt}
 use Rattle.model.specs.Words.{ringLength, decodeTable, decodeNode, decode, readsAsRing}
+use Rattle.model.specs.WellFormed.{WellFormedMessage}
+use Rattle.model.proofs.Lists.{each-at}
 use Rattle.model.proofs.Words.{reads-out}
 use Rattle.model.proofs.Decoded.{reads-well}
 use Rattle.buffer.proofs.ReadRing.{read-sizes}
@@ -24,3 +27,11 @@ module _ (ws : List ℕ) (reads : readsAsRing ws ≡ true) where
   pub clock-high : (x : ℕ) → decodeNode ws x .clock ≤ 16777215
   unfolding decode
   clock-high x = reads-well ws reads .node-well x .clock-high
+
+  pub leaf-high : decodeTable ws .leaf ≤ 8
+  unfolding decode
+  leaf-high = read-sizes ws reads .leaf-high
+
+  pub message-well : (k : ℕ) → k < length (decode ws .messages) → WellFormedMessage (size (decodeTable ws)) (messageAt (decode ws) k)
+  unfolding decode
+  message-well k low = each-at (reads-well ws reads .messages-well) blank k low

@@ -2,4 +2,5 @@
 pub mod acting;
 pub mod apply;
 pub mod contact;
+pub mod deliver;
 pub mod state;
