@@ -27,11 +27,12 @@ use Rattle.protocol.proofs.Changes.{getD-any, within-with, within-union
 use Rattle.protocol.proofs.Bits.{and-both, zero-none}
 
 -- a message of one type to each node of a set
-pub calls : {n : ℕ} {q : NodeRecord} {o : Own} (me tag to : ℕ) (S : Set) → n ≤ 64 → Owns n q o → ofBits to ≡ S → Within n to
+pub calls : {n : ℕ} {q : NodeRecord} {o : Own} (me tag to : ℕ) (S : Set) → n ≤ 64 → Owns n q o → tag < 2 ^ 4 → ofBits to ≡ S → Within n to
     → CallsEach n me (record { own = q; tag = tag; to = to }) (record { own = o; sent = map (plain tag me) (members n S) })
-calls {n} me tag to S few p e low = record {
+calls {n} me tag to S few p room e low = record {
   effect = ap₂ (λ (o : Own) (l : List ℕ). record { own = o; sent = map (plain tag me) l }) (p .own) (sym (members-to (ofBits to) n low 64 few) ∙ ap (members n) e);
   own-fits = p .fits;
+  tag-room = room;
   to-within = low;
 }
 

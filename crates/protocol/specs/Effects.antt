@@ -38,6 +38,7 @@ pub record Replies (n : ℕ) (r : Reply) (e : Effect) : Type 0 where
 pub record CallsEach (n me : ℕ) (r : Calls) (e : Effect) : Type 0 where
   pub effect : callsEffect me r ≡ e
   pub own-fits : OwnFits n (r .own)
+  pub tag-room : r .tag < 2 ^ 4
   pub to-within : Within n (r .to)
 
 -- a record that stands for o, and a message by value that stands for x
