@@ -14,6 +14,10 @@ module _ (ws : List ℕ) (reads : readsAsRing ws ≡ true) where
   pub long : length ws ≡ ringLength
   long = reads-out ws reads .long
 
+  pub leaf-low : decodeTable ws .leaf ≤ 8
+  unfolding decode
+  leaf-low = read-sizes ws reads .leaf-high
+
   pub few : size (decodeTable ws) ≤ 64
   unfolding decode
   few = read-sizes ws reads .nodes-high

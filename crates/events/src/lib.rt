@@ -2,3 +2,4 @@
 pub mod acting;
 pub mod apply;
 pub mod state;
+pub mod timer;
