@@ -85,7 +85,8 @@ pub fn requests(
     requires { ⌜ RoomNode own × ((z : ℕ) → ofBits to z ≡ true → spareAt own z < 64) ⌝ }
     ensures { λ r. ⌜ ((ρ : Ring) → Is (now (words .entry)) n m ρ → time .0 ≡ ρ .node (x .0) .clock + 1 → written r (now (words .exit)) ≡ applied (now (words .entry)) (acted (x .0) (requestsEffect (x .0) (time .0) own to) ρ)) ⌝ }
 {
-    if 1024 < m + sets::size(to) as usize {
+    let more = sets::size(to) as usize;
+    if 1024 < m + more {
         return Answer::PoolFull;
     }
     node::store(words, n, x, time, own);

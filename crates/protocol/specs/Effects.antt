@@ -1,7 +1,7 @@
 -- What the answers of a step stand for.
 use mathlib.Core.Path.{_≡_}
 use mathlib.Core.Bool.{true}
-use mathlib.Core.List.{List, [], _∷_, map}
+use mathlib.Core.List.{[], _∷_, map}
 use Prim.Native.Nat.{ℕ, _≤_, _<_, _^_}
 use Rattle.model.specs.Choice.{if_then_else_}
 use Rattle.model.specs.Sets.{ofBits, members}

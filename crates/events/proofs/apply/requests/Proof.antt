@@ -8,8 +8,8 @@ use Rattle.events.proofs.apply.requests.Tie as tie
 size-requires : tie.Need-size-requires
 size-requires c κs = search needs
 
-cast-if1 : tie.Need-cast-if1
-cast-if1 c = search needs
+cast-more : tie.Need-cast-more
+cast-more c = search needs
 
 add-if1 : tie.Need-add-if1
 add-if1 c = search needs
@@ -40,7 +40,7 @@ requests-spec =
     tie.close
     (tie.spec
     size-requires
-    cast-if1
+    cast-more
     add-if1
     returns
     store-requires

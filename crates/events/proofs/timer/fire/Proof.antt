@@ -1,7 +1,7 @@
 use mathlib.Core.Path.{_≡_, refl, sym, ap, _∙_}
 use mathlib.Core.Bool.{true}
 use mathlib.Core.List.{List, [], _∷_}
-use Prim.Native.Nat.{ℕ, suc, _+_, _≤_, _<_}
+use Prim.Native.Nat.{ℕ, _+_, _≤_}
 use native.Mathlib.Omega.{arith}
 use lib.ListN.{take, getD, List·getD-eq-default}
 use Rattle.model.specs.Leafset.{Table}
@@ -51,16 +51,15 @@ leaf-requires c κs = long _ (c .before .before .before .before .pre .0)
 
 keys-requires : tie.Need-keys-requires
 keys-requires c κs =
-    let start = c .before .before .before .before .before .before in
-    (long _ (start .pre .0), start .pre .1 .nodes, start .pre .1 .few)
+    let is = c .before .before .before .before .before .before .pre .1 in
+    (long _ (c .before .before .before .before .before .before .pre .0), is .nodes, is .few)
 
 array-share-prefix-keys : tie.Need-array-share-prefix-keys
 array-share-prefix-keys c = search needs
 
 slice-aggregate-table : tie.Need-slice-aggregate-table
 slice-aggregate-table c =
-    let start = c .before .before .before .before .before .before .before .before in
-    sym (keys-many (start .pre .1) _ (c .before .keys .ensures .1))
+    sym (keys-many (c .before .before .before .before .before .before .before .before .pre .1) _ (c .before .keys .ensures .1))
 
 timer0-requires : tie.Need-timer0-requires
 timer0-requires c κs = search needs
@@ -68,51 +67,75 @@ timer0-requires c κs = search needs
 calls-requires : tie.Need-calls-requires
 calls-requires c κs =
     let start = c .before .before .before .before .before .before .before .before .before .before .before in
-    let each = c .timer0 .ensures (tableOf 0 (take (start .args .actor .n) (c .before .before .before .before .keys .result))) 0 0 (in-table (start .pre .1) _ (c .before .before .before .before .keys .ensures .1) .few) (own-fits (start .pre .1) _ (c .before .before .before .before .keys .ensures .1)) in
-    (may-write (start .pre .1) (start .pre .0), (each .own-fits .room, each .tag-room))
+    let reads = start .pre .0 in
+    let is = start .pre .1 in
+    let keys = c .before .before .before .before .keys .ensures .1 in
+    let each = c .timer0 .ensures (tableOf 0 (take (start .args .actor .n) (c .before .before .before .before .keys .result))) 0 0 (in-table is _ keys .few) (own-fits is _ keys) in
+    (may-write is reads, (each .own-fits .room, each .tag-room))
 
 timer1-requires : tie.Need-timer1-requires
 timer1-requires c κs =
     let start = c .before .before .before .before .before .before .before .before .before .before in
-    (in-table (start .pre .1) _ (c .before .before .before .keys .ensures .1), own-fits (start .pre .1) _ (c .before .before .before .keys .ensures .1), omega (arith, leaf-low _ (start .pre .0), c .before .before .before .before .before .leaf .ensures))
+    let reads = start .pre .0 in
+    let is = start .pre .1 in
+    let keys = c .before .before .before .keys .ensures .1 in
+    let leaf = c .before .before .before .before .before .leaf .ensures in
+    (in-table is _ keys, own-fits is _ keys, omega (arith, leaf, leaf-low _ reads))
 
 calls-requires-2 : tie.Need-calls-requires-2
 calls-requires-2 c κs =
     let start = c .before .before .before .before .before .before .before .before .before .before .before in
+    let reads = start .pre .0 in
+    let is = start .pre .1 in
     let each = c .timer1 .ensures 0 in
-    (may-write (start .pre .1) (start .pre .0), (each .own-fits .room, each .tag-room))
+    (may-write is reads, (each .own-fits .room, each .tag-room))
 
 timer2-requires : tie.Need-timer2-requires
 timer2-requires c κs =
     let start = c .before .before .before .before .before .before .before .before .before .before in
-    (in-table (start .pre .1) _ (c .before .before .before .keys .ensures .1), own-fits (start .pre .1) _ (c .before .before .before .keys .ensures .1), omega (arith, leaf-low _ (start .pre .0), c .before .before .before .before .before .leaf .ensures))
+    let reads = start .pre .0 in
+    let is = start .pre .1 in
+    let keys = c .before .before .before .keys .ensures .1 in
+    let leaf = c .before .before .before .before .before .leaf .ensures in
+    (in-table is _ keys, own-fits is _ keys, omega (arith, leaf, leaf-low _ reads))
 
 calls-requires-3 : tie.Need-calls-requires-3
 calls-requires-3 c κs =
     let start = c .before .before .before .before .before .before .before .before .before .before .before in
+    let reads = start .pre .0 in
+    let is = start .pre .1 in
     let each = c .timer2 .ensures 0 in
-    (may-write (start .pre .1) (start .pre .0), (each .own-fits .room, each .tag-room))
+    (may-write is reads, (each .own-fits .room, each .tag-room))
 
 requests-requires : tie.Need-requests-requires
 requests-requires c κs =
     let start = c .before .before .before .before .before .before .before .before .before in
-    (in-table (start .pre .1) _ (c .before .before .keys .ensures .1), start .pre .1 .fits .room, omega (arith, leaf-low _ (start .pre .0), c .before .before .before .before .leaf .ensures), start .pre .1 .spare-high)
+    let reads = start .pre .0 in
+    let is = start .pre .1 in
+    let keys = c .before .before .keys .ensures .1 in
+    let leaf = c .before .before .before .before .leaf .ensures in
+    (in-table is _ keys, is .fits .room, omega (arith, leaf, leaf-low _ reads), is .spare-high)
 
 requests-requires-2 : tie.Need-requests-requires-2
 requests-requires-2 c κs =
     let start = c .before .before .before .before .before .before .before .before .before .before .before in
-    (may-write (start .pre .1) (start .pre .0), (start .pre .1 .fits .room, c .before .requests .ensures 0 .spare-low))
+    let reads = start .pre .0 in
+    let is = start .pre .1 in
+    (may-write is reads, (is .fits .room, c .before .requests .ensures 0 .spare-low))
 
 timer4-requires : tie.Need-timer4-requires
 timer4-requires c κs =
-    let start = c .before .before .before .before .before .before .before .before .before .before in
-    (in-table (start .pre .1) _ (c .before .before .before .keys .ensures .1), own-fits (start .pre .1) _ (c .before .before .before .keys .ensures .1))
+    let is = c .before .before .before .before .before .before .before .before .before .before .pre .1 in
+    let keys = c .before .before .before .keys .ensures .1 in
+    (in-table is _ keys, own-fits is _ keys)
 
 reply-requires : tie.Need-reply-requires
 reply-requires c κs =
     let start = c .before .before .before .before .before .before .before .before .before .before .before in
+    let reads = start .pre .0 in
+    let is = start .pre .1 in
     let one = c .timer4 .ensures 0 0 in
-    (may-write (start .pre .1) (start .pre .0), (one .own-fits .room, one .message-room))
+    (may-write is reads, (one .own-fits .room, one .message-room))
 
 quiet-requires : tie.Need-quiet-requires
 quiet-requires c κs = search needs
@@ -120,8 +143,10 @@ quiet-requires c κs = search needs
 reply-requires-2 : tie.Need-reply-requires-2
 reply-requires-2 c κs =
     let start = c .before .before .before .before .before .before .before .before .before .before .before in
-    let one = c .quiet .ensures _ _ (record { own = refl; fits = start .pre .1 .fits }) in
-    (may-write (start .pre .1) (start .pre .0), (one .own-fits .room, one .message-room))
+    let reads = start .pre .0 in
+    let is = start .pre .1 in
+    let one = c .quiet .ensures _ _ (record { own = refl; fits = is .fits }) in
+    (may-write is reads, (one .own-fits .room, one .message-room))
 
 same-length : tie.Need-same-length
 same-length c = search needs
@@ -129,8 +154,12 @@ same-length c = search needs
 returns : tie.Need-returns
 returns c =
     let start = c .before .before .before .before .before .before .before .before .before .before .before .before .before .before in
-    fired (start .pre .0) (start .pre .1) (start .args .k) (c .before .before .before .before .before .before .before .before .before .leaf .ensures) _ (c .before .before .before .before .before .before .before .keys .ensures .1) (c .before .before .calls .ensures)
-    (by-number _ _ _ _ _ 0 (search needs) (c .before .before .before .timer0 .ensures _ _ _ (in-table (start .pre .1) _ (c .before .before .before .before .before .before .before .keys .ensures .1) .few) (own-fits (start .pre .1) _ (c .before .before .before .before .before .before .before .keys .ensures .1)) .effect))
+    let reads = start .pre .0 in
+    let is = start .pre .1 in
+    let keys = c .before .before .before .before .before .before .before .keys .ensures .1 in
+    let leaf = c .before .before .before .before .before .before .before .before .before .leaf .ensures in
+    fired reads is (start .args .k) leaf _ keys (c .before .before .calls .ensures)
+    (by-number _ _ _ _ _ 0 (search needs) (c .before .before .before .timer0 .ensures _ _ _ (in-table is _ keys .few) (own-fits is _ keys) .effect))
 
 same-length-2 : tie.Need-same-length-2
 same-length-2 c = search needs
@@ -138,7 +167,11 @@ same-length-2 c = search needs
 returns-2 : tie.Need-returns-2
 returns-2 c =
     let start = c .before .before .before .before .before .before .before .before .before .before .before .before .before .before in
-    fired (start .pre .0) (start .pre .1) (start .args .k) (c .before .before .before .before .before .before .before .before .before .leaf .ensures) _ (c .before .before .before .before .before .before .before .keys .ensures .1) (c .before .before .calls2 .ensures)
+    let reads = start .pre .0 in
+    let is = start .pre .1 in
+    let keys = c .before .before .before .before .before .before .before .keys .ensures .1 in
+    let leaf = c .before .before .before .before .before .before .before .before .before .leaf .ensures in
+    fired reads is (start .args .k) leaf _ keys (c .before .before .calls2 .ensures)
     (by-number _ _ _ _ _ 1 (search needs) (c .before .before .before .timer1 .ensures _ .effect))
 
 same-length-3 : tie.Need-same-length-3
@@ -147,7 +180,11 @@ same-length-3 c = search needs
 returns-3 : tie.Need-returns-3
 returns-3 c =
     let start = c .before .before .before .before .before .before .before .before .before .before .before .before .before .before in
-    fired (start .pre .0) (start .pre .1) (start .args .k) (c .before .before .before .before .before .before .before .before .before .leaf .ensures) _ (c .before .before .before .before .before .before .before .keys .ensures .1) (c .before .before .calls3 .ensures)
+    let reads = start .pre .0 in
+    let is = start .pre .1 in
+    let keys = c .before .before .before .before .before .before .before .keys .ensures .1 in
+    let leaf = c .before .before .before .before .before .before .before .before .before .leaf .ensures in
+    fired reads is (start .args .k) leaf _ keys (c .before .before .calls3 .ensures)
     (by-number _ _ _ _ _ 2 (search needs) (c .before .before .before .timer2 .ensures _ .effect))
 
 same-length-4 : tie.Need-same-length-4
@@ -156,7 +193,11 @@ same-length-4 c = search needs
 returns-4 : tie.Need-returns-4
 returns-4 c =
     let start = c .before .before .before .before .before .before .before .before .before .before .before .before .before .before in
-    fired (start .pre .0) (start .pre .1) (start .args .k) (c .before .before .before .before .before .before .before .before .before .leaf .ensures) _ (c .before .before .before .before .before .before .before .keys .ensures .1) (c .before .before .requests2 .ensures)
+    let reads = start .pre .0 in
+    let is = start .pre .1 in
+    let keys = c .before .before .before .before .before .before .before .keys .ensures .1 in
+    let leaf = c .before .before .before .before .before .before .before .before .before .leaf .ensures in
+    fired reads is (start .args .k) leaf _ keys (c .before .before .requests2 .ensures)
     (by-number _ _ _ _ _ 3 (search needs) (c .before .before .before .before .requests .ensures _ .effect))
 
 same-length-5 : tie.Need-same-length-5
@@ -165,7 +206,11 @@ same-length-5 c = search needs
 returns-5 : tie.Need-returns-5
 returns-5 c =
     let start = c .before .before .before .before .before .before .before .before .before .before .before .before .before .before in
-    fired (start .pre .0) (start .pre .1) (start .args .k) (c .before .before .before .before .before .before .before .before .before .leaf .ensures) _ (c .before .before .before .before .before .before .before .keys .ensures .1) (c .before .before .reply .ensures)
+    let reads = start .pre .0 in
+    let is = start .pre .1 in
+    let keys = c .before .before .before .before .before .before .before .keys .ensures .1 in
+    let leaf = c .before .before .before .before .before .before .before .before .before .leaf .ensures in
+    fired reads is (start .args .k) leaf _ keys (c .before .before .reply .ensures)
     (by-number _ _ _ _ _ 4 (search needs) (c .before .before .before .timer4 .ensures _ _ .effect))
 
 same-length-6 : tie.Need-same-length-6
@@ -174,8 +219,13 @@ same-length-6 c = search needs
 returns-6 : tie.Need-returns-6
 returns-6 c =
     let start = c .before .before .before .before .before .before .before .before .before .before .before .before .before .before in
-    fired (start .pre .0) (start .pre .1) (start .args .k) (c .before .before .before .before .before .before .before .before .before .leaf .ensures) _ (c .before .before .before .before .before .before .before .keys .ensures .1) (c .before .before .reply2 .ensures)
-    (by-no-number _ _ _ _ _ (let others = c .before .before .before .before .before .match .rest in omega (arith, others .1, others .0 .1, others .0 .0 .1, others .0 .0 .0 .1, others .0 .0 .0 .0 .1)) (c .before .before .before .quiet .ensures _ _ (record { own = refl; fits = start .pre .1 .fits }) .effect))
+    let reads = start .pre .0 in
+    let is = start .pre .1 in
+    let keys = c .before .before .before .before .before .before .before .keys .ensures .1 in
+    let leaf = c .before .before .before .before .before .before .before .before .before .leaf .ensures in
+    let others = c .before .before .before .before .before .match .rest in
+    fired reads is (start .args .k) leaf _ keys (c .before .before .reply2 .ensures)
+    (by-no-number _ _ _ _ _ (omega (arith, others .1, others .0 .1, others .0 .0 .1, others .0 .0 .0 .1, others .0 .0 .0 .0 .1)) (c .before .before .before .quiet .ensures _ _ (record { own = refl; fits = is .fits }) .effect))
 
 pub fire-spec : {M : Type 1} → statement M
 fire-spec =
