@@ -2,29 +2,24 @@
 use mathlib.Core.Path.{_≡_, refl, sym, ap, _∙_}
 use mathlib.Core.Bool.{true, false}
 use mathlib.Core.List.{List, [], _∷_}
-use Prim.Native.Nat.{ℕ, _+_, _≤_, _<_}
+use Prim.Native.Nat.{ℕ, _≤_, _<_}
 use lib.ListN.{length}
 use borrow.Author.Tests.{lt-ltb, le-ltb, eq-eqb, ne-eqb}
 use Rattle.model.specs.Choice.{if_then_else_}
-use Rattle.model.specs.Ring.{Own, Ring}
-use Rattle.model.specs.Steps.{Effect}
+use Rattle.model.specs.Ring.{Ring}
 use Rattle.model.specs.WellFormed.{Each, nil, cons}
 use Rattle.model.specs.Answers.{numberOf, isAccepted, firstOf}
 use Rattle.model.specs.Words.{encode, decode}
-use Rattle.model.specs.Play.{after, act, refusals, stateRefusals, poolFull}
+use Rattle.model.specs.Play.{after, refusals, stateRefusals, poolFull}
 use Rattle.model.specs.Buffer.{Written, writes}
-use Rattle.model.specs.Structs.{ownOf}
 use Rattle.model.specs.declared.answer.Answer.{Answer}
 use Rattle.model.specs.declared.answer.Answer.the-variants.{Accepted, PoolFull}
 use Rattle.model.specs.declared.event.Event.{Event}
 use Rattle.model.specs.declared.event.Event.the-variants.{On, Off, Notice, Contact, Timer, Deliver, Lose}
 use Rattle.model.proofs.Answers.{accepted-is, none-applies}
 use Rattle.buffer.specs.Parts.{Is}
-use Rattle.events.specs.Acting.{IsActor}
-use Rattle.events.specs.declared.acting.Actor.{Actor}
-use Rattle.events.specs.Applied.{written, eventOn, acted, applied}
+use Rattle.events.specs.Applied.{written, eventOn, applied}
 use Rattle.events.proofs.Refusals.{stays, passes}
-use Rattle.events.proofs.Acted.{acted-is}
 
 -- the number that the code asks about
 pub is-accepted : (a : Answer) {k : ℕ} → k ≡ numberOf a → k ≡ 0 → a ≡ Accepted
@@ -76,12 +71,3 @@ module _ (ws : List ℕ) (e : Event) where
   event-passed a =
       ap (λ (b : Answer). writes ws b (encode (after (decode ws) e)))
       (sym (passes (refusals (decode ws) e) (poolFull (decode ws) e ∷ []) (none-applies (refusals (decode ws) e) (each-refuses (decode ws) e) a)))
-
-  -- where the event is a step of node x with this effect
-  pub event-acted : firstOf (refusals (decode ws) e) ≡ Accepted
-      → {x : ℕ} (step : ℕ → Own → Effect) → after (decode ws) e ≡ act x step (decode ws)
-      → {a : Actor} → IsActor ws x a → (f : Effect) → f ≡ step (a .time .0) (ownOf (a .own))
-      → {r : Written} → r ≡ applied ws (acted x f (decode ws)) → r ≡ eventOn ws e
-  event-acted ok {x} step s {a} is f i done =
-      done ∙ ap (applied ws) (acted-is x step (decode ws) f (i ∙ ap (λ (k : ℕ). step k (ownOf (a .own))) (is .time) ∙ ap (step (decode ws .node x .clock + 1)) (is .own)) ∙ sym s)
-      ∙ event-passed ok

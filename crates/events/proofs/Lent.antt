@@ -1,26 +1,56 @@
--- The keys that a step of an actor is lent are those of its table.
-use mathlib.Core.Path.{_≡_, sym, ap, subst, _∙_}
+-- What a step is lent of words that read as a ring: the acting node, and the keys of the table.
+use mathlib.Core.Path.{_≡_, sym, ap, ap₂, _∙_}
+use mathlib.Core.Bool.{true}
 use mathlib.Core.List.{List}
-use Prim.Native.Nat.{ℕ}
+use Prim.Native.Nat.{ℕ, _+_, _^_, _≤_, _<_}
 use native.Mathlib.Omega.{arith}
-use lib.ListN.{length}
-use Rattle.model.specs.Words.{decodeTable}
+use lib.ListN.{length, take}
+use Rattle.model.specs.Leafset.{Table}
+use Rattle.model.specs.Ring.{Own, Ring}
+use Rattle.model.specs.Steps.{Effect}
+use Rattle.model.specs.Words.{ringLength, decodeTable, decode, readsAsRing}
+use Rattle.model.specs.Play.{act}
+use Rattle.model.specs.Structs.{tableOf, ownOf}
+use Rattle.model.specs.declared.answer.Answer.{Answer}
 use Rattle.leafset.specs.Table.{InTable}
+use Rattle.buffer.specs.Parts.{Is}
+use Rattle.buffer.proofs.ReadRing.{read-is}
 use Rattle.protocol.specs.Effects.{OwnFits}
 use Rattle.events.specs.Acting.{IsActor}
+use Rattle.events.specs.Applied.{written, acted, applied}
 use Rattle.events.specs.declared.acting.Actor.{Actor}
+use Rattle.events.proofs.Valid.{long}
 
-module _ (ws keys : List ℕ) (x : ℕ) (a : Actor) (is : IsActor ws x a) (e : keys ≡ decodeTable ws .keys) where
-  pub lent-long : length keys ≡ a .n
-  lent-long = ap length e ∙ sym (is .nodes)
+module _ {ws : List ℕ} {x : ℕ} {a : Actor} (is : IsActor ws x a) where
+  module _ (keys : List ℕ) (e : take (a .n) keys ≡ decodeTable ws .keys) where
+    pub keys-many : length (take (a .n) keys) ≡ a .n
+    keys-many = ap length e ∙ sym (is .nodes)
 
-  pub lent-table : InTable keys x (a .own .held)
-  lent-table =
-      record {
-        few = omega (arith, lent-long, is .few);
-        node = omega (arith, lent-long, is .member);
-        within = λ y h. omega (arith, lent-long, is .fits .held-within y h);
-      }
+    pub keys-table : {leaf : ℕ} → leaf ≡ decodeTable ws .leaf → tableOf leaf (take (a .n) keys) ≡ decode ws .table
+    unfolding decode
+    keys-table l = ap₂ {C = Table} tableOf l e
 
-  pub lent-fits : OwnFits (length keys) (a .own)
-  lent-fits = subst (λ (n : ℕ). OwnFits n (a .own)) (sym lent-long) (is .fits)
+    pub in-table : InTable (take (a .n) keys) x (a .own .held)
+    in-table =
+        record {
+          few = omega (arith, keys-many, is .few);
+          node = omega (arith, keys-many, is .member);
+          within = λ y h. omega (arith, keys-many, is .fits .held-within y h);
+        }
+
+    pub own-fits : OwnFits (length (take (a .n) keys)) (a .own)
+    own-fits = rw keys-many (is .fits)
+
+  module _ (reads : readsAsRing ws ≡ true) where
+    -- what writing an effect requires
+    pub may-write : (length ws ≡ ringLength) × (a .n ≤ 64) × (x < a .n) × (a .m ≤ 1024) × (a .time .0 < 2 ^ 24)
+    may-write = (long ws reads, is .few, is .member, is .room, is .time-room)
+
+    -- the effect of a step, once written, is what the node's act leaves
+    pub acts : {r : Answer} {ws' : List ℕ} (step : ℕ → Own → Effect) (e : Effect)
+        → ((ρ : Ring) → Is ws (a .n) (a .m) ρ → a .time .0 ≡ ρ .node x .clock + 1 → written r ws' ≡ applied ws (acted x e ρ))
+        → e ≡ step (a .time .0) (ownOf (a .own)) → written r ws' ≡ applied ws (act x step (decode ws))
+    unfolding act
+    acts step e f p =
+        f (decode ws) (read-is ws reads _ _ (is .nodes) (is .count)) (is .time)
+        ∙ ap (λ (e : Effect). applied ws (acted x e (decode ws))) (p ∙ ap₂ step (is .time) (is .own))

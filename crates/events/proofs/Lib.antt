@@ -1,7 +1,7 @@
 pub mod Valid
 pub mod Refusals
-pub mod Acted
 pub mod Answered
+pub mod Acted
 pub mod Actors
 pub mod Lent
 pub mod Delivery

@@ -3,17 +3,19 @@ ghost use mathlib.Core.Path.{_≡_};
 ghost use mathlib.Core.Bool.{true};
 ghost use Prim.Native.Nat.{ℕ, _+_, _^_, _<_, _≤_};
 ghost use lib.ListN.{length};
+ghost use Rattle.model.specs.Sets.{ofBits};
 ghost use Rattle.model.specs.Ring.{Ring};
 ghost use Rattle.model.specs.Words.{ringLength};
-ghost use Rattle.model.specs.Structs.{RoomNode, RoomMessage};
+ghost use Rattle.model.specs.Structs.{spareAt, RoomNode, RoomMessage};
 ghost use Rattle.buffer.specs.Parts.{Is};
-ghost use Rattle.protocol.specs.Effects.{replyEffect, callsEffect};
+ghost use Rattle.protocol.specs.Effects.{replyEffect, callsEffect, requestsEffect};
 ghost use Rattle.events.specs.Applied.{written, acted, applied};
 use buffer::messages;
 use buffer::node;
 use buffer::sending;
 use leafset::sets;
 use model::answer::Answer;
+use model::node::NodeRecord;
 use model::values::NodeNumber;
 use model::values::Stamp;
 use protocol::reply::Calls;
@@ -66,5 +68,28 @@ pub fn calls(
     }
     node::store(words, n, x, time, own);
     sending::send_each(words, m, calls.tag, x, to);
+    Answer::Accepted
+}
+
+// Node x, of n, acts at `time` with a request to the spare of each node of the set `to`, after the m messages.
+pub fn requests(
+    words: &mut [u32],
+    n: usize,
+    m: usize,
+    x: NodeNumber,
+    time: Stamp,
+    own: NodeRecord,
+    to: u64,
+) -> Answer
+    requires { ⌜ (length (now words) ≡ ringLength) × (n ≤ 64) × (x .0 < n) × (m ≤ 1024) × (time .0 < 2 ^ 24) ⌝ }
+    requires { ⌜ RoomNode own × ((z : ℕ) → ofBits to z ≡ true → spareAt own z < 64) ⌝ }
+    ensures { λ r. ⌜ ((ρ : Ring) → Is (now (words .entry)) n m ρ → time .0 ≡ ρ .node (x .0) .clock + 1 → written r (now (words .exit)) ≡ applied (now (words .entry)) (acted (x .0) (requestsEffect (x .0) (time .0) own to) ρ)) ⌝ }
+{
+    let more = sets::size(to) as usize;
+    if 1024 < m + more {
+        return Answer::PoolFull;
+    }
+    node::store(words, n, x, time, own);
+    sending::send_requests(words, m, x, time, own, to);
     Answer::Accepted
 }

@@ -4,3 +4,4 @@ pub mod apply;
 pub mod contact;
 pub mod deliver;
 pub mod state;
+pub mod timer;

@@ -11,8 +11,8 @@ use lib.Bits.{bitAnd, bitOr}
 use Rattle.model.specs.Sets.{Set, noneNode, with, union, ofBits, toBits, members, some, lowest}
 use Rattle.model.specs.Leafset.{Table, leafset, nearest, closest, successor, passesZero}
 use Rattle.model.specs.Ring.{Own, Message}
-use Rattle.model.specs.Steps.{Effect, plain, nothing, deliver, onPingContact, onPongContact, onPingAskInv, onPongAskInv, onPingInvite, onPongInvite, onPingAskRepl, onPongAskRepl, onPingReplace, onPongReplace, onPingDeloopy, onPongDeloopy}
-use Rattle.model.specs.Structs.{tableOf}
+use Rattle.model.specs.Steps.{Effect, plain, stamped, pingReplace, nothing, deliver, onPingContact, onPongContact, onPingAskInv, onPongAskInv, onPingInvite, onPongInvite, onPingAskRepl, onPongAskRepl, onPingReplace, onPongReplace, onPingDeloopy, onPongDeloopy}
+use Rattle.model.specs.Structs.{tableOf, ownOf, spareAt}
 use Rattle.model.specs.declared.node.NodeRecord.{NodeRecord}
 use Rattle.model.specs.declared.values.NodeNumber.{NodeNumber}
 use Rattle.model.proofs.Laws.{decide, and-left, or-none-right, not-out-false, some-none, some-out}
@@ -22,18 +22,25 @@ use Rattle.leafset.proofs.Leaves.{leafset-back}
 use Rattle.leafset.proofs.Choices.{successor-low}
 use Rattle.leafset.proofs.Bits.{or-union}
 use Rattle.protocol.specs.declared.reply.Reply.{Reply}
-use Rattle.protocol.specs.Effects.{Owns, Replies, CallsEach}
+use Rattle.protocol.specs.Effects.{requestsEffect, Owns, Replies, CallsEach}
 use Rattle.protocol.proofs.Changes.{getD-any, within-with, within-union, within-part}
 use Rattle.protocol.proofs.Bits.{and-both, zero-none}
 
 -- a message of one type to each node of a set
-pub calls : {n : ℕ} {q : NodeRecord} {o : Own} (me tag to : ℕ) (S : Set) → n ≤ 64 → Owns n q o → ofBits to ≡ S → Within n to
+pub calls : {n : ℕ} {q : NodeRecord} {o : Own} (me tag to : ℕ) (S : Set) → n ≤ 64 → Owns n q o → tag < 2 ^ 4 → ofBits to ≡ S → Within n to
     → CallsEach n me (record { own = q; tag = tag; to = to }) (record { own = o; sent = map (plain tag me) (members n S) })
-calls {n} me tag to S few p e low = record {
+calls {n} me tag to S few p room e low = record {
   effect = ap₂ (λ (o : Own) (l : List ℕ). record { own = o; sent = map (plain tag me) l }) (p .own) (sym (members-to (ofBits to) n low 64 few) ∙ ap (members n) e);
   own-fits = p .fits;
+  tag-room = room;
   to-within = low;
 }
+
+-- a request to the spare of each node of a set
+pub requested : {n : ℕ} (me time : ℕ) (q : NodeRecord) (to : ℕ) (S : Set) → n ≤ 64 → Within n to → ofBits to ≡ S
+    → requestsEffect me time q to ≡ record { own = ownOf q; sent = map (λ z. stamped pingReplace me (spareAt q z) z time) (members n S) }
+requested {n} me time q to S few low e =
+    ap (λ (l : List ℕ). record { own = ownOf q; sent = map (λ z. stamped pingReplace me (spareAt q z) z time) l }) (sym (members-to (ofBits to) n low 64 few) ∙ ap (members n) e)
 
 -- a spare has room in its bits
 lowest-room : (n : ℕ) (S : Set) → n ≤ 64 → lowest n S < 2 ^ 7

@@ -1,14 +1,12 @@
 -- What the answers of a step stand for.
 use mathlib.Core.Path.{_≡_}
-use mathlib.Core.Bool.{true, not, _&&_}
-use mathlib.Core.List.{List, [], _∷_, map}
+use mathlib.Core.Bool.{true}
+use mathlib.Core.List.{[], _∷_, map}
 use Prim.Native.Nat.{ℕ, _≤_, _<_, _^_}
-use lib.Dec.{eqb}
 use Rattle.model.specs.Choice.{if_then_else_}
-use Rattle.model.specs.Sets.{noneNode, ofBits, members}
-use Rattle.model.specs.Leafset.{Table, size}
+use Rattle.model.specs.Sets.{ofBits, members}
 use Rattle.model.specs.Ring.{Own, Message}
-use Rattle.model.specs.Steps.{Effect, plain, outside}
+use Rattle.model.specs.Steps.{Effect, plain, stamped, pingReplace}
 use Rattle.model.specs.Structs.{ownOf, messageOf, spareAt, RoomNode, RoomMessage}
 use Rattle.model.specs.declared.node.NodeRecord.{NodeRecord}
 use Rattle.model.specs.declared.message.MessageRecord.{MessageRecord}
@@ -24,6 +22,10 @@ replyEffect r = record { own = ownOf (r .own); sent = if r .sends then messageOf
 abbrev pub callsEffect : ℕ → Calls → Effect
 callsEffect me r = record { own = ownOf (r .own); sent = map (plain (r .tag) me) (members 64 (ofBits (r .to))) }
 
+-- an own record that stays, and a request to the spare of each node of a set
+abbrev pub requestsEffect : ℕ → ℕ → NodeRecord → ℕ → Effect
+requestsEffect me time q to = record { own = ownOf q; sent = map (λ z. stamped pingReplace me (spareAt q z) z time) (members 64 (ofBits to)) }
+
 -- an own record of a table of n nodes: its parts have room, its sets are of nodes of the table
 pub record OwnFits (n : ℕ) (q : NodeRecord) : Type 0 where
   pub room : RoomNode q
@@ -38,7 +40,12 @@ pub record Replies (n : ℕ) (r : Reply) (e : Effect) : Type 0 where
 pub record CallsEach (n me : ℕ) (r : Calls) (e : Effect) : Type 0 where
   pub effect : callsEffect me r ≡ e
   pub own-fits : OwnFits n (r .own)
+  pub tag-room : r .tag < 2 ^ 4
   pub to-within : Within n (r .to)
+
+pub record RequestsEach (me time : ℕ) (q : NodeRecord) (to : ℕ) (e : Effect) : Type 0 where
+  pub effect : requestsEffect me time q to ≡ e
+  pub spare-low : (z : ℕ) → ofBits to z ≡ true → spareAt q z < 64
 
 -- a record that stands for o, and a message by value that stands for x
 pub record Owns (n : ℕ) (q : NodeRecord) (o : Own) : Type 0 where
@@ -48,12 +55,6 @@ pub record Owns (n : ℕ) (q : NodeRecord) (o : Own) : Type 0 where
 pub record Says (m : MessageRecord) (x : Message) : Type 0 where
   pub message : messageOf m ≡ x
   pub room : RoomMessage m
-
--- what timer 3 asks about: each held node outside the leafset that has a spare
-pub record IsRequests (t : Table) (me time : ℕ) (q : NodeRecord) (r : ℕ) : Type 0 where
-  pub set : ofBits r ≡ (λ (z : ℕ). outside t me time (ownOf q) z && not (eqb (spareAt q z) noneNode))
-  pub within : Within (size t) r
-  pub spare-low : (z : ℕ) → ofBits r z ≡ true → spareAt q z < 64
 
 -- a message to a node of a table of n: types 9, 10 and 11 name a node
 pub record Delivered (n : ℕ) (m : MessageRecord) : Type 0 where

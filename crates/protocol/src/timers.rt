@@ -9,7 +9,7 @@ ghost use Rattle.model.specs.Leafset.{Table, size};
 ghost use Rattle.model.specs.Steps as steps;
 ghost use Rattle.model.specs.Structs.{tableOf, ownOf, spareAt, RoomNode};
 ghost use Rattle.leafset.specs.Table.{Within, InTable};
-ghost use Rattle.protocol.specs.Effects.{OwnFits, Replies, CallsEach, IsRequests};
+ghost use Rattle.protocol.specs.Effects.{OwnFits, Replies, CallsEach, RequestsEach};
 use super::make::naming;
 use super::outside::minus;
 use super::outside::outside;
@@ -84,7 +84,7 @@ fn spared(own: NodeRecord, set: u64) -> u64
 // Timer 3: "each held z outside my leafset with a spare". The own record stays; each spare gets a request.
 pub fn requests(keys: &[u32], leaf: u32, me: NodeNumber, own: NodeRecord) -> u64
     requires { ⌜ InTable (now keys) (me .0) (own .held) × RoomNode own × (leaf ≤ 8) × ((z : ℕ) → spareAt own z ≤ 64) ⌝ }
-    ensures { λ r. ⌜ ((time : ℕ) → IsRequests (tableOf leaf (now (keys .entry))) (me .0) time own r) ⌝ }
+    ensures { λ r. ⌜ ((time : ℕ) → RequestsEach (me .0) time own r (steps.timer3 (tableOf leaf (now (keys .entry))) (me .0) time (ownOf own))) ⌝ }
 {
     let outside = outside(keys, leaf, me, own.held);
     spared(own, outside)

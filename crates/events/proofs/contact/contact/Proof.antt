@@ -1,5 +1,4 @@
-use Rattle.buffer.proofs.ReadRing.{read-is}
-use Rattle.events.proofs.Valid.{long}
+use Rattle.events.proofs.Lent.{may-write, acts}
 use mathlib.Core.Path.{_≡_, refl, sym, _∙_}
 use native.Mathlib.Omega.{arith}
 use mathlib.Core.List.{List}
@@ -8,7 +7,7 @@ use Rattle.model.specs.Words.{decodeTable, decode}
 use Rattle.model.specs.Play.{after}
 use Rattle.model.specs.Steps as steps
 use Rattle.model.specs.declared.event.Event.the-variants.{Contact}
-use Rattle.events.proofs.Answered.{is-accepted, is-refused, event-refused, event-acted}
+use Rattle.events.proofs.Answered.{is-accepted, is-refused, event-refused, event-passed}
 use Rattle.events.proofs.Actors.{meets-acts, meets-in-table}
 use borrow.Author.Needs.{needs}
 use Rattle.events.proofs.contact.contact.Statement.{statement}
@@ -39,7 +38,7 @@ reply-requires : tie.Need-reply-requires
 reply-requires c κs =
     let is = c .before .before .load .ensures in
     let replies = c .before .contact .ensures (decodeTable (c .before .before .before .before .before .before .before .before .before .args .words .now)) 0 _ (is .fits) in
-    ((long (c .before .before .before .before .before .before .before .before .before .args .words .now) (c .before .before .before .before .before .before .before .before .before .pre), is .few, is .member, is .room, is .time-room), (replies .own-fits .room, replies .message-room))
+    (may-write is (c .before .before .before .before .before .before .before .before .before .pre), (replies .own-fits .room, replies .message-room))
 
 same-length-2 : tie.Need-same-length-2
 same-length-2 c = search needs
@@ -53,9 +52,9 @@ returns-2 c =
     let y = c .before .before .before .before .before .before .before .before .before .before .before .before .args .y in
     let is = c .before .before .before .before .before .load .ensures in
     let ok = sym (c .before .before .before .before .before .before .before .before .before .may-meet .ensures) ∙ is-accepted _ (c .before .before .before .before .before .before .before .before .number .ensures) (c .before .before .before .before .before .before .before .if1 .left) in
-    event-acted ws (Contact x y) ok (λ now o. steps.contact (decode ws .table) (x .0) now o (y .0)) refl is _
+    acts is reads (λ now o. steps.contact (decode ws .table) (x .0) now o (y .0)) _ (c .before .before .reply .ensures)
     (c .before .before .before .before .contact .ensures (decode ws .table) (c .before .before .before .before .before .load .result .time .0) _ (is .fits) .effect)
-    (c .before .before .reply .ensures (decode ws) (read-is ws reads _ _ (is .nodes) (is .count)) (is .time))
+    ∙ event-passed ws (Contact x y) ok
 
 pub contact-spec : {M : Type 1} → statement M
 contact-spec =

@@ -12,7 +12,7 @@ use Rattle.protocol.specs.Effects.{replyEffect}
 use Rattle.events.specs.Applied.{acted}
 use Rattle.events.proofs.Valid.{long, leaf-high}
 use Rattle.events.proofs.Answered.{applied-over}
-use Rattle.events.proofs.Lent.{lent-long, lent-table, lent-fits}
+use Rattle.events.proofs.Lent.{keys-many, in-table, own-fits}
 use Rattle.events.proofs.Delivery
 use Rattle.events.proofs.Actors.{acts-running}
 use borrow.Author.Needs.{needs}
@@ -37,7 +37,7 @@ slice-aggregate-deliver : tie.Need-slice-aggregate-deliver
 slice-aggregate-deliver c =
     let start = c .before .before .before .before .before .before .before .before .before .before .before in
     let actor = c .before .before .before .before .before .before .before .load in
-    sym (lent-long (start .args .words .now) (take (actor .result .n) (c .before .before .before .keys .result)) (start .args .message .receiver .0) (actor .result) (actor .ensures) (c .before .before .before .keys .ensures .1))
+    sym (keys-many (actor .ensures) (c .before .before .before .keys .result) (c .before .before .before .keys .ensures .1))
 
 deliver-requires : tie.Need-deliver-requires
 deliver-requires c κs =
@@ -46,8 +46,8 @@ deliver-requires c κs =
     let actor = c .before .before .before .before .before .before .before .load in
     let keys : List ℕ = take (actor .result .n) (c .before .before .before .keys .result) in
     let same = c .before .before .before .keys .ensures .1 in (
-      lent-table ws keys (start .args .message .receiver .0) (actor .result) (actor .ensures) same,
-      lent-fits ws keys (start .args .message .receiver .0) (actor .result) (actor .ensures) same,
+      in-table (actor .ensures) (c .before .before .before .keys .result) same,
+      own-fits (actor .ensures) (c .before .before .before .keys .result) same,
       omega (arith, c .before .leaf .ensures, leaf-high ws (start .pre .0)),
       actor .ensures .time-room,
       Delivery.lent-message ws (start .args .k) (start .args .message) (start .pre .2) (start .pre .1) keys same (start .pre .0),

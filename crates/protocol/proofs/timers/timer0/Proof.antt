@@ -1,5 +1,6 @@
 -- `protocol::timers::timer0` meets its contract.
 use mathlib.Core.Path.{refl}
+use lib.Dec.{lit<}
 use Rattle.model.specs.Steps as steps
 use Rattle.protocol.proofs.Changes.{unchanged}
 use Rattle.protocol.proofs.Steps.{calls}
@@ -8,7 +9,7 @@ use Rattle.protocol.proofs.timers.timer0.Tie as tie
 
 returns : tie.Need-returns
 unfolding steps.timer0
-returns c = λ t me time few fits. calls me 3 (c .args .own .held) _ few (unchanged fits) refl (fits .held-within)
+returns c = λ t me time few fits. calls me 3 (c .args .own .held) _ few (unchanged fits) (lit< tt) refl (fits .held-within)
 
 pub timer0-spec : {M : Type 1} → statement M
 timer0-spec = tie.close (tie.spec returns)

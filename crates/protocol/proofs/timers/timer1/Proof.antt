@@ -1,4 +1,5 @@
 -- `protocol::timers::timer1` meets its contract.
+use lib.Dec.{lit<}
 use borrow.Author.Needs.{needs}
 use Rattle.model.specs.Steps as steps
 use Rattle.protocol.proofs.Changes.{nobody, nobody-within}
@@ -27,6 +28,7 @@ returns c =
     λ time.
     calls (a .me .0) 5 _ _ (start .pre .0 .few)
     (rw nobody at (c .set-candidates .ensures _ fits (nobody-within _)))
+    (lit< tt)
     (invited-set (a .leaf) (start .pre .0) (a .own .candidates) (fits .candidates-within) _ _ (c .before .minus .ensures) (c .before .before .leafset .ensures))
     (invited-low (a .leaf) (start .pre .0) (a .own .candidates) (fits .candidates-within) _ _ (c .before .minus .ensures) (c .before .before .leafset .ensures))
 

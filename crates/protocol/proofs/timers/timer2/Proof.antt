@@ -1,4 +1,5 @@
 -- `protocol::timers::timer2` meets its contract.
+use lib.Dec.{lit<}
 use borrow.Author.Needs.{needs}
 use Rattle.model.specs.Sets.{ofBits}
 use Rattle.model.specs.Steps as steps
@@ -16,7 +17,7 @@ returns c =
     let start = c .before .before in
     let a = start .args in
     λ time.
-    calls (a .me .0) 7 _ _ (start .pre .0 .few) (unchanged (start .pre .1)) (c .outside .ensures)
+    calls (a .me .0) 7 _ _ (start .pre .0 .few) (unchanged (start .pre .1)) (lit< tt) (c .outside .ensures)
     (within-part _ _ (ofBits (a .own .held)) _ (start .pre .0 .within) (c .outside .ensures))
 
 pub timer2-spec : {M : Type 1} → statement M
