@@ -25,7 +25,7 @@ shared-slice-read-play-word : tie.Need-shared-slice-read-play-word Inv-loop μ-l
 shared-slice-read-play-word c = search needs
 
 play-word-requires : tie.Need-play-word-requires Inv-loop μ-loop
-play-word-requires c κs = c .before .before .before .loop .inv .1 .words-read
+play-word-requires c κs = c .before .before .before .loop .inv .1 .still-reads
 
 note-requires : tie.Need-note-requires Inv-loop μ-loop
 note-requires c κs = search needs
@@ -37,13 +37,13 @@ loop-less : tie.Need-loop-less Inv-loop μ-loop
 loop-less c = search needs
 
 loop-again : tie.Need-loop-again Inv-loop μ-loop
-loop-again c = (search needs, ?)
+loop-again c = (search needs, rw (c .before .before .note .ensures) (one-more (c .before .before .before .before .before .before .before .before .before .before .loop .inv .1) (search needs) (c .before .before .before .before .before .before .play-word .ensures)))
 
 same-length : tie.Need-same-length Inv-loop μ-loop
-same-length c = long _ (c .before .loop .inv .1 .words-read) ∙ sym (long _ (c .before .before .before .before .before .pre))
+same-length c = long _ (c .before .loop .inv .1 .still-reads) ∙ sym (long _ (c .before .before .before .before .before .pre))
 
 same-length-2 : tie.Need-same-length-2 Inv-loop μ-loop
-same-length-2 c = c .before .loop .inv .1 .same-length
+same-length-2 c = c .before .loop .inv .1 .as-many-places
 
 returns : tie.Need-returns Inv-loop μ-loop
 returns c =
