@@ -10,9 +10,9 @@ use Rattle.model.specs.Choice.{if_then_else_}
 use Rattle.model.specs.WellFormed.{Each, nil, cons}
 use Rattle.model.specs.Answers.{Refusal, firstOf, isAccepted}
 use Rattle.model.specs.Events.{eventOf, wordRefusals, wordAnswer, readEvent}
-use Rattle.model.specs.Words.{ringLength, encode, decode, readsAsRing}
-use Rattle.model.specs.Play.{after, stateRefusals}
-use Rattle.model.specs.Buffer.{Written, writes, wrongLength, notARing, playRefusals, bufferAnswer, playBuffer}
+use Rattle.model.specs.Words.{ringLength, decode, readsAsRing}
+use Rattle.model.specs.Play.{stateRefusals}
+use Rattle.model.specs.Buffer.{Written, wrongLength, notARing, bufferAnswer, playBuffer}
 use Rattle.model.specs.declared.answer.Answer.{Answer}
 use Rattle.model.specs.declared.answer.Answer.the-variants.{WrongLength, NotARing}
 use Rattle.model.specs.declared.event.Event.{Event}
@@ -21,7 +21,6 @@ use Rattle.model.specs.declared.event.Reading.the-variants.{Read, Refused}
 use Rattle.events.specs.Applied.{written, eventOn}
 use Rattle.events.proofs.Answered.{refuses}
 use Rattle.events.proofs.Refusals as Refusals
-use Rattle.events.proofs.Valid.{long}
 
 -- the first of two lists of refusals: of the second where none of the first applies
 first-of-both :
@@ -39,13 +38,13 @@ first-of-both (q ∷ qs) rs (cons n e) = go (first-of-both qs rs e) (q .applies)
 
 -- ---- what reading a word says of its answer
 
-pub record IsEvent (w : ℕ) (e : Event) : Type 0 where
-  pub accepted : isAccepted (wordAnswer w) ≡ true
-  pub event : eventOf w ≡ e
+record IsEvent (w : ℕ) (e : Event) : Type 0 where
+  accepted : isAccepted (wordAnswer w) ≡ true
+  event : eventOf w ≡ e
 
-pub record IsNoEvent (w : ℕ) (a : Answer) : Type 0 where
-  pub refused : isAccepted a ≡ false
-  pub answer : wordAnswer w ≡ a
+record IsNoEvent (w : ℕ) (a : Answer) : Type 0 where
+  refused : isAccepted a ≡ false
+  answer : wordAnswer w ≡ a
 
 module _ (w : ℕ) {r : Reading} (read : r ≡ readEvent w) where
   is-event : (e : Event) → r ≡ Read e → IsEvent w e

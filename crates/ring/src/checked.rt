@@ -11,6 +11,7 @@ use model::event;
 use model::event::Event;
 use model::event::Reading;
 
+// The event, by its function: 7 to 11.
 pub fn play_event(words: &mut [u32], e: Event) -> Answer
     requires { ⌜ readsAsRing (now words) ≡ true ⌝ }
     ensures { λ r. ⌜ written r (now (words .exit)) ≡ eventOn (now (words .entry)) e ⌝ }
@@ -26,6 +27,7 @@ pub fn play_event(words: &mut [u32], e: Event) -> Answer
     }
 }
 
+// 4 and 5 of the word, then those of the event.
 pub fn play_word(words: &mut [u32], word: u32) -> Answer
     requires { ⌜ readsAsRing (now words) ≡ true ⌝ }
     ensures { λ r. ⌜ written r (now (words .exit)) ≡ playBuffer (now (words .entry)) word ⌝ }

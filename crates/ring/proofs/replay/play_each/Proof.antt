@@ -1,5 +1,5 @@
 use mathlib.Core.Path.{_≡_, sym, _∙_}
-use Prim.Native.Nat.{ℕ, _-_, _≤_}
+use Prim.Native.Nat.{_-_, _≤_}
 use native.Mathlib.Omega.{arith}
 use lib.ListN.{length}
 use borrow.Author.Needs.{needs}
@@ -18,23 +18,8 @@ abbrev μ-loop : tie.MeasureT-loop
 loop-holds : tie.Need-loop-holds Inv-loop μ-loop
 loop-holds c = (search needs, none-played _ _ _ (c .before .before .before .pre))
 
-mul-play-word : tie.Need-mul-play-word Inv-loop μ-loop
-mul-play-word c = search needs
-
-shared-slice-read-play-word : tie.Need-shared-slice-read-play-word Inv-loop μ-loop
-shared-slice-read-play-word c = search needs
-
 play-word-requires : tie.Need-play-word-requires Inv-loop μ-loop
 play-word-requires c κs = c .before .before .before .loop .inv .1 .still-reads
-
-note-requires : tie.Need-note-requires Inv-loop μ-loop
-note-requires c κs = search needs
-
-add-i : tie.Need-add-i Inv-loop μ-loop
-add-i c = search needs
-
-loop-less : tie.Need-loop-less Inv-loop μ-loop
-loop-less c = search needs
 
 loop-again : tie.Need-loop-again Inv-loop μ-loop
 loop-again c = (search needs, rw (c .before .before .note .ensures) (one-more (c .before .before .before .before .before .before .before .before .before .before .loop .inv .1) (search needs) (c .before .before .before .before .before .before .play-word .ensures)))
@@ -55,16 +40,5 @@ pub play-each-spec : {M : Type 1} → statement M
 play-each-spec =
     tie.close
     (tie.spec
-    Inv-loop
-    μ-loop
-    loop-holds
-    mul-play-word
-    shared-slice-read-play-word
-    play-word-requires
-    note-requires
-    add-i
-    loop-less
-    loop-again
-    same-length
-    same-length-2
-    returns)
+    Inv-loop μ-loop loop-holds (λ c. search needs) (λ c. search needs) play-word-requires (λ c κs. search needs)
+    (λ c. search needs) (λ c. search needs) loop-again same-length same-length-2 returns)

@@ -1,7 +1,6 @@
 use borrow.Author.Needs.{needs}
 use borrow.Author.Tests.{eq-eqb, ne-eqb}
 use mathlib.Core.Path.{sym, _∙_}
-use Rattle.events.proofs.Valid.{long}
 use Rattle.ring.proofs.Replays.{refused, opened-reads, accepted}
 use Rattle.ring.proofs.replay.replay.Statement.{statement}
 use Rattle.ring.proofs.replay.replay.Tie as tie
