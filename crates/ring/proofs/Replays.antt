@@ -1,4 +1,4 @@
--- Laws of a script played word by word.
+-- A script played word by word, and a replay.
 use mathlib.Core.Path.{_≡_, refl, sym, ap, ap₂, _∙_}
 use mathlib.Core.Bool.{true, false}
 use mathlib.Core.List.{List, [], _∷_}
@@ -23,6 +23,7 @@ use Rattle.events.specs.Applied.{written}
 use Rattle.events.proofs.Answered.{refuses, accepts}
 use Rattle.ring.specs.Replay.{replayBuffer, Replayed, PlayedUpTo}
 
+-- an answer's number fits a byte
 pub number-low : (a : Answer) → numberOf a ≤ 11
 number-low Accepted = lit≤ tt
 number-low WrongLength = lit≤ tt
@@ -44,6 +45,7 @@ next ws [] k h = absurd (not-suc-le-zero h)
 next ws (w ∷ script) zero h = refl
 next ws (w ∷ script) (suc k) h = next (playBuffer ws w .words) script k (le-of-suc-le-suc h)
 
+-- no word yet
 pub none-played : (ws script answers : List ℕ) → readsAsRing ws ≡ true → PlayedUpTo 0 ws script answers ws answers
 unfolding playBufferAll
 none-played ws script answers e =
