@@ -1,0 +1,49 @@
+// Opening a ring and playing a list of event words on it.
+ghost use mathlib.Core.Path.{_≡_};
+ghost use mathlib.Core.Bool.{true};
+ghost use lib.ListN.{length, set};
+ghost use Rattle.model.specs.Answers.{numberOf};
+ghost use Rattle.model.specs.Words.{readsAsRing};
+ghost use Rattle.model.specs.Structs.{tableOf};
+ghost use Rattle.ring.specs.Replay.{PlayedUpTo, Replayed};
+use super::checked;
+use super::pending;
+use model::answer::Answer;
+
+// Writes the answer's number to place i, if there is one.
+fn note(answers: &mut [u8], i: usize, answer: Answer)
+    ensures { λ _. ⌜ now (answers .exit) ≡ set (now (answers .entry)) i (numberOf answer) ⌝ }
+{
+    if i < answers.len() {
+        answers[i] = answer.number() as u8;
+    }
+}
+
+// Plays each word on what the one before left.
+fn play_each(words: &mut [u32], script: &[u32], answers: &mut [u8])
+    requires { ⌜ readsAsRing (now words) ≡ true ⌝ }
+    ensures { λ _. ⌜ PlayedUpTo (length (now (script .entry))) (now (words .entry)) (now (script .entry)) (now (answers .entry)) (now (words .exit)) (now (answers .exit)) ⌝ }
+{
+    for i in 0..script.len() {
+        let answer = checked::play_word(words, script[i]);
+        note(answers, i, answer);
+    }
+}
+
+// Opens a ring and plays a list of words on it. Each answer's number is written to its place, those past the places are dropped.
+pub fn replay(
+    words: &mut [u32],
+    leaf: u32,
+    keys: &[u32],
+    script: &[u32],
+    answers: &mut [u8],
+) -> Answer
+    ensures { λ r. ⌜ Replayed (now (words .entry)) (tableOf leaf (now (keys .entry))) (now (script .entry)) (now (answers .entry)) r (now (words .exit)) (now (answers .exit)) ⌝ }
+{
+    let opened = pending::open(words, leaf, keys);
+    if opened.number() != 0 {
+        return opened;
+    }
+    play_each(words, script, answers);
+    opened
+}
