@@ -1,2 +1,6 @@
+pub mod Lent
+pub mod Opened
+pub mod Asked
+pub mod Held
 pub mod Plays
 pub mod Replays

@@ -4,8 +4,10 @@ ghost use mathlib.Core.Bool.{true};
 ghost use Rattle.model.specs.Words.{readsAsRing};
 ghost use Rattle.model.specs.Buffer.{playBuffer};
 ghost use Rattle.events.specs.Applied.{written, eventOn};
-use super::pending;
+use events::contact;
+use events::deliver;
 use events::state;
+use events::timer;
 use model::answer::Answer;
 use model::event;
 use model::event::Event;
@@ -19,10 +21,10 @@ pub fn play_event(words: &mut [u32], e: Event) -> Answer
     match e {
         Event::On(x) => state::on(words, x),
         Event::Off(x) => state::off(words, x),
-        Event::Notice(x, z) => pending::notice(words, x, z),
-        Event::Contact(x, y) => pending::contact(words, x, y),
-        Event::Timer(x, k) => pending::timer(words, x, k),
-        Event::Deliver(i) => pending::deliver(words, i),
+        Event::Notice(x, z) => contact::notice(words, x, z),
+        Event::Contact(x, y) => contact::contact(words, x, y),
+        Event::Timer(x, k) => timer::timer(words, x, k),
+        Event::Deliver(i) => deliver::deliver(words, i),
         Event::Lose(i) => state::lose(words, i),
     }
 }

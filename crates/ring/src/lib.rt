@@ -1,5 +1,6 @@
-// The public calls on lent words. None has a `requires`: each answers on every input.
+// The public calls. They require nothing: on every input the answer, and every lent word afterwards, is the definition's.
 mod checked;
-mod pending;
+pub mod open;
 pub mod play;
+pub mod questions;
 pub mod replay;

@@ -7,7 +7,7 @@ ghost use Rattle.model.specs.Words.{readsAsRing};
 ghost use Rattle.model.specs.Structs.{tableOf};
 ghost use Rattle.ring.specs.Replay.{PlayedUpTo, Replayed};
 use super::checked;
-use super::pending;
+use super::open;
 use model::answer::Answer;
 
 // Writes the answer's number to place i, if there is one.
@@ -40,7 +40,7 @@ pub fn replay(
 ) -> Answer
     ensures { λ r. ⌜ Replayed (now (words .entry)) (tableOf leaf (now (keys .entry))) (now (script .entry)) (now (answers .entry)) r (now (words .exit)) (now (answers .exit)) ⌝ }
 {
-    let opened = pending::open(words, leaf, keys);
+    let opened = open::open(words, leaf, keys);
     if opened.number() != 0 {
         return opened;
     }
