@@ -11,7 +11,6 @@ ghost use Rattle.model.specs.Words.{ringLength, pairWord, decodeTable, decodeNo
 ghost use Rattle.model.specs.Play.{started, stopped};
 ghost use Rattle.model.specs.Structs.{ownOf, RoomNode};
 ghost use Rattle.buffer.specs.Parts.{Is, LoadedNode, Stored, update, setRunning, setClock, setOwn, stepped};
-use leafset::sets;
 use model::node::NodeRecord;
 use model::values::NodeNumber;
 use model::values::Stamp;

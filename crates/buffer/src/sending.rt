@@ -12,7 +12,6 @@ ghost use Rattle.model.specs.Play.{setMessages};
 ghost use Rattle.model.specs.Structs.{messageOf, spareAt, RoomNode, RoomMessage};
 ghost use Rattle.buffer.specs.Parts.{Is};
 use super::messages;
-use leafset::sets;
 use model::message::MessageRecord;
 use model::node::NodeRecord;
 use model::values::NodeNumber;

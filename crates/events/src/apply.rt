@@ -12,7 +12,6 @@ ghost use Rattle.events.specs.Applied.{written, acted, applied};
 use buffer::messages;
 use buffer::node;
 use buffer::sending;
-use leafset::sets;
 use model::answer::Answer;
 use model::values::NodeNumber;
 use model::values::Stamp;

@@ -7,7 +7,6 @@ ghost use Rattle.protocol.specs.Effects.{OwnFits, Replies};
 use super::make::plain;
 use super::own::release;
 use super::reply::Reply;
-use leafset::sets;
 use model::node::NodeRecord;
 use model::values::NodeNumber;
 use model::word::MessageWord;

@@ -3,7 +3,7 @@ use Prim.Native.Nat.{ℕ}
 use native.Mathlib.Omega.{arith}
 use lib.ListN.{length, length-append, length-map}
 use Rattle.model.specs.Sets.{ofBits, members, count}
-use Rattle.leafset.proofs.Members.{length-members}
+use Rattle.sets.proofs.Members.{length-members}
 use Rattle.protocol.specs.Effects.{callsEffect}
 use Rattle.events.specs.Applied.{acted}
 use Rattle.events.proofs.Answered.{applied-room, applied-full}

@@ -1,4 +1,4 @@
--- Sets as numbers of 64 bits: what the operations of `src/sets.rt` on the numbers are of the sets.
+-- Sets as numbers of 64 bits: what the operations of `src/lib.rt` on the numbers are of the sets.
 use mathlib.Core.Path.{_≡_, refl, sym, ap, ap₂, _∙_, subst, fun-ext}
 use mathlib.Core.Logic.{⊎-elim}
 use mathlib.Core.Bool.{Bool, true, false, not, _&&_, _||_, and-true, and-false}
@@ -18,9 +18,9 @@ use Rattle.model.specs.Sets.{Set, with, without, union, count, some, members, l
 use Rattle.model.specs.Fields.{bit}
 use Rattle.model.proofs.Laws.{clash, and-left, or-case, decide, some-none}
 use Rattle.model.proofs.Bits.{is-bit, toBits<}
-use Rattle.leafset.specs.Rest.{IsRest}
-use Rattle.leafset.specs.Table.{Within}
-use Rattle.leafset.proofs.Members.{First, members-none, members-next, lowest-is, lowest-none, lowest-first, toBits-to}
+use Rattle.sets.specs.Rest.{IsRest}
+use Rattle.sets.specs.Within.{Within}
+use Rattle.sets.proofs.Members.{First, members-none, members-next, lowest-is, lowest-none, lowest-first, toBits-to}
 
 -- ---- one bit
 

@@ -1,9 +1,9 @@
--- `leafset::sets::lowest` meets its contract.
+-- `sets::lowest` meets its contract.
 use native.Mathlib.Omega.{arith}
 use lib.Count.{trailing-le}
-use Rattle.leafset.proofs.Bits.{trailing-lowest}
-use Rattle.leafset.proofs.sets.lowest.Statement.{statement}
-use Rattle.leafset.proofs.sets.lowest.Tie as tie
+use Rattle.sets.proofs.Bits.{trailing-lowest}
+use Rattle.sets.proofs.lowest.Statement.{statement}
+use Rattle.sets.proofs.lowest.Tie as tie
 
 cast-t3 : tie.Need-cast-t3
 cast-t3 c = omega (arith, trailing-le 64 (c .args .set))

@@ -1,12 +1,12 @@
--- `leafset::sets::without` meets its contract.
+-- `sets::without` meets its contract.
 use mathlib.Core.Path.{ap, _∙_}
 use Prim.Native.Nat.{ℕ, _-_}
 use lib.Bits.{bitAnd, and-le-l}
 use borrow.Author.Needs.{needs}
 use Rattle.model.specs.Sets.{ofBits}
-use Rattle.leafset.proofs.Bits.{sub-without, shift-one}
-use Rattle.leafset.proofs.sets.without.Statement.{statement}
-use Rattle.leafset.proofs.sets.without.Tie as tie
+use Rattle.sets.proofs.Bits.{sub-without, shift-one}
+use Rattle.sets.proofs.without.Statement.{statement}
+use Rattle.sets.proofs.without.Tie as tie
 
 cast-result : tie.Need-cast-result
 cast-result c = search needs

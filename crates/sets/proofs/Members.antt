@@ -1,16 +1,17 @@
 -- The members of a set in rising order, the lowest of them, and sets with no member from a number on.
 use mathlib.Core.Path.{_≡_, refl, sym, ap, ap₂, _∙_}
-use mathlib.Core.Bool.{Bool, true, false, and-true, and-false, or-false}
+use mathlib.Core.Bool.{Bool, true, false, not, _&&_, and-true, and-false, or-false}
 use mathlib.Core.List.{List, [], _∷_, _++_, append-nil}
 use Prim.Native.Nat.{ℕ, zero, suc, _+_, _≤_, _<_}
 use native.Mathlib.Nat.{le-refl, add-zero, not-suc-le-zero}
 use native.Mathlib.Omega.{arith}
 use native.Mathlib.Decide.{ℕ-discrete, decLt}
+use lib.Dec.{eqb}
 use lib.ListN.{length, getD, length-append}
-use borrow.Author.Tests.{eq-eqb, ne-eqb}
+use borrow.Author.Tests.{eq-eqb, ne-eqb, eqb-true}
 use Rattle.model.specs.Choice.{if_then_else_}
 use Rattle.model.specs.Sets.{Set, without, noneNode, some, count, members, lowest, toBits}
-use Rattle.model.proofs.Laws.{clash, is-false, decide, some-none}
+use Rattle.model.proofs.Laws.{clash, is-false, decide, some-none, count-none}
 
 -- ---- the set without a member
 
@@ -121,3 +122,31 @@ module _ (S : Set) (n : ℕ) (low : (y : ℕ) → S y ≡ true → y < n) where
     pub some-to : some n S ≡ some m S
     unfolding some
     some-to = steady (λ k. some k S) n m h (λ k l. rw (none-from k l) (or-false (some k S)))
+
+-- ---- counts of a part and of what is left
+
+pub count-split : (n : ℕ) (S R : Set) → ((y : ℕ) → R y ≡ true → S y ≡ true) → count n (λ y. S y && not (R y)) + count n R ≡ count n S
+unfolding count
+count-split zero S R f = refl
+count-split (suc n) S R f = go (S n) (R n) (f n) (count-split n S R f)
+  where
+    go : (a b : Bool) → (b ≡ true → a ≡ true) → count n (λ y. S y && not (R y)) + count n R ≡ count n S
+        → count n (λ y. S y && not (R y)) + (if a && not b then 1 else 0) + (count n R + (if b then 1 else 0)) ≡ count n S + (if a then 1 else 0)
+    go true true h e = omega arith
+    go true false h e = omega arith
+    go false false h e = omega arith
+    go false true h e = clash (h refl) refl
+
+count-one : (n b : ℕ) → b < n → count n (λ y. eqb y b) ≡ 1
+unfolding count
+count-one zero b h = absurd (not-suc-le-zero h)
+count-one (suc n) b h =
+    elim (ℕ-discrete n b) [
+      | yes e ↦ rw (eq-eqb n b e, count-none n (λ y. eqb y b) (λ y l. ne-eqb y b (λ q. omega arith)))
+      | no d ↦ rw (ne-eqb n b d, count-one n b (omega arith))
+    ]
+
+pub count-without : (n : ℕ) (S : Set) (b : ℕ) → b < n → S b ≡ true → count n (without S b) + 1 ≡ count n S
+count-without n S b h e =
+    ap (λ (k : ℕ). count n (without S b) + k) (sym (count-one n b h))
+    ∙ count-split n S (λ y. eqb y b) (λ y t. ap S (eqb-true y b t) ∙ e)

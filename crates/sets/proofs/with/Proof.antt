@@ -1,12 +1,12 @@
--- `leafset::sets::with` meets its contract.
+-- `sets::with` meets its contract.
 use mathlib.Core.Path.{ap, _∙_}
 use Prim.Native.Nat.{ℕ}
 use lib.Bits.{bitOr}
 use borrow.Author.Needs.{needs}
 use Rattle.model.specs.Sets.{ofBits}
-use Rattle.leafset.proofs.Bits.{or-with, shift-one}
-use Rattle.leafset.proofs.sets.with.Statement.{statement}
-use Rattle.leafset.proofs.sets.with.Tie as tie
+use Rattle.sets.proofs.Bits.{or-with, shift-one}
+use Rattle.sets.proofs.with.Statement.{statement}
+use Rattle.sets.proofs.with.Tie as tie
 
 cast-result : tie.Need-cast-result
 cast-result c = search needs

@@ -3,7 +3,7 @@ ghost use mathlib.Core.Path.{_≡_};
 ghost use Prim.Native.Nat.{_<_};
 ghost use Rattle.model.specs.Sets.{ofBits, count};
 ghost use Rattle.model.specs.Sets as model;
-ghost use Rattle.leafset.specs.Rest.{IsRest};
+ghost use Rattle.sets.specs.Rest.{IsRest};
 use model::values::NodeNumber;
 
 // Whether x is a member of the set.

@@ -1,8 +1,8 @@
--- `leafset::sets::rest` meets its contract.
+-- `sets::rest` meets its contract.
 use borrow.Author.Needs.{needs}
-use Rattle.leafset.proofs.Bits.{and-rest}
-use Rattle.leafset.proofs.sets.rest.Statement.{statement}
-use Rattle.leafset.proofs.sets.rest.Tie as tie
+use Rattle.sets.proofs.Bits.{and-rest}
+use Rattle.sets.proofs.rest.Statement.{statement}
+use Rattle.sets.proofs.rest.Tie as tie
 
 sub-result : tie.Need-sub-result
 sub-result c = search needs
