@@ -14,10 +14,10 @@ ghost use Rattle.buffer.specs.Parts.{Is, LoadedNode, Stored, update, set
 use model::node::NodeRecord;
 use model::values::NodeNumber;
 use model::values::Stamp;
-use model::word::ClockWord;
-use model::word::KeyWord;
-use model::word::PairWord;
-use model::word::SpareWord;
+use words::ring::ClockWord;
+use words::ring::KeyWord;
+use words::ring::PairWord;
+use words::ring::SpareWord;
 
 // Whether node x runs.
 pub fn is_running(words: &[u32], x: NodeNumber) -> bool

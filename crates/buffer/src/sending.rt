@@ -16,7 +16,7 @@ use model::message::MessageRecord;
 use model::node::NodeRecord;
 use model::values::NodeNumber;
 use model::values::Stamp;
-use model::word::MessageWord;
+use words::ring::MessageWord;
 
 // A message of a type that uses nothing.
 fn plain(tag: u8, sender: NodeNumber, receiver: NodeNumber) -> MessageRecord

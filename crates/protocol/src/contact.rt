@@ -9,7 +9,7 @@ use super::own::release;
 use super::reply::Reply;
 use model::node::NodeRecord;
 use model::values::NodeNumber;
-use model::word::MessageWord;
+use words::ring::MessageWord;
 
 // "Contact y: send type 1 to y"
 pub fn contact(me: NodeNumber, own: NodeRecord, y: NodeNumber) -> Reply

@@ -29,7 +29,7 @@ use model::message::MessageRecord;
 use model::node::NodeRecord;
 use model::values::NodeNumber;
 use model::values::Stamp;
-use model::word::MessageWord;
+use words::ring::MessageWord;
 
 // On 1: "its receiver answers type 2".
 pub fn on_ping_contact(me: NodeNumber, own: NodeRecord, message: MessageRecord) -> Reply

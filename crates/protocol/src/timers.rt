@@ -22,7 +22,7 @@ use leafset::nearest::passes_zero;
 use leafset::nearest::successor;
 use model::node::NodeRecord;
 use model::values::NodeNumber;
-use model::word::MessageWord;
+use words::ring::MessageWord;
 
 // "type 3 to each held stand"
 pub fn timer0(own: NodeRecord) -> Calls
