@@ -20,7 +20,7 @@ use Rattle.model.specs.declared.values.Stamp.{Stamp}
 use Rattle.model.specs.declared.node.NodeRecord.{NodeRecord}
 use Rattle.model.proofs.Fields.{bits<}
 use Rattle.model.proofs.Laws.{if-law}
-use Rattle.leafset.proofs.Bits.{of-none}
+use Rattle.sets.proofs.Bits.{of-none}
 use Rattle.buffer.specs.Parts.{LoadedNode}
 use Rattle.buffer.proofs.Holds.{pair-yes, pair-high, pair-same}
 

@@ -17,7 +17,7 @@ use Rattle.model.specs.Structs.{messageOf}
 use Rattle.model.specs.declared.message.MessageRecord.{MessageRecord}
 use Rattle.model.proofs.Fields.{field}
 use Rattle.model.proofs.Words.{message-at}
-use Rattle.leafset.proofs.Bits.{toBits-ofBits}
+use Rattle.sets.proofs.Bits.{toBits-ofBits}
 use Rattle.buffer.specs.Parts.{Is, RoomTable, Patched}
 use Rattle.buffer.proofs.Holds.{Holds, holds, head-at, messages-written}
 

@@ -11,9 +11,9 @@ use Rattle.model.specs.Ring.{Ring, Message}
 use Rattle.model.specs.Play.{setMessages}
 use Rattle.model.proofs.Laws.{and-left}
 use Rattle.model.proofs.Bits.{bit-below}
-use Rattle.leafset.specs.Rest.{IsRest}
-use Rattle.leafset.proofs.Members.{length-members, members-next}
-use Rattle.leafset.proofs.Bits.{Rising, rising-rest, rising-first, rising-next, members-end}
+use Rattle.sets.specs.Rest.{IsRest}
+use Rattle.sets.proofs.Members.{length-members, members-next}
+use Rattle.sets.proofs.Bits.{Rising, rising-rest, rising-first, rising-next, members-end}
 use Rattle.buffer.specs.Parts.{Is}
 
 -- the messages of `made`, for each of a set

@@ -7,8 +7,8 @@ ghost use Rattle.model.specs.Leafset as model;
 ghost use Rattle.model.specs.Words.{ringLength, decodeTable, decode};
 use model::values::Key;
 use model::values::NodeNumber;
-use model::word::HeadWord;
-use model::word::KeyWord;
+use words::ring::HeadWord;
+use words::ring::KeyWord;
 
 // L.
 pub fn leaf(words: &[u32]) -> u32

@@ -10,9 +10,9 @@ use super::node;
 use super::spans;
 use model::values::Key;
 use model::values::Stamp;
-use model::word::ClockWord;
-use model::word::HeadWord;
-use model::word::KeyWord;
+use words::ring::ClockWord;
+use words::ring::HeadWord;
+use words::ring::KeyWord;
 
 // Writes the initial ring over any old words.
 pub fn write(words: &mut [u32], leaf: u32, keys: &[u32])

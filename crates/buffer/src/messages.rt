@@ -11,10 +11,10 @@ ghost use Rattle.model.specs.Structs.{messageOf, RoomMessage};
 ghost use Rattle.buffer.specs.Parts.{Is, LoadedMessage};
 use super::spans;
 use model::message::MessageRecord;
-use model::word::HeadWord;
-use model::word::MessageWord;
-use model::word::StampWord;
-use model::word::ViewWord;
+use words::ring::HeadWord;
+use words::ring::MessageWord;
+use words::ring::StampWord;
+use words::ring::ViewWord;
 
 // The message at position k.
 pub fn load(words: &[u32], k: usize) -> MessageRecord

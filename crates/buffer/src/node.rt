@@ -11,14 +11,13 @@ ghost use Rattle.model.specs.Words.{ringLength, pairWord, decodeTable, decodeNo
 ghost use Rattle.model.specs.Play.{started, stopped};
 ghost use Rattle.model.specs.Structs.{ownOf, RoomNode};
 ghost use Rattle.buffer.specs.Parts.{Is, LoadedNode, Stored, update, setRunning, setClock, setOwn, stepped};
-use leafset::sets;
 use model::node::NodeRecord;
 use model::values::NodeNumber;
 use model::values::Stamp;
-use model::word::ClockWord;
-use model::word::KeyWord;
-use model::word::PairWord;
-use model::word::SpareWord;
+use words::ring::ClockWord;
+use words::ring::KeyWord;
+use words::ring::PairWord;
+use words::ring::SpareWord;
 
 // Whether node x runs.
 pub fn is_running(words: &[u32], x: NodeNumber) -> bool

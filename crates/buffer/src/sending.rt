@@ -12,12 +12,11 @@ ghost use Rattle.model.specs.Play.{setMessages};
 ghost use Rattle.model.specs.Structs.{messageOf, spareAt, RoomNode, RoomMessage};
 ghost use Rattle.buffer.specs.Parts.{Is};
 use super::messages;
-use leafset::sets;
 use model::message::MessageRecord;
 use model::node::NodeRecord;
 use model::values::NodeNumber;
 use model::values::Stamp;
-use model::word::MessageWord;
+use words::ring::MessageWord;
 
 // A message of a type that uses nothing.
 fn plain(tag: u8, sender: NodeNumber, receiver: NodeNumber) -> MessageRecord

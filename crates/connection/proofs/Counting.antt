@@ -12,8 +12,7 @@ use Rattle.model.specs.Ring.{Ring, isRunning}
 use Rattle.model.specs.Connection.{itself, connected, groups}
 use Rattle.model.proofs.Laws.{clash, and-left, and-right, and-in, not-in, not-out, is-false, same-test, some-in, some-out, count-le, count-none, count-cong}
 use Rattle.model.proofs.Connection.{further, decides}
-use Rattle.leafset.proofs.Members.{First}
-use Rattle.leafset.proofs.Limit.{count-without}
+use Rattle.sets.proofs.Members.{First, count-without}
 use Rattle.connection.specs.Links.{Closed}
 use Rattle.connection.proofs.Linked.{InTable, linked-back, back}
 

@@ -7,7 +7,7 @@ use Rattle.model.specs.Choice.{if_then_else_}
 use Rattle.model.specs.Sets.{Set, toBits, ofBits}
 use Rattle.model.proofs.Laws.{clash, and-left}
 use Rattle.model.proofs.Bits.{bits-back, bit-below}
-use Rattle.leafset.proofs.Bits.{toBits-ofBits}
+use Rattle.sets.proofs.Bits.{toBits-ofBits}
 
 abbrev minus : Set → Set → Set
 minus S R y = S y && not (R y)

@@ -9,8 +9,8 @@ use Rattle.model.specs.Words.{decode}
 use Rattle.model.specs.Connection.{linked}
 use Rattle.model.proofs.Laws.{clash, and-left, decide}
 use Rattle.model.proofs.Bits.{bit-below}
-use Rattle.leafset.proofs.Members.{First}
-use Rattle.leafset.proofs.Bits.{rising-first, ofBits-or}
+use Rattle.sets.proofs.Members.{First}
+use Rattle.sets.proofs.Bits.{rising-first, ofBits-or}
 use Rattle.connection.specs.Links.{heldAt, Closed}
 use Rattle.connection.proofs.Difference.{part-le, ofBits-minus}
 use Rattle.connection.proofs.Linked.{linked-is}

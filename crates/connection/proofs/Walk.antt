@@ -11,7 +11,7 @@ use Rattle.model.specs.Ring.{Ring}
 use Rattle.model.specs.Connection.{linked, Connected, itself, onward, connected}
 use Rattle.model.proofs.Laws.{clash, and-left, and-right, and-in, not-in, not-out, or-case, or-right, or-none-left, decide, is-false, same-test}
 use Rattle.model.proofs.Connection.{further, decides}
-use Rattle.leafset.proofs.Members.{without-here, without-else}
+use Rattle.sets.proofs.Members.{without-here, without-else}
 use Rattle.connection.specs.Links.{Closed}
 use Rattle.connection.proofs.Linked.{InTable}
 

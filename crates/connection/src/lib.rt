@@ -10,10 +10,9 @@ ghost use Rattle.model.specs.Ring.{isRunning};
 ghost use Rattle.model.specs.Words.{ringLength, decodeTable, decode};
 ghost use Rattle.model.specs.Connection as model;
 ghost use Rattle.connection.specs.Links.{heldAt, Closed};
-use leafset::sets;
 use model::values::NodeNumber;
-use model::word::KeyWord;
-use model::word::PairWord;
+use words::ring::KeyWord;
+use words::ring::PairWord;
 
 // The nodes that run.
 fn running(words: &[u32], n: usize) -> u64

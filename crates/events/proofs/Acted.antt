@@ -11,7 +11,7 @@ use Rattle.model.specs.Steps.{Effect}
 use Rattle.model.specs.Play.{setMessages}
 use Rattle.model.specs.Structs.{ownOf, messageOf}
 use Rattle.model.specs.declared.answer.Answer.the-variants.{Accepted, PoolFull}
-use Rattle.leafset.proofs.Members.{length-members}
+use Rattle.sets.proofs.Members.{length-members}
 use Rattle.buffer.specs.Parts.{Is, update, stepped}
 use Rattle.protocol.specs.Effects.{replyEffect}
 use Rattle.protocol.specs.declared.reply.Reply.{Reply}

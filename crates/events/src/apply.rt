@@ -13,7 +13,6 @@ ghost use Rattle.events.specs.Applied.{written, acted, applied};
 use buffer::messages;
 use buffer::node;
 use buffer::sending;
-use leafset::sets;
 use model::answer::Answer;
 use model::node::NodeRecord;
 use model::values::NodeNumber;

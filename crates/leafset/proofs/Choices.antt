@@ -13,11 +13,12 @@ use Rattle.model.specs.Key.{clockwise, distance}
 use Rattle.model.specs.Sets.{Set, without, noneNode, count, some, lowest, toBits, ofBits}
 use Rattle.model.specs.Leafset.{Table, leafset, nearest, closest, successor, passesZero}
 use Rattle.model.proofs.Laws.{clash, is-false, and-in, and-left, and-right, not-in, not-out, some-in, some-out, count-none, count-more}
-use Rattle.leafset.specs.Table.{Within, InTable}
+use Rattle.sets.specs.Within.{Within}
+use Rattle.leafset.specs.Table.{InTable}
 use Rattle.model.specs.Structs.{tableOf}
 use Rattle.leafset.specs.Span.{spanTo, Least, Found, nobody, found}
 use Rattle.leafset.specs.declared.span.Way.the-variants.{Clockwise, Either}
-use Rattle.leafset.proofs.Members.{lowest-is, lowest-none}
+use Rattle.sets.proofs.Members.{lowest-is, lowest-none}
 use Rattle.leafset.proofs.Spans.{beyond, span<, beats-rank, rank-nearer}
 use Rattle.leafset.proofs.Pick.{picked, found-least}
 use Rattle.leafset.proofs.Leaves.{leafset-low, leafset-back}

@@ -18,8 +18,8 @@ use Rattle.model.specs.Structs.{tableOf}
 use Rattle.leafset.specs.Span.{spanOf, spanTo, isNear}
 use Rattle.leafset.specs.declared.span.Way.{Way}
 use Rattle.leafset.specs.declared.span.Way.the-variants.{Clockwise, CounterClockwise}
-use Rattle.leafset.proofs.Members.{count-to}
-use Rattle.leafset.proofs.Bits.{toBits-ofBits}
+use Rattle.sets.proofs.Members.{count-to}
+use Rattle.sets.proofs.Bits.{toBits-ofBits}
 
 module _ (leaf : ℕ) {keys : List ℕ} {x set : ℕ} (q : InTable keys x set) where
   abbrev t : Table

@@ -1,45 +1,16 @@
 -- Taking the nearest out of a set, one after another: the limit below which the nearest lie.
-use mathlib.Core.Path.{_≡_, refl, sym, ap, _∙_, subst}
+use mathlib.Core.Path.{_≡_, refl, sym, _∙_, subst}
 use mathlib.Core.Bool.{Bool, true, false, not, _&&_}
-use Prim.Native.Nat.{ℕ, zero, suc, _+_, _≤_, _<_}
+use Prim.Native.Nat.{ℕ, _+_, _≤_, _<_}
 use native.Mathlib.Nat.{not-suc-le-zero}
 use native.Mathlib.Omega.{arith}
 use native.Mathlib.Decide.{ℕ-discrete}
 use lib.Dec.{eqb, ltb}
-use borrow.Author.Tests.{eq-eqb, ne-eqb, eqb-true, ltb-true, ltb-false, lt-ltb, le-ltb}
-use Rattle.model.specs.Choice.{if_then_else_}
+use borrow.Author.Tests.{ltb-true, ltb-false, lt-ltb, le-ltb}
 use Rattle.model.specs.Sets.{Set, without, count}
 use Rattle.model.proofs.Laws.{clash, is-false, decide, and-in, and-left, and-right, not-in, not-out, count-none, count-mono, count-more}
 use Rattle.leafset.specs.Span.{Least, Found, nobody, found, isNear, IsLimit}
-use Rattle.leafset.proofs.Members.{without-here, without-else}
-
--- ---- counts of a part and of what is left
-
-pub count-split : (n : ℕ) (S R : Set) → ((y : ℕ) → R y ≡ true → S y ≡ true) → count n (λ y. S y && not (R y)) + count n R ≡ count n S
-unfolding count
-count-split zero S R f = refl
-count-split (suc n) S R f = go (S n) (R n) (f n) (count-split n S R f)
-  where
-    go : (a b : Bool) → (b ≡ true → a ≡ true) → count n (λ y. S y && not (R y)) + count n R ≡ count n S
-        → count n (λ y. S y && not (R y)) + (if a && not b then 1 else 0) + (count n R + (if b then 1 else 0)) ≡ count n S + (if a then 1 else 0)
-    go true true h e = omega arith
-    go true false h e = omega arith
-    go false false h e = omega arith
-    go false true h e = clash (h refl) refl
-
-count-one : (n b : ℕ) → b < n → count n (λ y. eqb y b) ≡ 1
-unfolding count
-count-one zero b h = absurd (not-suc-le-zero h)
-count-one (suc n) b h =
-    elim (ℕ-discrete n b) [
-      | yes e ↦ rw (eq-eqb n b e, count-none n (λ y. eqb y b) (λ y l. ne-eqb y b (λ q. omega arith)))
-      | no d ↦ rw (ne-eqb n b d, count-one n b (omega arith))
-    ]
-
-pub count-without : (n : ℕ) (S : Set) (b : ℕ) → b < n → S b ≡ true → count n (without S b) + 1 ≡ count n S
-count-without n S b h e =
-    ap (λ (k : ℕ). count n (without S b) + k) (sym (count-one n b h))
-    ∙ count-split n S (λ y. eqb y b) (λ y t. ap S (eqb-true y b t) ∙ e)
+use Rattle.sets.proofs.Members.{without-here, without-else, count-split, count-without}
 
 -- ---- the nearest, taken out one after another
 

@@ -1,3 +1,2 @@
-pub mod Rest
 pub mod Table
 pub mod Span

@@ -1,14 +1,8 @@
 -- The table that the code is lent: L, and the list of the n keys.
-use mathlib.Core.Path.{_≡_}
-use mathlib.Core.Bool.{true}
 use mathlib.Core.List.{List}
 use Prim.Native.Nat.{ℕ, _≤_, _<_}
 use lib.ListN.{length}
-use Rattle.model.specs.Sets.{ofBits}
-
--- every member of the set is a node of a table of n
-abbrev pub Within : ℕ → ℕ → Type 0
-Within n set = (y : ℕ) → ofBits set y ≡ true → y < n
+use Rattle.sets.specs.Within.{Within}
 
 -- x and the members of the set are nodes of the table
 pub record InTable (keys : List ℕ) (x set : ℕ) : Type 0 where

@@ -7,7 +7,6 @@ ghost use Rattle.model.specs.Leafset as model;
 ghost use Rattle.leafset.specs.Table.{InTable};
 ghost use Rattle.model.specs.Structs.{tableOf};
 use super::leafset::leafset;
-use super::sets;
 use super::span;
 use super::span::Way;
 use model::values::Key;

@@ -2,9 +2,8 @@
 ghost use mathlib.Core.Path.{_≡_};
 ghost use lib.ListN.{length};
 ghost use Rattle.model.specs.Sets.{ofBits};
-ghost use Rattle.leafset.specs.Table.{Within};
+ghost use Rattle.sets.specs.Within.{Within};
 ghost use Rattle.leafset.specs.Span.{rankOf, spanOf, spanTo, Found};
-use super::sets;
 use model::values::Key;
 use model::values::NodeNumber;
 

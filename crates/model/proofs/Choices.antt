@@ -1,6 +1,6 @@
 -- What the loops and choices of a node come to: members, the lowest of a set, leafsets, spares and successors.
 use mathlib.Core.Path.{_≡_, refl, sym, ap, _∙_}
-use Prim.Native.Nat.{ℕ, zero, suc, _+_, _≤_, _<_}
+use Prim.Native.Nat.{ℕ, zero, suc, _≤_, _<_}
 use native.Mathlib.Nat.{le-refl, not-suc-le-zero}
 use native.Mathlib.Omega.{arith}
 use native.Mathlib.Decide.{ℕ-discrete, decLt}
@@ -11,7 +11,7 @@ use lib.Dec.{ltb, eqb}
 use borrow.Author.Tests.{eq-eqb, eqb-false, le-ltb}
 use Rattle.model.specs.Choice.{if_then_else_}
 use Rattle.model.specs.Key.{clockwise}
-use Rattle.model.specs.Sets.{Set, without, members, lowest, some, count}
+use Rattle.model.specs.Sets.{Set, without, members, lowest, some}
 use Rattle.model.specs.Leafset.{Table, size, key, nearer, leafset, nearest, closest, successor}
 use Rattle.model.proofs.Laws.{clash, and-left, and-right, and-in, or-case, not-out, decide, is-false, if-law, some-none, count-none}
 use Rattle.model.specs.WellFormed.{Spare, none, spare, Each, nil, cons}

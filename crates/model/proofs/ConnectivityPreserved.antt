@@ -1,22 +1,20 @@
 -- Demand 3: no list of event words parts two running nodes.
-use mathlib.Core.Path.{_≡_, refl, sym, ap, _∙_, subst}
+use mathlib.Core.Path.{_≡_, refl, ap, _∙_}
 use Prim.Native.Nat.{ℕ, zero, suc, _≤_, _<_}
 use native.Mathlib.Nat.{le-of-suc-le-suc, not-suc-le-zero}
 use native.Mathlib.Omega.{arith}
 use native.Mathlib.Decide.{ℕ-discrete}
-use mathlib.Core.Bool.{true, false}
 use mathlib.Core.List.{List, [], _∷_}
 use lib.ListN.{length, getD, take}
-use Rattle.model.specs.Leafset.{Table, size}
-use Rattle.model.specs.Ring.{Ring, initial, isRunning}
+use Rattle.model.specs.Leafset.{Table}
+use Rattle.model.specs.Ring.{Ring, initial}
 use Rattle.model.specs.WellFormed.{WellFormed}
 use Rattle.model.specs.Answers.{isAccepted}
 use Rattle.model.specs.Events.{eventOf}
 use Rattle.model.specs.Words.{encode, decode}
 use Rattle.model.specs.Play.{after, playAnswer, playWord, playAll}
 use Rattle.model.specs.Buffer.{Written, openBuffer, playBuffer, playBufferAll}
-use Rattle.model.specs.Connection.{Connected}
-use Rattle.model.specs.ConnectivityPreserved.{NoAcknowledgement, Harmless, wordsAt, ringAt, readAt, AcceptedIsHarmless, Unbroken, ConnectivityPreserved}
+use Rattle.model.specs.ConnectivityPreserved.{Harmless, wordsAt, ringAt, readAt, Unbroken, ConnectivityPreserved}
 use Rattle.model.specs.declared.answer.Answer.the-variants.{Accepted}
 use Rattle.model.proofs.Laws.{if-law}
 use Rattle.model.proofs.Answers.{accepted-is}

@@ -1,11 +1,11 @@
 -- The argument of demand 3, by cuts: what a step may do, and that no such step takes the last pair across a cut.
 -- A cut is a set S of nodes. Of messages only the acknowledgements count, and of those who sent them, to whom, about whom and with what stamp.
-use mathlib.Core.Path.{_≡_, refl, sym, _∙_, subst}
+use mathlib.Core.Path.{_≡_, refl, sym, _∙_}
 use mathlib.Core.Logic.{_⊎_, inl, inr}
 use Prim.Native.Nat.{ℕ, _≤_, _<_}
 use native.Mathlib.Omega.{arith}
 use native.Mathlib.Decide.{ℕ-discrete}
-use mathlib.Core.Bool.{true, false, _&&_, _||_, Bool-discrete}
+use mathlib.Core.Bool.{true, _&&_, _||_, Bool-discrete}
 use mathlib.Core.List.{List·Memᴰ}
 use Rattle.model.specs.Sets.{Set}
 use Rattle.model.specs.Leafset.{size}

@@ -1,6 +1,6 @@
 -- What words that read as a ring decode to is a well-formed ring.
-use mathlib.Core.Path.{_≡_, refl, sym, ap, subst}
-use Prim.Native.Nat.{ℕ, suc, _+_, _*_, _^_, _≤_, _<_}
+use mathlib.Core.Path.{_≡_, sym, ap, subst}
+use Prim.Native.Nat.{ℕ, _+_, _*_, _^_, _≤_, _<_}
 use native.Mathlib.Omega.{arith}
 use mathlib.Core.Bool.{Bool, true, false, not, _&&_, _||_}
 use mathlib.Core.List.{List, [], _∷_}
@@ -8,11 +8,11 @@ use lib.ListN.{length, getD}
 use lib.Dec.{ltb, leb, eqb}
 use borrow.Author.Tests.{le-ltb, ltb-true, leb-true, eqb-true, eqb-false, eq-eqb}
 use Rattle.model.specs.Choice.{if_then_else_, _⇒_, every}
-use Rattle.model.specs.Sets.{Set, all, ofBits}
+use Rattle.model.specs.Sets.{all}
 use Rattle.model.specs.Leafset.{Table, size, key}
 use Rattle.model.specs.Ring.{Own, Node, Message, blank, messageAt}
 use Rattle.model.specs.Fields.{bits}
-use Rattle.model.specs.WellFormed.{WellFormedTable, Spare, none, spare, WellFormedOwn, WellFormedNode, WellFormedMessage, WellFormed, Each, nil, cons}
+use Rattle.model.specs.WellFormed.{WellFormedTable, Spare, none, spare, WellFormedOwn, WellFormedNode, WellFormedMessage, WellFormed, Each}
 use Rattle.model.specs.Words.{isPair, nodePlace, messagePlace, decodeTable, decodeOwn, decodeNode, decodeMessage, decode, between, inRange, keysDiffer, nodeOrNone, pairFits, nodeFits, usesView, usesSubject, usesStamp, subjectFits, viewFits, messageFits, ringFits, readsAsRing}
 use Rattle.model.proofs.Laws.{clash, and-left, and-right, or-case, or-left, or-right, implies-out, not-out, not-in, between-low, between-high, every-out, then-out, else-out, decide, is-false, if-law, all-out, length-tabulate, getD-tabulate}
 use Rattle.model.proofs.Lists.{first, rest, each-of}
@@ -50,7 +50,7 @@ pair-facts t s x z p =
       spare-none = λ h. eqb-true (o .spare z) 64 (implies-out (not (o .held z)) (eqb (o .spare z) 64) (first (rest (rest (rest (rest (rest q)))))) (not-in h));
     }
 
--- ---- what a message that fits is, where its stamp has room and its view is of stands below 64
+-- ---- what a message that fits is, where its stamp has room and its view is of nodes below 64
 
 message-facts : (t : Table) (m : Message) → messageFits t m ≡ true → m .stamp ≤ 16777215 → ((y : ℕ) → m .view y ≡ true → y < 64) → WellFormedMessage (size t) m
 unfolding messageFits

@@ -1,12 +1,10 @@
 -- Demand 2: every event that can be written has one word, and that word reads as that event and no other.
-use mathlib.Core.Path.{_≡_, refl, sym, ap, _∙_}
-use Prim.Native.Nat.{ℕ, _+_, _-_, _*_, _/_, _%_, _^_, _≤_, _<_}
-use native.Mathlib.Nat.{mod-eq-of-lt}
+use mathlib.Core.Path.{_≡_, refl, ap, _∙_}
+use Prim.Native.Nat.{ℕ, _+_, _*_, _^_, _≤_, _<_}
 use native.Mathlib.Omega.{arith}
-use mathlib.Core.Bool.{Bool, true, false, not, _&&_}
-use mathlib.Core.List.{[], _∷_}
-use lib.ListN.{getD}
-use lib.Dec.{ltb, leb, eqb, lit<}
+use mathlib.Core.Bool.{Bool, true, false}
+use mathlib.Core.List.{[]}
+use lib.Dec.{ltb, eqb, lit<}
 use borrow.Author.Tests.{ltb-true, leb-true, eqb-true, eq-eqb}
 use Rattle.model.specs.Choice.{if_then_else_}
 use Rattle.model.specs.WellFormed.{Each, nil, cons}
@@ -19,7 +17,7 @@ use Rattle.model.specs.declared.event.Event.the-variants.{On, Off, Notic
 use Rattle.model.specs.declared.event.Reading.the-variants.{Read, Refused}
 use Rattle.model.proofs.Laws.{and-left, and-right, not-out-false}
 use Rattle.model.proofs.Lists.{first, rest}
-use Rattle.model.proofs.Fields.{field, bits-low}
+use Rattle.model.proofs.Fields.{field}
 use Rattle.model.proofs.Answers.{accepted-is, none-applies}
 
 -- ---- the named bits of an event's word
@@ -76,18 +74,6 @@ event-of-word (Deliver i) t =
 event-of-word (Lose i) t =
     let h = ltb-true i 1024 t in
     rw (kind-is 15 i (lit< tt) (omega arith), low-is 15 10 (2 ^ 18) i refl h)
-
--- the event of a word, by its kind
-pub event-of-kind : (w k : ℕ) → w / 2 ^ 28 ≡ k → k < 16 → eventOf w
-    ≡ getD
-    (On (record { 0 = w % 64 }) ∷ Off (record { 0 = w % 64 }) ∷ Notice (record { 0 = w % 64 }) (record { 0 = w / 64 % 64 })
-    ∷ Contact (record { 0 = w % 64 }) (record { 0 = w / 64 % 64 }) ∷ Timer (record { 0 = w % 64 }) (w / 4096 % 8) ∷ Deliver (w % 1024) ∷ [])
-    (k - 9)
-    (Lose (w % 1024))
-unfolding eventOf
-event-of-kind w k e h =
-    let i : kind w ≡ k = ap (λ (v : ℕ). v % 2 ^ 4) e ∙ mod-eq-of-lt h in
-    rw (i, bits-low 6 w, bits-low 10 w)
 
 -- ---- writing and reading
 

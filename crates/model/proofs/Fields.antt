@@ -1,7 +1,7 @@
 -- Laws of the parts of a word.
 use mathlib.Core.Path.{_≡_, ap, _∙_}
 use Prim.Native.Nat.{ℕ, _+_, _*_, _/_, _%_, _^_, _<_}
-use native.Mathlib.Nat.{mod-lt, one-le-pow, div-one}
+use native.Mathlib.Nat.{mod-lt, one-le-pow}
 use lib.Arith.{digits-div, digits-mod}
 use lib.Dec.{lit<}
 use Rattle.model.specs.Fields.{bits}
@@ -13,7 +13,3 @@ field low width hi v lo e h k = ap (bits low width) e ∙ ap (λ (q : ℕ). q % 
 -- a part has its width
 pub bits< : (low width w : ℕ) → bits low width w < 2 ^ width
 bits< low width w = mod-lt (w / 2 ^ low) (one-le-pow width 2 (lit< tt))
-
--- the lowest part is a remainder
-pub bits-low : (width w : ℕ) → bits 0 width w ≡ w % 2 ^ width
-bits-low width w = ap (λ (v : ℕ). v % 2 ^ width) (div-one w)

@@ -8,13 +8,12 @@ use mathlib.Core.Bool.{Bool, true, false, not, _&&_, _||_, and-true, and-false}
 use lib.Dec.{eqb, ltb}
 use lib.Arith.{lt-of-le-ne}
 use borrow.Author.Tests.{ne-eqb, eqb-true, eqb-false, lt-ltb, le-ltb, ltb-true, ltb-false}
-use Rattle.model.specs.Choice.{if_then_else_}
 use Rattle.model.specs.Key.{clockwise, counterClockwise}
 use Rattle.model.specs.Sets.{Set, without, all, count}
 use Rattle.model.specs.Leafset.{Table, size, key, nearer, isNear, leafset}
 use Rattle.model.specs.WellFormed.{WellFormedTable}
 use Rattle.model.specs.Words.{keysDiffer}
-use Rattle.model.proofs.Laws.{clash, and-left, and-right, or-case, not-out, decide, one, all-out, count-add, count-cong, count-none, count-one}
+use Rattle.model.proofs.Laws.{and-left, and-right, or-case, not-out, decide, one, all-out, count-add, count-cong, count-none, count-one}
 
 -- ---- tests
 

@@ -1,5 +1,5 @@
 -- Laws of `Each`, that is of what holds of each element of a list, and of lists read by place.
-use mathlib.Core.Path.{_≡_, sym, _∙_, subst}
+use mathlib.Core.Path.{sym, _∙_, subst}
 use Prim.Native.Nat.{ℕ, zero, suc, _+_, _<_}
 use native.Mathlib.Nat.{not-suc-le-zero, le-of-suc-le-suc, add-zero, zero-add, suc-add, add-suc}
 use native.Mathlib.Omega.{arith}

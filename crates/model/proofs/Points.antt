@@ -1,6 +1,6 @@
 -- Computed examples: the points P1 to P10 of document 01 and its traps as one table, and the worked example of its bench.
-use Prim.Native.Nat.{ℕ, suc, _%_, _+_, _-_}
-use mathlib.Core.Path.{_≡_, refl, ap, _∙_}
+use Prim.Native.Nat.{ℕ, suc}
+use mathlib.Core.Path.{_≡_, refl}
 use mathlib.Core.Bool.{true, false}
 use mathlib.Core.List.{List, [], _∷_}
 use lib.ListN.{replicate}

@@ -1,9 +1,9 @@
--- The theorems about the definitions, by name. Each says its sentence; the argument stands in the module that is cited.
+-- The theorems about the definitions, by name. Each says its sentence; the argument is in the module that is cited.
 use mathlib.Core.Path.{_≡_, refl, sym, ap, _∙_}
 use mathlib.Core.Logic.{_↔_}
 use Prim.Native.Nat.{ℕ, _*_, _≤_, _<_}
 use mathlib.Core.Bool.{Bool, true, false}
-use mathlib.Core.List.{List, _∷_, _++_}
+use mathlib.Core.List.{List}
 use Rattle.model.specs.Choice.{if_then_else_}
 use Rattle.model.specs.Sets.{Set, without, count}
 use Rattle.model.specs.Leafset.{Table, size, leafset}
@@ -13,7 +13,7 @@ use Rattle.model.specs.Words.{encode, decode, readsAsRing}
 use Rattle.model.specs.Answers.{isAccepted}
 use Rattle.model.specs.Events.{wordOf, eventOf, eventRefusals, eventAnswer, writeEvent, wordRefusals, wordAnswer, readEvent}
 use Rattle.model.specs.Play.{stateRefusals}
-use Rattle.model.specs.Buffer.{wrongLength, notARing, openRefusals, openAnswer, openBuffer, playRefusals, bufferAnswer, playBuffer}
+use Rattle.model.specs.Buffer.{openRefusals, openAnswer, openBuffer, playRefusals, bufferAnswer, playBuffer}
 use Rattle.model.specs.Questions.{leafsetRefusals, leafsetAnswer, connectionRefusals, connectionAnswer, groupsRefusals, groupsAnswer}
 use Rattle.model.specs.Connection.{Connected, connected}
 use Rattle.model.specs.ConnectivityPreserved.{ConnectivityPreserved}

@@ -1,8 +1,8 @@
 -- Laws of the ring's words: the word at a place, and that words that read as a ring are those of the ring that they decode to.
-use mathlib.Core.Path.{_≡_, refl, sym, ap, _∙_}
+use mathlib.Core.Path.{_≡_, sym, ap, _∙_}
 use Prim.Native.Nat.{ℕ, _+_, _-_, _*_, _/_, _%_, _<_}
 use native.Mathlib.Omega.{arith}
-use mathlib.Core.Bool.{Bool, true, false, not, _&&_}
+use mathlib.Core.Bool.{true, false, not, _&&_}
 use mathlib.Core.List.{List, [], _∷_}
 use lib.ListN.{length, getD}
 use lib.Seq.{ext-getD}
@@ -11,7 +11,7 @@ use lib.Dec.{ltb, eqb}
 use borrow.Author.Tests.{le-ltb, lt-ltb, ltb-true, eqb-true, eqb-false, eq-eqb, ne-eqb}
 use Rattle.model.specs.Leafset.{Table, size}
 use Rattle.model.specs.Ring.{Ring}
-use Rattle.model.specs.WellFormed.{Other, Each, nil, cons}
+use Rattle.model.specs.WellFormed.{Other, nil, cons}
 use Rattle.model.specs.Words.{isPair, ofNode, ofPair, ofMessage, nodePlace, pairPlace, messagePlace, wordAt, ringLength, encode, decode, ringFits, formatFits, readsAsRing}
 use Rattle.model.proofs.Laws.{and-left, and-right, and-in, not-in, not-out, all-in, all-out, every-in, every-out, length-tabulate, getD-tabulate}
 use Rattle.model.proofs.Lists.{first, rest}

@@ -1,4 +1,4 @@
--- What the structs of the code stand for, and the room of their parts.
+-- What the structs of the code mean, and the room of their parts.
 use mathlib.Core.Path.{_≡_}
 use mathlib.Core.List.{List}
 use Prim.Native.Nat.{ℕ, _^_, _<_}

@@ -12,9 +12,9 @@ use Rattle.model.specs.Sets.{ofBits, some}
 use Rattle.model.specs.Fields.{bit}
 use Rattle.model.proofs.Laws.{clash, is-false, some-out}
 use Rattle.model.proofs.Bits.{is-bit}
-use Rattle.leafset.specs.Table.{Within}
-use Rattle.leafset.proofs.Members.{some-to}
-use Rattle.leafset.proofs.Bits.{some-bit, none-left}
+use Rattle.sets.specs.Within.{Within}
+use Rattle.sets.proofs.Members.{some-to}
+use Rattle.sets.proofs.Bits.{some-bit, none-left}
 
 -- an operation on numbers that goes bit by bit
 module _ (op : ℕ → ℕ → ℕ) (test : Bool → Bool → Bool)

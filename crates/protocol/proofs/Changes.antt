@@ -18,8 +18,8 @@ use Rattle.model.specs.declared.node.NodeRecord.{NodeRecord}
 use Rattle.model.specs.declared.values.Stamp.{Stamp}
 use Rattle.model.specs.declared.values.NodeNumber.{NodeNumber}
 use Rattle.model.proofs.Laws.{clash, and-left, or-case, put-here, put-else, put-law}
-use Rattle.leafset.specs.Table.{Within}
-use Rattle.leafset.proofs.Bits.{of-none}
+use Rattle.sets.specs.Within.{Within}
+use Rattle.sets.proofs.Bits.{of-none}
 use Rattle.protocol.specs.Effects.{OwnFits, Owns}
 
 -- no bits, nobody

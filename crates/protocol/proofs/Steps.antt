@@ -16,11 +16,12 @@ use Rattle.model.specs.Structs.{tableOf, ownOf, spareAt}
 use Rattle.model.specs.declared.node.NodeRecord.{NodeRecord}
 use Rattle.model.specs.declared.values.NodeNumber.{NodeNumber}
 use Rattle.model.proofs.Laws.{decide, and-left, or-none-right, not-out-false, some-none, some-out}
-use Rattle.leafset.specs.Table.{Within, InTable}
-use Rattle.leafset.proofs.Members.{lowest-first, lowest-none, members-to}
+use Rattle.sets.specs.Within.{Within}
+use Rattle.leafset.specs.Table.{InTable}
+use Rattle.sets.proofs.Members.{lowest-first, lowest-none, members-to}
 use Rattle.leafset.proofs.Leaves.{leafset-back}
 use Rattle.leafset.proofs.Choices.{successor-low}
-use Rattle.leafset.proofs.Bits.{or-union}
+use Rattle.sets.proofs.Bits.{or-union}
 use Rattle.protocol.specs.declared.reply.Reply.{Reply}
 use Rattle.protocol.specs.Effects.{requestsEffect, Owns, Replies, CallsEach}
 use Rattle.protocol.proofs.Changes.{getD-any, within-with, within-union, within-part}

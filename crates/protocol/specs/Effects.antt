@@ -10,7 +10,7 @@ use Rattle.model.specs.Steps.{Effect, plain, stamped, pingReplace}
 use Rattle.model.specs.Structs.{ownOf, messageOf, spareAt, RoomNode, RoomMessage}
 use Rattle.model.specs.declared.node.NodeRecord.{NodeRecord}
 use Rattle.model.specs.declared.message.MessageRecord.{MessageRecord}
-use Rattle.leafset.specs.Table.{Within}
+use Rattle.sets.specs.Within.{Within}
 use Rattle.protocol.specs.declared.reply.Reply.{Reply}
 use Rattle.protocol.specs.declared.reply.Calls.{Calls}
 

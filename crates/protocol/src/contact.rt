@@ -7,10 +7,9 @@ ghost use Rattle.protocol.specs.Effects.{OwnFits, Replies};
 use super::make::plain;
 use super::own::release;
 use super::reply::Reply;
-use leafset::sets;
 use model::node::NodeRecord;
 use model::values::NodeNumber;
-use model::word::MessageWord;
+use words::ring::MessageWord;
 
 // "Contact y: send type 1 to y"
 pub fn contact(me: NodeNumber, own: NodeRecord, y: NodeNumber) -> Reply

@@ -11,7 +11,7 @@ use model::message::MessageRecord;
 use model::node::NodeRecord;
 use model::values::NodeNumber;
 use model::values::Stamp;
-use model::word::MessageWord;
+use words::ring::MessageWord;
 
 // The step of the message's type; nothing for a number that is no type.
 pub fn deliver(

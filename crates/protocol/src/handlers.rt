@@ -6,7 +6,8 @@ ghost use Rattle.model.specs.Choice.{if_then_else_};
 ghost use Rattle.model.specs.Leafset.{Table};
 ghost use Rattle.model.specs.Steps as steps;
 ghost use Rattle.model.specs.Structs.{tableOf, ownOf, messageOf, stampAt, RoomNode, RoomMessage};
-ghost use Rattle.leafset.specs.Table.{Within, InTable};
+ghost use Rattle.sets.specs.Within.{Within};
+ghost use Rattle.leafset.specs.Table.{InTable};
 ghost use Rattle.protocol.specs.Effects.{OwnFits, Owns, Replies};
 use super::make::naming;
 use super::make::plain;
@@ -24,12 +25,11 @@ use leafset::leafset::leafset;
 use leafset::nearest::closest;
 use leafset::nearest::passes_zero;
 use leafset::nearest::successor;
-use leafset::sets;
 use model::message::MessageRecord;
 use model::node::NodeRecord;
 use model::values::NodeNumber;
 use model::values::Stamp;
-use model::word::MessageWord;
+use words::ring::MessageWord;
 
 // On 1: "its receiver answers type 2".
 pub fn on_ping_contact(me: NodeNumber, own: NodeRecord, message: MessageRecord) -> Reply

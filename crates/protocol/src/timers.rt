@@ -8,7 +8,8 @@ ghost use Rattle.model.specs.Sets.{ofBits, noneNode};
 ghost use Rattle.model.specs.Leafset.{Table, size};
 ghost use Rattle.model.specs.Steps as steps;
 ghost use Rattle.model.specs.Structs.{tableOf, ownOf, spareAt, RoomNode};
-ghost use Rattle.leafset.specs.Table.{Within, InTable};
+ghost use Rattle.sets.specs.Within.{Within};
+ghost use Rattle.leafset.specs.Table.{InTable};
 ghost use Rattle.protocol.specs.Effects.{OwnFits, Replies, CallsEach, RequestsEach};
 use super::make::naming;
 use super::outside::minus;
@@ -19,10 +20,9 @@ use super::reply::Reply;
 use leafset::leafset::leafset;
 use leafset::nearest::passes_zero;
 use leafset::nearest::successor;
-use leafset::sets;
 use model::node::NodeRecord;
 use model::values::NodeNumber;
-use model::word::MessageWord;
+use words::ring::MessageWord;
 
 // "type 3 to each held stand"
 pub fn timer0(own: NodeRecord) -> Calls

@@ -9,9 +9,9 @@ use events::deliver;
 use events::state;
 use events::timer;
 use model::answer::Answer;
-use model::event;
 use model::event::Event;
 use model::event::Reading;
+use words::event;
 
 // The event, by its function: 7 to 11.
 pub fn play_event(words: &mut [u32], e: Event) -> Answer

@@ -8,7 +8,7 @@ use mathlib.Core.Bool.{Bool, true, false, not, _&&_, _||_}
 use mathlib.Core.List.{List, [], _∷_}
 use lib.ListN.{length, getD}
 use lib.Dec.{ltb, leb, eqb, lit<}
-use borrow.Author.Tests.{eqb-true, eq-eqb, ltb-false, lt-ltb, le-ltb, leb-true, le-leb}
+use borrow.Author.Tests.{eqb-true, eq-eqb, lt-ltb, le-ltb, leb-true, le-leb}
 use Rattle.model.specs.Choice.{if_then_else_, _⇒_, every}
 use Rattle.model.specs.Sets.{all, noneNode}
 use Rattle.model.specs.Leafset.{size, key}
@@ -16,24 +16,15 @@ use Rattle.model.specs.Ring.{Message, messageAt, blank}
 use Rattle.model.specs.Fields.{bits, flag}
 use Rattle.model.specs.WellFormed.{Each, nil, cons}
 use Rattle.model.specs.Words.{at, headWord, keyWord, clockWord, pairWord, spareWord, nodePlace, pairPlace, messagePlace, between, inRange, keysDiffer, isPair, ofNode, ofPair, ofMessage, nodeWords, pairWords, messageWords, wordAt, ringLength, decodeTable, decodeOwn, decodeNode, decodeMessage, decode, pairFits, nodeFits, messageFits, ringFits, formatFits, readsAsRing}
-use Rattle.model.proofs.Laws.{clash, between-low, between-high, and-left, and-right, and-in, or-left, or-right, or-case, implies-in, implies-out, not-in, not-out, decide, is-false, same-test, every-in, every-out, all-in, all-out, length-tabulate, getD-tabulate}
+use Rattle.model.proofs.Laws.{between-low, between-high, and-left, and-right, and-in, implies-in, implies-out, not-in, not-out, decide, is-false, same-test, every-in, every-out, all-in, all-out, length-tabulate, getD-tabulate}
 use Rattle.model.proofs.Lists.{first, rest}
 use Rattle.model.proofs.Words.{node-at, pair-at, message-at, pair-low, pair-other, ReadsAsRing, reads-in, reads-out}
-use Rattle.validity.specs.Messages.{messageReads, messagesRead}
-use Rattle.validity.specs.Regions.{clear, sizeOf, countOf, keyAt, clockAt, linkAt, spareAt, headReads, nodeReads, nodesRead, linkReads, spareReads, pairReads, rowReads, pairsRead, regionsRead}
-
--- ---- words that are 0
-
-pub clear-in : (ws : List ℕ) (a e : ℕ) → ((i : ℕ) → a ≤ i → i < e → at ws i ≡ 0) → clear ws a e ≡ true
-unfolding clear
-clear-in ws a e f =
-    all-in e (λ i. ltb i a || eqb (at ws i) 0)
-    (λ i h. decide (ltb i a) (λ p. or-left (eqb (at ws i) 0) p) (λ p. or-right (ltb i a) (eq-eqb (at ws i) 0 (f i (ltb-false i a p) h))))
-
-pub clear-out : (ws : List ℕ) (a e : ℕ) → clear ws a e ≡ true → (i : ℕ) → a ≤ i → i < e → at ws i ≡ 0
-unfolding clear
-clear-out ws a e t i h l =
-    eqb-true (at ws i) 0 (or-case (ltb i a) (eqb (at ws i) 0) (all-out e (λ j. ltb j a || eqb (at ws j) 0) t i l) (λ p. clash p (le-ltb i a h)) (λ p. p))
+use Rattle.valid_messages.specs.Messages.{messageReads, messagesRead}
+use Rattle.valid_nodes.specs.Nodes.{clear, sizeOf, countOf, keyAt, clockAt, headReads, nodeReads, nodesRead}
+use Rattle.valid_pairs.specs.Pairs.{linkAt, spareAt, linkReads, spareReads, pairReads, rowReads, pairsRead}
+use Rattle.validity.specs.Regions.{regionsRead}
+use Rattle.valid_nodes.proofs.Gather.{clear-in, clear-out}
+use Rattle.valid_nodes.proofs.NodeTests.{size-is, key-is}
 
 -- ---- every place is word 0's, a node's, a pair's or a message's
 
@@ -85,14 +76,6 @@ two-words ws p f a b (suc (suc j)) h = absurd (omega arith)
 -- ---- what the words decode to
 
 module _ (ws : List ℕ) where
-  pub size-is : size (decodeTable ws) ≡ sizeOf ws
-  unfolding decodeTable
-  size-is = length-tabulate (λ s. bits 0 24 (keyAt ws s)) (sizeOf ws)
-
-  pub key-is : (s : ℕ) → s < sizeOf ws → key (decodeTable ws) s ≡ bits 0 24 (keyAt ws s)
-  unfolding decodeTable
-  key-is s h = getD-tabulate (λ s. bits 0 24 (keyAt ws s)) 0 (sizeOf ws) s h
-
   count-is : length (decode ws .messages) ≡ countOf ws
   unfolding decode
   count-is = length-tabulate (decodeMessage ws) (countOf ws)
@@ -108,19 +91,19 @@ module _ (ws : List ℕ) where
       ≡ keyWord (bits 0 24 (keyAt ws s)) (flag 24 (keyAt ws s)) ∷ clockWord (bits 0 24 (clockAt ws s)) ∷ []
   unfolding decodeNode
   node-words s h =
-      let e : ltb s (size (decodeTable ws)) ≡ true = lt-ltb s (size (decodeTable ws)) (rw size-is h) in
-      rw (e, key-is s h)
+      let e : ltb s (size (decodeTable ws)) ≡ true = lt-ltb s (size (decodeTable ws)) (rw (size-is ws) h) in
+      rw (e, key-is ws s h)
 
   node-word : (s j : ℕ) → s < sizeOf ws
       → ofNode (decode ws) s j ≡ getD (keyWord (bits 0 24 (keyAt ws s)) (flag 24 (keyAt ws s)) ∷ clockWord (bits 0 24 (clockAt ws s)) ∷ []) j 0
   unfolding decode
   node-word s j h =
-      let e : ltb s (size (decodeTable ws)) ≡ true = lt-ltb s (size (decodeTable ws)) (rw size-is h) in
+      let e : ltb s (size (decodeTable ws)) ≡ true = lt-ltb s (size (decodeTable ws)) (rw (size-is ws) h) in
       rw e (ap (λ (l : List ℕ). getD l j 0) (node-words s h))
 
   node-none : (s j : ℕ) → sizeOf ws ≤ s → ofNode (decode ws) s j ≡ 0
   unfolding decode
-  node-none s j h = rw (le-ltb s (size (decodeTable ws)) (rw size-is h))
+  node-none s j h = rw (le-ltb s (size (decodeTable ws)) (rw (size-is ws) h))
 
   pair-words : (x z : ℕ) → isPair (decodeTable ws) x z ≡ true
       → pairWords (decodeOwn ws x) z
@@ -158,22 +141,22 @@ module _ (ws : List ℕ) where
   pair-fits : (x z : ℕ) → x < sizeOf ws → isPair (decodeTable ws) x z ≡ true → pairFits (decodeTable ws) (decodeNode ws x) x z ≡ every (pairTests x z)
   unfolding pairFits decodeNode decodeOwn
   pair-fits x z h e =
-      let l : ltb x (size (decodeTable ws)) ≡ true = lt-ltb x (size (decodeTable ws)) (rw size-is h) in
-      rw (e, l, size-is)
+      let l : ltb x (size (decodeTable ws)) ≡ true = lt-ltb x (size (decodeTable ws)) (rw (size-is ws) h) in
+      rw (e, l, size-is ws)
 
   head-word : wordAt (decode ws) 0 ≡ headWord (bits 0 4 (at ws 0)) (sizeOf ws) (countOf ws)
   unfolding wordAt decode decodeTable
-  head-word = rw (size-is, count-is)
+  head-word = rw (size-is ws, count-is)
 
   -- x and z are nodes
   pair-is : (x z : ℕ) → x < sizeOf ws → z < sizeOf ws → isPair (decodeTable ws) x z ≡ not (eqb x z)
   pair-is x z hx hz =
-      rw (lt-ltb x (size (decodeTable ws)) (rw size-is hx), lt-ltb z (size (decodeTable ws)) (rw size-is hz))
+      rw (lt-ltb x (size (decodeTable ws)) (rw (size-is ws) hx), lt-ltb z (size (decodeTable ws)) (rw (size-is ws) hz))
 
   not-pair : (x z : ℕ) → (x < sizeOf ws → z < sizeOf ws → x ≡ z) → isPair (decodeTable ws) x z ≡ false
   not-pair x z f = is-false (isPair (decodeTable ws) x z) (λ e.
       let o = pair-other (decodeTable ws) x z e in
-      o .differs (sym (f (rw size-is at (pair-low (decodeTable ws) x z e)) (rw size-is at (o .low)))))
+      o .differs (sym (f (rw (size-is ws) at (pair-low (decodeTable ws) x z e)) (rw (size-is ws) at (o .low)))))
 
   -- ---- from the whole to the regions
 
@@ -194,7 +177,7 @@ module _ (ws : List ℕ) where
 
     ranges : Each (λ b. b ≡ true) (between 1 8 (bits 0 4 (at ws 0)) ∷ between 1 64 (sizeOf ws) ∷ [])
     unfolding inRange decodeTable
-    ranges = every-out _ (rw size-is at (first tests))
+    ranges = every-out _ (rw (size-is ws) at (first tests))
 
     size-high : sizeOf ws ≤ 64
     size-high = between-high 1 64 (sizeOf ws) (first (rest ranges))
@@ -242,15 +225,15 @@ module _ (ws : List ℕ) where
           ∷ (not (decodeNode ws x .running) ⇒ all (size (decodeTable ws)) (λ z. not (decodeNode ws x .own .held z) && not (decodeNode ws x .own .candidates z)))
           ∷ [])
       unfolding nodeFits
-      node-tests = every-out _ (all-out (size (decodeTable ws)) (λ x. nodeFits (decodeTable ws) (decodeNode ws x) x) (first (rest (rest (rest tests)))) x (rw size-is hx))
+      node-tests = every-out _ (all-out (size (decodeTable ws)) (λ x. nodeFits (decodeTable ws) (decodeNode ws x) x) (first (rest (rest (rest tests)))) x (rw (size-is ws) hx))
 
       off : (z : ℕ) → z < sizeOf ws → isPair (decodeTable ws) x z ≡ true → flag 24 (keyAt ws x) ≡ false → (not (flag 24 (linkAt ws x z)) && not (flag 25 (linkAt ws x z))) ≡ true
       unfolding decodeNode decodeOwn
       off z hz e f =
           rw e at (all-out (size (decodeTable ws)) (λ z. not (decodeNode ws x .own .held z) && not (decodeNode ws x .own .candidates z))
           (implies-out (not (decodeNode ws x .running)) (all (size (decodeTable ws)) (λ z. not (decodeNode ws x .own .held z) && not (decodeNode ws x .own .candidates z))) (first (rest node-tests))
-          (rw (lt-ltb x (size (decodeTable ws)) (rw size-is hx), f)))
-          z (rw size-is hz))
+          (rw (lt-ltb x (size (decodeTable ws)) (rw (size-is ws) hx), f)))
+          z (rw (size-is ws) hz))
 
       module _ (z : ℕ) (hz : z < sizeOf ws) where
         word : (j : ℕ) → j < 2 → at ws (pairPlace x z + j) ≡ ofPair (decode ws) x z j
@@ -269,7 +252,7 @@ module _ (ws : List ℕ) where
             let e : isPair (decodeTable ws) x z ≡ true = pair-is x z hx hz ∙ not-in d in
             let f = every-out (pairTests x z) (sym (pair-fits x z hx e)
             ∙ implies-out (isPair (decodeTable ws) x z) (pairFits (decodeTable ws) (decodeNode ws x) x z)
-            (all-out (size (decodeTable ws)) (λ z. isPair (decodeTable ws) x z ⇒ pairFits (decodeTable ws) (decodeNode ws x) x z) (first node-tests) z (rw size-is hz)) e) in
+            (all-out (size (decodeTable ws)) (λ z. isPair (decodeTable ws) x z ⇒ pairFits (decodeTable ws) (decodeNode ws x) x z) (first node-tests) z (rw (size-is ws) hz)) e) in
             let link : linkReads (bits 0 24 (clockAt ws x)) (linkAt ws x z) ≡ true =
             every-in (cons (eq-eqb (linkAt ws x z) _ (first-word ∙ pair-word x z 0 e)) (cons (first (rest (rest (rest f)))) (cons (first (rest (rest (rest (rest f))))) nil))) in
             let spare : spareReads (sizeOf ws) x z (linkAt ws x z) (spareAt ws x z) ≡ true =
@@ -466,19 +449,19 @@ module _ (ws : List ℕ) where
     unfolding nodeFits decodeNode decodeOwn
     node-fits x hx =
         every-in (cons (all-in (size (decodeTable ws)) (λ z. isPair (decodeTable ws) x z ⇒ pairFits (decodeTable ws) (decodeNode ws x) x z)
-        (λ z h. implies-in (isPair (decodeTable ws) x z) (pairFits (decodeTable ws) (decodeNode ws x) x z) (pair-tests x z hx (rw size-is at h))))
+        (λ z h. implies-in (isPair (decodeTable ws) x z) (pairFits (decodeTable ws) (decodeNode ws x) x z) (pair-tests x z hx (rw (size-is ws) at h))))
         (cons (implies-in (not (decodeNode ws x .running)) (all (size (decodeTable ws)) (λ z. not (decodeNode ws x .own .held z) && not (decodeNode ws x .own .candidates z))) off) nil))
       where
         off : not (decodeNode ws x .running) ≡ true → all (size (decodeTable ws)) (λ z. not (decodeNode ws x .own .held z) && not (decodeNode ws x .own .candidates z)) ≡ true
         off e =
             all-in (size (decodeTable ws)) _ (λ z h. decide (isPair (decodeTable ws) x z)
-            (λ p. rw p (implies-out _ _ (first (rest (rest (apart-reads x z hx (rw size-is at h) (not-out (eqb x z) (sym (pair-is x z hx (rw size-is at h)) ∙ p))))))
-            (rw (lt-ltb x (size (decodeTable ws)) (rw size-is hx)) at e)))
+            (λ p. rw p (implies-out _ _ (first (rest (rest (apart-reads x z hx (rw (size-is ws) at h) (not-out (eqb x z) (sym (pair-is x z hx (rw (size-is ws) at h)) ∙ p))))))
+            (rw (lt-ltb x (size (decodeTable ws)) (rw (size-is ws) hx)) at e)))
             (λ p. rw p))
 
     range : inRange (decodeTable ws) ≡ true
     unfolding inRange decodeTable
-    range = every-in (cons (first (rest in-head)) (cons {a = between 1 64 (size (decodeTable ws))} (rw size-is (first (rest (rest in-head)))) nil))
+    range = every-in (cons (first (rest in-head)) (cons {a = between 1 64 (size (decodeTable ws))} (rw (size-is ws) (first (rest (rest in-head)))) nil))
 
     few : leb (length (decode ws .messages)) 1024 ≡ true
     few = rw count-is (first (rest (rest (rest in-head))))
@@ -489,7 +472,7 @@ module _ (ws : List ℕ) where
         every-in (cons range
         (cons (first (rest (rest regions)))
         (cons few
-        (cons (all-in (size (decodeTable ws)) (λ x. nodeFits (decodeTable ws) (decodeNode ws x) x) (λ x h. node-fits x (rw size-is at h)))
+        (cons (all-in (size (decodeTable ws)) (λ x. nodeFits (decodeTable ws) (decodeNode ws x) x) (λ x h. node-fits x (rw (size-is ws) at h)))
         (cons (all-in (length (decode ws .messages)) (λ k. messageFits (decodeTable ws) (messageAt (decode ws) k))
         (λ k h. rw (message-is k (rw count-is at h)) (first (rest (in-message k (rw count-is at h)))))) nil)))))
 

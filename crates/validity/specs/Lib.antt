@@ -1,5 +1,1 @@
 pub mod Regions
-pub mod Messages
-pub mod MessagesParts
-pub mod Rows
-pub mod Marks

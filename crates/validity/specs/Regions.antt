@@ -1,98 +1,12 @@
--- The regions of words that read as a ring: word 0, the nodes and the pairs. The messages are in Messages.
-use Prim.Native.Nat.{ℕ, _+_}
-use mathlib.Core.Bool.{Bool, not, _&&_, _||_}
+-- The regions of words that read as a ring: word 0, the nodes, the pairs and the messages.
+use mathlib.Core.Bool.{Bool}
 use mathlib.Core.List.{List, [], _∷_}
-use lib.Dec.{ltb, leb, eqb}
-use Rattle.model.specs.Choice.{if_then_else_, _⇒_, every}
-use Rattle.model.specs.Sets.{all, noneNode}
-use Rattle.model.specs.Fields.{bits, flag}
-use Rattle.model.specs.Words.{at, headWord, keyWord, clockWord, pairWord, spareWord, nodePlace, pairPlace, between, keysDiffer, decodeTable}
-use Rattle.validity.specs.Messages.{messagesRead}
-
--- the words from place a up to e are 0
-unfoldable pub clear : List ℕ → ℕ → ℕ → Bool
-clear ws a e = all e (λ i. ltb i a || eqb (at ws i) 0)
-
--- what word 0 says of the table's size and of the count of messages
-abbrev pub sizeOf : List ℕ → ℕ
-sizeOf ws = bits 4 7 (at ws 0)
-
-abbrev pub countOf : List ℕ → ℕ
-countOf ws = bits 11 11 (at ws 0)
-
-module _ (ws : List ℕ) where
-  -- the two words of node s, and of the pair (x, z)
-  abbrev pub keyAt : ℕ → ℕ
-  keyAt s = at ws (nodePlace s)
-
-  abbrev pub clockAt : ℕ → ℕ
-  clockAt s = at ws (nodePlace s + 1)
-
-  abbrev pub linkAt : ℕ → ℕ → ℕ
-  linkAt x z = at ws (pairPlace x z)
-
-  abbrev pub spareAt : ℕ → ℕ → ℕ
-  spareAt x z = at ws (pairPlace x z + 1)
-
--- w is a word 0, and its parts are in range
-unfoldable pub headReads : ℕ → Bool
-headReads w =
-    every
-    (eqb w (headWord (bits 0 4 w) (bits 4 7 w) (bits 11 11 w))
-    ∷ between 1 8 (bits 0 4 w)
-    ∷ between 1 64 (bits 4 7 w)
-    ∷ leb (bits 11 11 w) 1024
-    ∷ [])
-
--- k and c are the two words of a node
-unfoldable pub nodeReads : ℕ → ℕ → Bool
-nodeReads k c = every (eqb k (keyWord (bits 0 24 k) (flag 24 k)) ∷ eqb c (clockWord (bits 0 24 c)) ∷ [])
-
--- n nodes, and nothing after them
-unfoldable pub nodesRead : List ℕ → ℕ → Bool
-nodesRead ws n =
-    every
-    (all n (λ s. nodeReads (keyAt ws s) (clockAt ws s))
-    ∷ clear ws (nodePlace n) 129
-    ∷ [])
-
--- w is the first word of a pair of a node with that clock
-unfoldable pub linkReads : ℕ → ℕ → Bool
-linkReads clock w =
-    every
-    (eqb w (pairWord (bits 0 24 w) (flag 24 w) (flag 25 w))
-    ∷ (if flag 24 w then ltb 0 (bits 0 24 w) else eqb (bits 0 24 w) 0)
-    ∷ leb (bits 0 24 w) clock
-    ∷ [])
-
--- p is the second word of the pair (x, z) of n nodes, w being its first
-unfoldable pub spareReads : ℕ → ℕ → ℕ → ℕ → ℕ → Bool
-spareReads n x z w p =
-    every
-    (eqb p (spareWord (bits 0 7 p))
-    ∷ (ltb (bits 0 7 p) n || eqb (bits 0 7 p) noneNode)
-    ∷ not (eqb (bits 0 7 p) x)
-    ∷ not (eqb (bits 0 7 p) z)
-    ∷ (not (flag 24 w) ⇒ eqb (bits 0 7 p) noneNode)
-    ∷ [])
-
--- the two words of (x, z): 0 where x is z; a node that is off neither holds z nor has it as a candidate
-unfoldable pub pairReads : List ℕ → ℕ → ℕ → ℕ → Bool
-pairReads ws n x z =
-    if eqb x z then eqb (linkAt ws x z) 0 && eqb (spareAt ws x z) 0
-    else every
-    (linkReads (bits 0 24 (clockAt ws x)) (linkAt ws x z)
-    ∷ spareReads n x z (linkAt ws x z) (spareAt ws x z)
-    ∷ (not (flag 24 (keyAt ws x)) ⇒ not (flag 24 (linkAt ws x z)) && not (flag 25 (linkAt ws x z)))
-    ∷ [])
-
--- the pairs of x with n nodes, and nothing after them
-unfoldable pub rowReads : List ℕ → ℕ → ℕ → Bool
-rowReads ws n x = every (all n (pairReads ws n x) ∷ clear ws (pairPlace x n) (pairPlace x 64) ∷ [])
-
--- n rows, and nothing after them
-unfoldable pub pairsRead : List ℕ → ℕ → Bool
-pairsRead ws n = every (all n (rowReads ws n) ∷ clear ws (pairPlace n 0) 8321 ∷ [])
+use Prim.Native.Nat.{ℕ}
+use Rattle.model.specs.Choice.{every}
+use Rattle.model.specs.Words.{at, keysDiffer, decodeTable}
+use Rattle.valid_nodes.specs.Nodes.{sizeOf, countOf, headReads, nodesRead}
+use Rattle.valid_pairs.specs.Pairs.{pairsRead}
+use Rattle.valid_messages.specs.Messages.{messagesRead}
 
 -- region by region
 unfoldable pub regionsRead : List ℕ → Bool

@@ -2,12 +2,10 @@
 ghost use mathlib.Core.Path.{_≡_};
 ghost use lib.ListN.{length};
 ghost use Rattle.model.specs.Words.{readsAsRing};
-
-mod clear;
-mod head;
-mod messages;
-mod nodes;
-mod pairs;
+use valid_messages::messages_read;
+use valid_nodes::head;
+use valid_nodes::nodes;
+use valid_pairs::pairs_read;
 
 // The words read as a ring. Word 0 is looked at first: the others are looked for by what it says.
 pub fn reads_as_ring(words: &[u32]) -> bool
@@ -22,6 +20,6 @@ pub fn reads_as_ring(words: &[u32]) -> bool
     let m = head::count(w);
     nodes::nodes_read(words, n as usize)
         & nodes::keys_differ(words, n as usize)
-        & pairs::pairs_read(words, n as usize)
-        & messages::messages_read(words, n, m as usize)
+        & pairs_read(words, n as usize)
+        & messages_read(words, n, m as usize)
 }

@@ -10,7 +10,7 @@ use Rattle.model.specs.Sets.{Set, ofBits, without}
 use Rattle.model.specs.Words.{decode}
 use Rattle.model.proofs.Laws.{or-right}
 use Rattle.model.proofs.Bits.{bit-below}
-use Rattle.leafset.proofs.Bits.{of-none, none-left}
+use Rattle.sets.proofs.Bits.{of-none, none-left}
 use Rattle.connection.proofs.Linked.{running-low}
 use Rattle.connection.proofs.Walk.{Walk, walk-start, walk-end}
 use Rattle.connection.proofs.Turn.{next, found-le, turn}

@@ -4,7 +4,7 @@ use native.Mathlib.Omega.{arith}
 use borrow.Author.Needs.{needs}
 use Rattle.model.specs.Sets.{ofBits}
 use Rattle.model.specs.Words.{decode}
-use Rattle.leafset.proofs.Bits.{none-left}
+use Rattle.sets.proofs.Bits.{none-left}
 use Rattle.connection.proofs.Linked.{running-low, running-closed}
 use Rattle.connection.proofs.Turn.{next}
 use Rattle.connection.proofs.Counting.{firsts, Counted, counted-none, counted-few, counted-next, counted-end, one-less}

@@ -5,8 +5,8 @@ use mathlib.Core.Bool.{_||_}
 use borrow.Author.Needs.{needs}
 use Rattle.model.specs.Sets.{ofBits}
 use Rattle.model.proofs.Bits.{bit-below}
-use Rattle.leafset.proofs.Bits.{Rising, rising-first, rising-rest, rising-set, of-none, none-left}
-use Rattle.leafset.proofs.Collect.{Collected, collected-none, collected-kept, collected-passed, collected-end}
+use Rattle.sets.proofs.Bits.{Rising, rising-first, rising-rest, rising-set, of-none, none-left}
+use Rattle.sets.proofs.Collect.{Collected, collected-none, collected-kept, collected-passed, collected-end}
 use Rattle.connection.specs.Links.{heldAt}
 use Rattle.connection.proofs.neighbours.Statement.{statement}
 use Rattle.connection.proofs.neighbours.Tie as tie

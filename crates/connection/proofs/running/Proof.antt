@@ -10,7 +10,7 @@ use Rattle.model.specs.Sets.{Set, ofBits, with}
 use Rattle.model.specs.Leafset.{size}
 use Rattle.model.specs.Fields.{flag}
 use Rattle.model.specs.Words.{at, nodePlace, decodeTable, decodeNode, decode}
-use Rattle.leafset.proofs.Bits.{of-none}
+use Rattle.sets.proofs.Bits.{of-none}
 use Rattle.connection.proofs.UpTo.{upTo, up-to-none, up-to-kept, up-to-passed}
 use Rattle.connection.proofs.running.Statement.{statement}
 use Rattle.connection.proofs.running.Tie as tie

@@ -1,13 +1,15 @@
+use mathlib.Core.Bool.{_&&_}
 use mathlib.Core.Path.{ap, ap₂, sym, _∙_}
 use native.Mathlib.Omega.{arith}
-use mathlib.Core.Bool.{_&&_}
 use denote.Ref.{now}
 use borrow.Author.Tests.{not-true, not-false}
 use borrow.Author.Needs.{needs}
 use Rattle.model.specs.Words.{at, decodeTable}
-use Rattle.validity.specs.Regions.{nodesRead, pairsRead}
-use Rattle.validity.specs.Messages.{messagesRead}
-use Rattle.validity.proofs.Regions.{size-is, head-ranges, head-fails, after-head}
+use Rattle.valid_nodes.specs.Nodes.{nodesRead}
+use Rattle.valid_pairs.specs.Pairs.{pairsRead}
+use Rattle.valid_messages.specs.Messages.{messagesRead}
+use Rattle.valid_nodes.proofs.NodeTests.{size-is}
+use Rattle.validity.proofs.Regions.{head-ranges, head-fails, after-head}
 use Rattle.validity.proofs.reads_as_ring.Statement.{statement}
 use Rattle.validity.proofs.reads_as_ring.Tie as tie
 

@@ -1,6 +1,6 @@
 use mathlib.Core.Path.{fun-ext}
 use borrow.Author.Needs.{needs}
-use Rattle.leafset.proofs.Bits.{of-none}
+use Rattle.sets.proofs.Bits.{of-none}
 use Rattle.buffer.proofs.sending.request.Statement.{statement}
 use Rattle.buffer.proofs.sending.request.Tie as tie
 

@@ -3,7 +3,7 @@ use mathlib.Core.Path.{_∙_}
 use native.Mathlib.Omega.{arith}
 use lib.Bits.{or-lt}
 use borrow.Author.Needs.{needs}
-use Rattle.leafset.proofs.Bits.{or-union}
+use Rattle.sets.proofs.Bits.{or-union}
 use Rattle.leafset.proofs.Leaves.{left-low, leafset-all, leafset-near, from-set}
 use Rattle.leafset.proofs.leafset.leafset.Statement.{statement}
 use Rattle.leafset.proofs.leafset.leafset.Tie as tie

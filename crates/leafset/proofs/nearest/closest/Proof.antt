@@ -2,7 +2,7 @@
 use mathlib.Core.Path.{subst₂}
 use Prim.Native.Nat.{ℕ, _<_, _≤_}
 use borrow.Author.Needs.{needs}
-use Rattle.leafset.proofs.Bits.{none-left, first-bit}
+use Rattle.sets.proofs.Bits.{none-left, first-bit}
 use Rattle.leafset.proofs.Pick.{found-least}
 use Rattle.leafset.proofs.Choices.{others-low, closest-nobody, closest-found, closest-none}
 use Rattle.leafset.proofs.nearest.closest.Statement.{statement}

@@ -1,6 +1,6 @@
 -- `leafset::nearest::passes_zero` meets its contract.
 use borrow.Author.Needs.{needs}
-use Rattle.leafset.proofs.Bits.{none-left, first-bit}
+use Rattle.sets.proofs.Bits.{none-left, first-bit}
 use Rattle.leafset.proofs.Choices.{successor-low, passes-found, passes-nobody}
 use Rattle.leafset.proofs.nearest.passes_zero.Statement.{statement}
 use Rattle.leafset.proofs.nearest.passes_zero.Tie as tie

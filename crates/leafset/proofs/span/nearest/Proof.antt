@@ -1,13 +1,13 @@
 -- `leafset::span::nearest` meets its contract.
 use mathlib.Core.Path.{subst, _≡_, refl, sym, ap, ap₂, _∙_}
 use mathlib.Core.Logic.{⊎-elim}
-use Prim.Native.Nat.{ℕ, _<_}
+use Prim.Native.Nat.{ℕ}
 use lib.ListN.{getD, length}
 use borrow.Author.Needs.{needs}
 use Rattle.model.proofs.Bits.{bit-below}
 use Rattle.model.specs.Sets.{members, ofBits}
 use Rattle.leafset.specs.Span.{Found, spanTo}
-use Rattle.leafset.proofs.Bits.{rising-next, Rising, rising-below, rising-rest, members-end}
+use Rattle.sets.proofs.Bits.{rising-next, Rising, rising-below, rising-rest, members-end}
 use Rattle.leafset.proofs.Pick.{pick-end, Pair, pick-next, pick-same, pick, picked}
 use Rattle.leafset.proofs.Spans.{beyond, span<}
 use Rattle.leafset.proofs.span.nearest.Statement.{statement}

@@ -1,6 +1,6 @@
 -- `protocol::own::add_candidates` meets its contract.
 use borrow.Author.Needs.{needs}
-use Rattle.leafset.proofs.Bits.{or-union}
+use Rattle.sets.proofs.Bits.{or-union}
 use Rattle.protocol.proofs.Changes.{within-union}
 use Rattle.protocol.proofs.own.add_candidates.Statement.{statement}
 use Rattle.protocol.proofs.own.add_candidates.Tie as tie

@@ -13,8 +13,8 @@ use Rattle.model.specs.Sets.{ofBits, noneNode}
 use Rattle.model.specs.Structs.{spareAt}
 use Rattle.model.proofs.Laws.{not-in}
 use Rattle.model.proofs.Bits.{bit-below}
-use Rattle.leafset.proofs.Bits.{Rising, rising-first, rising-below, rising-rest, rising-set, of-none, none-left}
-use Rattle.leafset.proofs.Collect.{Collected, collected-none, collected-kept, collected-passed, collected-end}
+use Rattle.sets.proofs.Bits.{Rising, rising-first, rising-below, rising-rest, rising-set, of-none, none-left}
+use Rattle.sets.proofs.Collect.{Collected, collected-none, collected-kept, collected-passed, collected-end}
 use Rattle.protocol.proofs.Changes.{getD-any}
 use Rattle.protocol.proofs.timers.spared.Statement.{statement}
 use Rattle.protocol.proofs.timers.spared.Tie as tie

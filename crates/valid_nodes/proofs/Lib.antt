@@ -1,0 +1,3 @@
+pub mod Formats
+pub mod Gather
+pub mod NodeTests

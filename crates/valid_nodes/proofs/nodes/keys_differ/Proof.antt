@@ -1,0 +1,92 @@
+use mathlib.Core.Path.{_≡_, refl, sym, ap, _∙_}
+use Prim.Native.Nat.{ℕ, _-_, _≤_}
+use native.Mathlib.Nat.{not-suc-le-zero}
+use native.Mathlib.Omega.{arith}
+use mathlib.Core.Bool.{true, false}
+use lib.ListN.{length, getD}
+use denote.Ref.{now}
+use borrow.Author.Tests.{not-true, not-false}
+use borrow.Author.Needs.{needs}
+use Rattle.model.proofs.Laws.{clash, is-false, all-out}
+use Rattle.model.specs.Sets.{all}
+use Rattle.valid_nodes.specs.Marks.{isNew}
+use Rattle.valid_nodes.proofs.NodeTests.{Marked, unmet-new, marked-more, keys-tests}
+use Rattle.valid_nodes.proofs.Gather.{all-more}
+use Rattle.valid_nodes.proofs.nodes.keys_differ.Statement.{statement}
+use Rattle.valid_nodes.proofs.nodes.keys_differ.Tie as tie
+
+abbrev Inv-loop : tie.InvT-loop
+Inv-loop words n met₀ x₀ met x = (x ≤ n) × (length met ≡ 512) × (true ≡ all x (isNew words)) × Marked met words x
+
+abbrev μ-loop : tie.MeasureT-loop
+μ-loop words n met₀ x₀ met x = n - x
+
+loop-holds : tie.Need-loop-holds Inv-loop μ-loop
+unfolding all
+loop-holds c = (search needs, refl, refl, λ y h. absurd (not-suc-le-zero h))
+
+mark-requires : tie.Need-mark-requires Inv-loop μ-loop
+mark-requires c κs = search needs
+
+array-read-marked-is-new : tie.Need-array-read-marked-is-new Inv-loop μ-loop
+array-read-marked-is-new c = let e = c .mark .ensures in omega arith
+
+marked-is-new-requires : tie.Need-marked-is-new-requires Inv-loop μ-loop
+marked-is-new-requires c κs =
+    let l = c .before .before .loop in
+    let ws = now (c .before .before .before .before .args .words) in (
+      c .before .before .before .before .pre .0,
+      omega arith,
+      λ unmet. unmet-new (l .met) ws (l .x) (l .inv .3) (ap (λ (i : ℕ). getD (l .met) i false) (sym (c .mark .ensures)) ∙ unmet),
+    )
+
+returns : tie.Need-returns Inv-loop μ-loop
+returns c =
+    let l = c .before .before .before .before .loop in
+    let a = c .before .before .before .before .before .before .args in
+    let ws = now (a .words) in
+    let old : isNew ws (l .x) ≡ false = sym (c .before .marked-is-new .ensures) ∙ not-true (c .before .marked-is-new .result) (c .if1 .taken) in
+    sym (sym (keys-tests ws (a .n) (c .before .before .before .before .before .before .pre .2)) ∙ is-false (all (a .n) (isNew ws)) (λ t. clash (all-out (a .n) (isNew ws) t (l .x) (omega arith)) old))
+
+array-write-met : tie.Need-array-write-met Inv-loop μ-loop
+array-write-met c = let e = c .before .before .mark .ensures in omega arith
+
+add-x : tie.Need-add-x Inv-loop μ-loop
+add-x c = search needs
+
+loop-less : tie.Need-loop-less Inv-loop μ-loop
+loop-less c = search needs
+
+loop-again : tie.Need-loop-again Inv-loop μ-loop
+loop-again c =
+    let l = c .before .before .before .before .loop in
+    let ws = now (c .before .before .before .before .before .before .args .words) in (
+      search needs,
+      search needs,
+      all-more (isNew ws) (l .x) true true (l .inv .2) (sym (not-false (c .before .marked-is-new .result) (c .if1 .left)) ∙ c .before .marked-is-new .ensures),
+      rw (c .before .before .mark .ensures) (marked-more (l .met) ws (l .x) (l .inv .1) (l .inv .3)),
+    )
+
+returns-2 : tie.Need-returns-2 Inv-loop μ-loop
+returns-2 c =
+    let l = c .before .loop in
+    let a = c .before .before .before .args in
+    let e : l .x ≡ a .n = omega arith in
+    (rw e at (l .inv .2)) ∙ keys-tests (now (a .words)) (a .n) (c .before .before .before .pre .2)
+
+pub keys-differ-spec : {M : Type 1} → statement M
+keys-differ-spec =
+    tie.close
+    (tie.spec
+    Inv-loop
+    μ-loop
+    loop-holds
+    mark-requires
+    array-read-marked-is-new
+    marked-is-new-requires
+    returns
+    array-write-met
+    add-x
+    loop-less
+    loop-again
+    returns-2)

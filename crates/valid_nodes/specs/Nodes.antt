@@ -1,0 +1,50 @@
+-- Word 0, the nodes, and words that belong to nothing.
+use Prim.Native.Nat.{ℕ, _+_}
+use mathlib.Core.Bool.{Bool, _||_}
+use mathlib.Core.List.{List, [], _∷_}
+use lib.Dec.{ltb, leb, eqb}
+use Rattle.model.specs.Choice.{every}
+use Rattle.model.specs.Sets.{all}
+use Rattle.model.specs.Fields.{bits, flag}
+use Rattle.model.specs.Words.{at, headWord, keyWord, clockWord, nodePlace, between}
+
+-- the words from place a up to e are 0
+unfoldable pub clear : List ℕ → ℕ → ℕ → Bool
+clear ws a e = all e (λ i. ltb i a || eqb (at ws i) 0)
+
+-- what word 0 says of the table's size and of the count of messages
+abbrev pub sizeOf : List ℕ → ℕ
+sizeOf ws = bits 4 7 (at ws 0)
+
+abbrev pub countOf : List ℕ → ℕ
+countOf ws = bits 11 11 (at ws 0)
+
+module _ (ws : List ℕ) where
+  -- the two words of node s
+  abbrev pub keyAt : ℕ → ℕ
+  keyAt s = at ws (nodePlace s)
+
+  abbrev pub clockAt : ℕ → ℕ
+  clockAt s = at ws (nodePlace s + 1)
+
+-- w is a word 0, and its parts are in range
+unfoldable pub headReads : ℕ → Bool
+headReads w =
+    every
+    (eqb w (headWord (bits 0 4 w) (bits 4 7 w) (bits 11 11 w))
+    ∷ between 1 8 (bits 0 4 w)
+    ∷ between 1 64 (bits 4 7 w)
+    ∷ leb (bits 11 11 w) 1024
+    ∷ [])
+
+-- k and c are the two words of a node
+unfoldable pub nodeReads : ℕ → ℕ → Bool
+nodeReads k c = every (eqb k (keyWord (bits 0 24 k) (flag 24 k)) ∷ eqb c (clockWord (bits 0 24 c)) ∷ [])
+
+-- n nodes, and nothing after them
+unfoldable pub nodesRead : List ℕ → ℕ → Bool
+nodesRead ws n =
+    every
+    (all n (λ s. nodeReads (keyAt ws s) (clockAt ws s))
+    ∷ clear ws (nodePlace n) 129
+    ∷ [])

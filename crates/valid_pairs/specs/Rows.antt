@@ -1,0 +1,69 @@
+-- What the code tests of a row of pairs: each word without the bits that it must have.
+use mathlib.Core.Path.{_≡_}
+use Prim.Native.Nat.{ℕ, _+_, _/_, _^_, _≤_, _<_}
+use mathlib.Core.Bool.{Bool, not, _&&_, _||_}
+use mathlib.Core.List.{List, [], _∷_}
+use lib.Bits.{bitXor}
+use lib.Dec.{ltb, leb, eqb}
+use lib.ListN.{length, set, replicate}
+use Rattle.model.specs.Choice.{if_then_else_, every}
+use Rattle.model.specs.Sets.{all}
+use Rattle.model.specs.Fields.{bits, flag}
+use Rattle.model.specs.Words.{ringLength}
+use Rattle.valid_nodes.specs.Nodes.{clockAt}
+use Rattle.valid_pairs.specs.Pairs.{linkAt, spareAt}
+
+-- the first word of a pair that is not held and no candidate, and the second of one that has no spare
+abbrev pub noLink : ℕ
+noLink = 805306368
+
+abbrev pub noSpare : ℕ
+noSpare = 1073741888
+
+-- b wherever 63 - x + z is read, but 0 where x is z
+abbrev pub offDiagonal : ℕ → List ℕ
+offDiagonal b = set (replicate 127 b) 63 0
+
+-- what the code of a row is given: the row of node x of n, and the two tables
+pub record GivenRow (ws links spares : List ℕ) (x n : ℕ) : Type 0 where
+  pub long : length ws ≡ ringLength
+  pub few : n ≤ 64
+  pub node : x < n
+  pub link-table : links ≡ offDiagonal noLink
+  pub spare-table : spares ≡ offDiagonal noSpare
+
+-- the bits in which w differs from b, or from 0 where x is z
+abbrev pub apart : ℕ → ℕ → ℕ → ℕ → ℕ
+apart b x z w = bitXor w (if eqb x z then 0 else b)
+
+-- u is what a link may have beyond `noLink`
+unfoldable pub linkFits : ℕ → ℕ → Bool
+linkFits clock u =
+    every
+    (eqb (u / 2 ^ 26) 0
+    ∷ (if flag 24 u then ltb 0 (bits 0 24 u) else eqb (bits 0 24 u) 0)
+    ∷ leb (bits 0 24 u) clock
+    ∷ [])
+
+-- u is what the second word of (x, z), held or not, of n nodes may have beyond `noSpare`: nothing, or bit 6 and a spare
+unfoldable pub spareFits : ℕ → ℕ → ℕ → Bool → ℕ → Bool
+spareFits n x z held u =
+    eqb u 0
+    || (held && leb 64 u && ltb u (64 + n) && not (eqb u (64 + x)) && not (eqb u (64 + z)))
+
+module _ (ws : List ℕ) (n x : ℕ) where
+  -- each link of the row fits
+  abbrev pub linksFit : Bool
+  linksFit = all n (λ z. linkFits (bits 0 24 (clockAt ws x)) (apart noLink x z (linkAt ws x z)))
+
+  -- no pair of the row has a link
+  abbrev pub noLinks : Bool
+  noLinks = all n (λ z. eqb (apart noLink x z (linkAt ws x z)) 0)
+
+  -- no pair of the row has a spare
+  abbrev pub noSpares : Bool
+  noSpares = all n (λ z. eqb (apart noSpare x z (spareAt ws x z)) 0)
+
+  -- each spare of the row fits
+  abbrev pub sparesFit : Bool
+  sparesFit = all n (λ z. spareFits n x z (flag 24 (linkAt ws x z)) (apart noSpare x z (spareAt ws x z)))

@@ -1,0 +1,143 @@
+// Whether the words of the pairs read, row by row.
+ghost use mathlib.Core.Path.{_≡_};
+ghost use mathlib.Core.Bool.{_&&_};
+ghost use Prim.Native.Nat.{_+_, _*_, _/_, _%_, _^_, _≤_, _<_};
+ghost use lib.ListN.{length};
+ghost use Rattle.model.specs.Fields.{flag};
+ghost use Rattle.model.specs.Sets.{all};
+ghost use Rattle.valid_pairs.specs.Pairs.{pairReads, rowReads, pairsRead};
+ghost use Rattle.valid_pairs.specs.Rows.{noSpare, offDiagonal, GivenRow, spareFits, noLinks, noSpares, linksFit, sparesFit};
+use valid_nodes::clear::clear;
+
+// The first word of a pair that is not held and no candidate, and the second of one that has no spare.
+const NO_LINK: u32 = 0x3000_0000;
+
+const NO_SPARE: u32 = 0x4000_0040;
+
+// What is seen of the row of a running node.
+struct Row {
+    fits: bool,
+    bare: bool,
+}
+
+// u without bit 25, the candidate mark, plus 2^24 - 1. Bit 24 of that is clear exactly where a held pair has a stamp and
+// another has none; it is then at most 2^25 - 1 plus the clock exactly where the stamp is at most the clock.
+fn lifted(u: u32) -> u32
+    ensures { λ r. ⌜ r ≡ u / 2 ^ 26 * 2 ^ 26 + u % 2 ^ 25 + 16777215 ⌝ }
+{
+    (u & 0xFDFF_FFFF) + 0xFF_FFFF
+}
+
+// The row of a running node x. Each condition has a word in which the bits that break it are gathered.
+fn running_row(words: &[u32], links: &[u32; 127], spares: &[u32; 127], x: usize, n: usize) -> Row
+    requires { ⌜ GivenRow (now words) (now links) (now spares) x n ⌝ }
+    ensures { λ r. ⌜ (r .fits ≡ linksFit (now (words .entry)) n x) × (r .bare ≡ noSpares (now (words .entry)) n x) ⌝ }
+{
+    let most = 0x1FF_FFFF + words[1 + 2 * x + 1] % 0x100_0000;
+    let mut link = 0;
+    let mut late = 0;
+    let mut spare = 0;
+    for z in 0..n {
+        let at = 129 + 2 * (64 * x + z);
+        let a = lifted(words[at] ^ links[63 - x + z]);
+        link = link | a;
+        late = late | std::num::wrapping_sub_u32(most, a);
+        spare = spare | (words[at + 1] ^ spares[63 - x + z]);
+    }
+    Row {
+        fits: (link >> 26 == 0) & ((link >> 24) % 2 == 0) & (late >> 31 == 0),
+        bare: spare == 0,
+    }
+}
+
+// The row of a node x that is off: nothing but what a pair without a link and a spare has.
+fn off_row(words: &[u32], links: &[u32; 127], spares: &[u32; 127], x: usize, n: usize) -> bool
+    requires { ⌜ GivenRow (now words) (now links) (now spares) x n ⌝ }
+    ensures { λ r. ⌜ r ≡ noLinks (now (words .entry)) n x && noSpares (now (words .entry)) n x ⌝ }
+{
+    let mut link = 0;
+    let mut spare = 0;
+    for z in 0..n {
+        let at = 129 + 2 * (64 * x + z);
+        link = link | (words[at] ^ links[63 - x + z]);
+        spare = spare | (words[at + 1] ^ spares[63 - x + z]);
+    }
+    (link == 0) & (spare == 0)
+}
+
+// u is what the second word of (x, z) may have beyond that of no spare, w being its first word.
+fn spare_fits(w: u32, u: u32, n: u32, x: u32, z: u32) -> bool
+    requires { ⌜ (n ≤ 64) × (x < 64) × (z < 64) ⌝ }
+    ensures { λ r. ⌜ r ≡ spareFits n x z (flag 24 w) u ⌝ }
+{
+    let held = (w >> 24) % 2 == 1;
+    (u == 0) | (held & (64 <= u) & (u < 64 + n) & !(u == 64 + x) & !(u == 64 + z))
+}
+
+// The spares of the row of x.
+fn spares_fit(words: &[u32], spares: &[u32; 127], x: usize, n: usize) -> bool
+    requires { ⌜ (length (now words) ≡ 13441) × (n ≤ 64) × (x < n) × (now spares ≡ offDiagonal noSpare) ⌝ }
+    ensures { λ r. ⌜ r ≡ sparesFit (now (words .entry)) n x ⌝ }
+{
+    let mut ok = true;
+    for z in 0..n {
+        let at = 129 + 2 * (64 * x + z);
+        let u = words[at + 1] ^ spares[63 - x + z];
+        ok = ok & spare_fits(words[at], u, n as u32, x as u32, z as u32);
+    }
+    ok
+}
+
+// The pairs of x with n nodes.
+fn row_pairs_read(
+    words: &[u32],
+    links: &[u32; 127],
+    spares: &[u32; 127],
+    x: usize,
+    n: usize,
+) -> bool
+    requires { ⌜ GivenRow (now words) (now links) (now spares) x n ⌝ }
+    ensures { λ r. ⌜ r ≡ all n (pairReads (now (words .entry)) n x) ⌝ }
+{
+    let own = 129 + 2 * (64 * x + x);
+    if !((words[own] | words[own + 1]) == 0) {
+        return false;
+    }
+    if !((words[1 + 2 * x] >> 24) % 2 == 1) {
+        return off_row(words, links, spares, x, n);
+    }
+    let row = running_row(words, links, spares, x, n);
+    if !row.fits {
+        return false;
+    }
+    if row.bare {
+        return true;
+    }
+    spares_fit(words, spares, x, n)
+}
+
+// The row of x: its pairs, and nothing after them.
+fn row_reads(words: &[u32], links: &[u32; 127], spares: &[u32; 127], x: usize, n: usize) -> bool
+    requires { ⌜ GivenRow (now words) (now links) (now spares) x n ⌝ }
+    ensures { λ r. ⌜ r ≡ rowReads (now (words .entry)) n x ⌝ }
+{
+    row_pairs_read(words, links, spares, x, n)
+        & clear(words, 129 + 2 * (64 * x + n), 129 + 2 * (64 * x + 64))
+}
+
+// The pairs of n nodes, and nothing after them. The tables are read at 63 - x + z, which is 63 where x is z: there, the words
+// are 0.
+pub fn pairs_read(words: &[u32], n: usize) -> bool
+    requires { ⌜ (length (now words) ≡ 13441) × (n ≤ 64) ⌝ }
+    ensures { λ r. ⌜ r ≡ pairsRead (now (words .entry)) n ⌝ }
+{
+    let mut links = [NO_LINK; 127];
+    links[63] = 0;
+    let mut spares = [NO_SPARE; 127];
+    spares[63] = 0;
+    let mut ok = true;
+    for x in 0..n {
+        ok = ok & row_reads(words, &links, &spares, x, n);
+    }
+    ok & clear(words, 129 + 128 * n, 8321)
+}

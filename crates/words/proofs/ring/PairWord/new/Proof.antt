@@ -1,0 +1,13 @@
+use borrow.Author.Needs.{needs}
+use Rattle.model.specs.Words.{pairWord}
+use Rattle.words.proofs.ring.PairWord.new.Statement.{statement}
+use Rattle.words.proofs.ring.PairWord.new.Tie as tie
+
+pub new-spec : {M : Type 1} → statement M
+unfolding pairWord
+new-spec =
+    tie.close
+    (tie.spec
+    (λ c. search needs) (λ c. search needs) (λ c. search needs) (λ c. search needs)
+    (λ c. search needs) (λ c. search needs) (λ c. search needs) (λ c. search needs)
+    (λ c. search needs))
