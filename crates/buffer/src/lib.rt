@@ -1,7 +1,2 @@
-// A ring in lent words: the initial ring, and loading and storing its parts.
+// A ring in lent words: what every part of it builds on, and the first word and the keys.
 pub mod head;
-pub mod initial;
-pub mod messages;
-pub mod node;
-pub mod sending;
-mod spans;

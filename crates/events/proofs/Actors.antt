@@ -18,7 +18,7 @@ use Rattle.model.specs.declared.node.NodeRecord.{NodeRecord}
 use Rattle.model.proofs.Answers.{none-applies}
 use Rattle.model.proofs.Decoded.{reads-well}
 use Rattle.model.proofs.Lists.{first, rest}
-use Rattle.buffer.specs.Parts.{LoadedNode}
+use Rattle.pairs.specs.Pairs.{LoadedNode}
 use Rattle.protocol.specs.Effects.{OwnFits}
 use Rattle.protocol.proofs.WellFormed as protocol
 use Rattle.events.specs.Acting.{mayAct, mayMeet}

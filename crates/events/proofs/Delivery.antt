@@ -18,7 +18,7 @@ use Rattle.model.specs.WellFormed.{WellFormedMessage}
 use Rattle.model.specs.declared.event.Event.the-variants.{Deliver}
 use Rattle.model.specs.declared.message.MessageRecord.{MessageRecord}
 use Rattle.model.proofs.Laws.{if-law}
-use Rattle.buffer.specs.Parts.{LoadedMessage}
+use Rattle.messages.specs.Loaded.{LoadedMessage}
 use Rattle.buffer.proofs.ReadRing.{read-message}
 use Rattle.protocol.specs.Effects.{replyEffect, Delivered}
 use Rattle.protocol.specs.declared.reply.Reply.{Reply}

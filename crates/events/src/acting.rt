@@ -6,7 +6,6 @@ ghost use Rattle.model.specs.Words.{decode, readsAsRing};
 ghost use Rattle.model.specs.declared.answer.Answer.the-variants.{Accepted};
 ghost use Rattle.events.specs.Acting.{mayAct, IsActor};
 use buffer::head;
-use buffer::node;
 use model::answer::Answer;
 use model::node::NodeRecord;
 use model::values::NodeNumber;
@@ -31,10 +30,10 @@ pub fn may_act(words: &[u32], x: NodeNumber) -> Answer
     if head::nodes(words) <= x.0 as usize {
         return Answer::OutOfTable;
     }
-    if !node::is_running(words, x) {
+    if !nodes::is_running(words, x) {
         return Answer::NodeOff;
     }
-    if node::clock(words, x).0 == LAST {
+    if nodes::clock(words, x).0 == LAST {
         return Answer::ClockSpent;
     }
     Answer::Accepted
@@ -47,8 +46,8 @@ pub fn load(words: &[u32], x: NodeNumber) -> Actor
 {
     let n = head::nodes(words);
     let m = head::messages(words);
-    let clock = node::clock(words, x).0;
-    let own = node::load(words, n, x);
+    let clock = nodes::clock(words, x).0;
+    let own = pairs::load(words, n, x);
     Actor {
         n,
         m,

@@ -10,9 +10,6 @@ ghost use Rattle.model.specs.Structs.{spareAt, RoomNode, RoomMessage};
 ghost use Rattle.buffer.specs.Parts.{Is};
 ghost use Rattle.protocol.specs.Effects.{replyEffect, callsEffect, requestsEffect};
 ghost use Rattle.events.specs.Applied.{written, acted, applied};
-use buffer::messages;
-use buffer::node;
-use buffer::sending;
 use model::answer::Answer;
 use model::node::NodeRecord;
 use model::values::NodeNumber;
@@ -35,14 +32,14 @@ pub fn reply(
 {
     let own = reply.own;
     if !reply.sends {
-        node::store(words, n, x, time, own);
+        nodes::store(words, n, x, time, own);
         return Answer::Accepted;
     }
     if m == 1024 {
         return Answer::PoolFull;
     }
     let message = reply.message;
-    node::store(words, n, x, time, own);
+    nodes::store(words, n, x, time, own);
     messages::append(words, m, message);
     Answer::Accepted
 }
@@ -65,7 +62,7 @@ pub fn calls(
     if 1024 < m + sets::size(to) as usize {
         return Answer::PoolFull;
     }
-    node::store(words, n, x, time, own);
+    nodes::store(words, n, x, time, own);
     sending::send_each(words, m, calls.tag, x, to);
     Answer::Accepted
 }
@@ -88,7 +85,7 @@ pub fn requests(
     if 1024 < m + more {
         return Answer::PoolFull;
     }
-    node::store(words, n, x, time, own);
+    nodes::store(words, n, x, time, own);
     sending::send_requests(words, m, x, time, own, to);
     Answer::Accepted
 }

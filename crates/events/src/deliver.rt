@@ -8,15 +8,13 @@ ghost use Rattle.model.specs.Words.{decode, readsAsRing};
 ghost use Rattle.model.specs.Play.{after};
 ghost use Rattle.model.specs.declared.answer.Answer.the-variants.{Accepted};
 ghost use Rattle.model.specs.declared.event.Event.the-variants.{Deliver};
-ghost use Rattle.buffer.specs.Parts.{LoadedMessage};
+ghost use Rattle.messages.specs.Loaded.{LoadedMessage};
 ghost use Rattle.events.specs.Acting.{mayAct};
 ghost use Rattle.events.specs.Applied.{written, eventOn, applied};
 use super::acting;
 use super::acting::LAST;
 use super::apply;
 use buffer::head;
-use buffer::messages;
-use buffer::node;
 use model::answer::Answer;
 use model::message::MessageRecord;
 
@@ -32,11 +30,11 @@ pub fn deliver(words: &mut [u32], position: u16) -> Answer
     }
     let message = messages::load(words, k);
     let y = message.receiver;
-    if !node::is_running(words, y) {
+    if !nodes::is_running(words, y) {
         messages::remove(words, m, k);
         return Answer::Accepted;
     }
-    if node::clock(words, y).0 == LAST {
+    if nodes::clock(words, y).0 == LAST {
         return Answer::ClockSpent;
     }
     receive(words, k, message)

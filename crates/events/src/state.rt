@@ -6,8 +6,6 @@ ghost use Rattle.model.specs.declared.event.Event.the-variants.{On, Off, Lose};
 ghost use Rattle.events.specs.Applied.{written, eventOn};
 use super::acting::LAST;
 use buffer::head;
-use buffer::messages;
-use buffer::node;
 use model::answer::Answer;
 use model::values::NodeNumber;
 use model::values::Stamp;
@@ -19,14 +17,14 @@ pub fn on(words: &mut [u32], x: NodeNumber) -> Answer
     if head::nodes(words) <= x.0 as usize {
         return Answer::OutOfTable;
     }
-    if node::is_running(words, x) {
+    if nodes::is_running(words, x) {
         return Answer::AlreadyRunning;
     }
-    let clock = node::clock(words, x).0;
+    let clock = nodes::clock(words, x).0;
     if clock == LAST {
         return Answer::ClockSpent;
     }
-    node::start(words, x, Stamp(clock + 1));
+    nodes::start(words, x, Stamp(clock + 1));
     Answer::Accepted
 }
 
@@ -38,10 +36,10 @@ pub fn off(words: &mut [u32], x: NodeNumber) -> Answer
     if n <= x.0 as usize {
         return Answer::OutOfTable;
     }
-    if !node::is_running(words, x) {
+    if !nodes::is_running(words, x) {
         return Answer::NodeOff;
     }
-    node::stop(words, n, x);
+    nodes::stop(words, n, x);
     Answer::Accepted
 }
 

@@ -7,7 +7,6 @@ ghost use Rattle.model.specs.Structs.{tableOf};
 ghost use Rattle.model.specs.Buffer.{openBuffer};
 ghost use Rattle.events.specs.Applied.{written};
 ghost use Rattle.ring.specs.Keys.{keyDiffers, keysFit};
-use buffer::initial;
 use model::answer::Answer;
 
 // "Opening takes L and a list of n keys, stand 0's first, and writes a fresh ring over the lent buffer, whose old words

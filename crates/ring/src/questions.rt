@@ -8,7 +8,6 @@ ghost use Rattle.model.specs.Ring.{holds};
 ghost use Rattle.model.specs.Words.{decodeTable, decode, readsAsRing};
 ghost use Rattle.model.specs.Questions.{leafsetAnswer, leafsetOf, connectionAnswer, connectionOf, groupsAnswer, groupsOf};
 use buffer::head;
-use buffer::node;
 use leafset::leafset::leafset;
 use model::answer::Answer;
 use model::values::NodeNumber;
@@ -100,7 +99,7 @@ fn leafset_answer(words: &[u32], x: NodeNumber) -> Answer
     if head::nodes(words) <= x.0 as usize {
         return Answer::OutOfTable;
     }
-    if !node::is_running(words, x) {
+    if !nodes::is_running(words, x) {
         return Answer::NodeOff;
     }
     Answer::Accepted
@@ -121,10 +120,10 @@ fn connection_answer(words: &[u32], a: NodeNumber, b: NodeNumber) -> Answer
     if n <= b.0 as usize {
         return Answer::OutOfTable;
     }
-    if !node::is_running(words, a) {
+    if !nodes::is_running(words, a) {
         return Answer::NodeOff;
     }
-    if !node::is_running(words, b) {
+    if !nodes::is_running(words, b) {
         return Answer::NodeOff;
     }
     Answer::Accepted
@@ -138,6 +137,6 @@ fn held_leafset(words: &[u32], x: NodeNumber) -> u64
     let n = head::nodes(words);
     let keys = head::keys(words, n);
     let leaf = head::leaf(words);
-    let own = node::load(words, n, x);
+    let own = pairs::load(words, n, x);
     leafset(&keys[..n], leaf, x, own.held)
 }

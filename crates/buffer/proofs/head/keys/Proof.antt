@@ -5,7 +5,7 @@ use borrow.Author.Needs.{needs}
 use Rattle.model.specs.Leafset.{size, key}
 use Rattle.model.specs.Words.{decodeTable}
 use Rattle.buffer.proofs.Decoded.{key-read}
-use Rattle.buffer.proofs.Loads.{Filled, fill-none, fill-more, keys-all}
+use Rattle.buffer.proofs.Arrays.{Filled, fill-none, fill-more, keys-all}
 use Rattle.buffer.proofs.head.keys.Statement.{statement}
 use Rattle.buffer.proofs.head.keys.Tie as tie
 

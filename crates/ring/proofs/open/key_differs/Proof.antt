@@ -5,7 +5,7 @@ use mathlib.Core.Bool.{not, _||_}
 use lib.Dec.{eqb}
 use lib.ListN.{length, getD}
 use Rattle.model.specs.Sets.{all}
-use Rattle.validity.proofs.Gather.{all-more}
+use Rattle.valid_nodes.proofs.Gather.{all-more}
 use Rattle.ring.specs.Keys.{keyDiffers}
 use borrow.Author.Needs.{needs}
 use Rattle.ring.proofs.open.key_differs.Statement.{statement}

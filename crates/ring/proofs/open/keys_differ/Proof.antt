@@ -4,7 +4,7 @@ use native.Mathlib.Omega.{arith}
 use lib.ListN.{length}
 use Rattle.model.specs.Sets.{all}
 use Rattle.model.specs.Words.{keysDiffer}
-use Rattle.validity.proofs.Gather.{all-more}
+use Rattle.valid_nodes.proofs.Gather.{all-more}
 use Rattle.ring.specs.Keys.{keyDiffers}
 use borrow.Author.Needs.{needs}
 use Rattle.ring.proofs.open.keys_differ.Statement.{statement}

@@ -4,7 +4,7 @@ use native.Mathlib.Omega.{arith}
 use lib.Dec.{leb}
 use lib.ListN.{length, getD}
 use Rattle.model.specs.Sets.{all}
-use Rattle.validity.proofs.Gather.{all-more}
+use Rattle.valid_nodes.proofs.Gather.{all-more}
 use Rattle.ring.specs.Keys.{keysFit}
 use borrow.Author.Needs.{needs}
 use Rattle.ring.proofs.open.keys_fit.Statement.{statement}

@@ -1,0 +1,73 @@
+-- Arrays of 64: read at a place, and filled from below.
+use mathlib.Core.Path.{_≡_, refl, sym, ap, _∙_}
+use mathlib.Core.List.{List, [], _∷_}
+use Prim.Native.Nat.{ℕ, zero, suc, _+_, _<_, _≤_}
+use native.Mathlib.Omega.{arith}
+use native.Mathlib.Decide.{decLt}
+use lib.ListN.{length, getD, take, set, length-set, replicate}
+use lib.Seq.{ext-getD, getD-take, length-take-le, getD-set-same, getD-set-other}
+use Rattle.model.specs.Sets.{noneNode}
+use Rattle.model.specs.Leafset.{size, key}
+use Rattle.model.specs.Words.{decodeTable}
+use Rattle.model.specs.Structs.{spareAt, RoomNode}
+use Rattle.model.specs.declared.values.NodeNumber.{NodeNumber}
+use Rattle.model.specs.declared.node.NodeRecord.{NodeRecord}
+
+-- inside a list the default does not matter
+getD-any : {A : Type 0} (l : List A) (i : ℕ) (d e : A) → i < length l → getD l i d ≡ getD l i e
+getD-any [] i d e h = absurd (omega arith)
+getD-any (x ∷ l) zero d e h = refl
+getD-any (x ∷ l) (suc i) d e h = getD-any l i d e (omega arith)
+
+-- a spare as the code reads it
+pub spare-read : (q : NodeRecord) (z : ℕ) → RoomNode q → z < 64 → getD (q .spare) z (record { 0 = 0 }) .0 ≡ spareAt q z
+spare-read q z r h = ap (λ (y : NodeNumber). y .0) (getD-any (q .spare) z (record { 0 = 0 }) (record { 0 = noneNode }) (omega (arith, r .spare-long)))
+
+-- ---- an array that is filled from below
+
+-- f k at each k below z, and d from there on
+pub record Filled {A : Type 0} (value : A → ℕ) (l : List A) (d : A) (f : ℕ → ℕ) (z : ℕ) : Type 0 where
+  pub long : length l ≡ 64
+  pub low : (k : ℕ) → k < z → value (getD l k d) ≡ f k
+  pub rest : (k : ℕ) → z ≤ k → getD l k d ≡ d
+
+pub fill-none : {A : Type 0} (value : A → ℕ) (d : A) (f : ℕ → ℕ) → Filled value (replicate 64 d) d f 0
+fill-none {A} value d f = record { long = refl; low = λ k h. absurd (omega arith); rest = λ k h. same 64 k }
+  where
+    same : (n k : ℕ) → getD (replicate n d) k d ≡ d
+    same zero k = refl
+    same (suc n) zero = refl
+    same (suc n) (suc k) = same n k
+
+module _ {A : Type 0} (value : A → ℕ) (l : List A) (d : A) (f : ℕ → ℕ) (z : ℕ) (e : Filled value l d f z) where
+  pub fill-skip : f z ≡ value d → Filled value l d f (z + 1)
+  fill-skip p =
+      record {
+        long = e .long;
+        low = λ k h. elim (decLt k z) [ yes y ↦ e .low k y | no y ↦ here k (omega arith) ];
+        rest = λ k h. e .rest k (omega arith);
+      }
+    where
+      here : (k : ℕ) → k ≡ z → value (getD l k d) ≡ f k
+      here k q = rw q (ap value (e .rest z (omega arith)) ∙ sym p)
+
+  pub fill-more : (v : A) → z < 64 → value v ≡ f z → Filled value (set l z v) d f (z + 1)
+  fill-more v h p =
+      record {
+        long = length-set l z v ∙ e .long;
+        low = λ k g. elim (decLt k z) [ yes y ↦ ap value (getD-set-other l z k v d (omega arith)) ∙ e .low k y | no y ↦ here k (omega arith) ];
+        rest = λ k g. getD-set-other l z k v d (omega arith) ∙ e .rest k (omega arith);
+      }
+    where
+      here : (k : ℕ) → k ≡ z → value (getD (set l z v) k d) ≡ f k
+      here k q = rw q (ap value (getD-set-same l z v d (omega (arith, e .long))) ∙ p)
+
+  pub fill-all : ((k : ℕ) → z ≤ k → f k ≡ value d) → (k : ℕ) → value (getD l k d) ≡ f k
+  fill-all p k = elim (decLt k z) [ yes y ↦ e .low k y | no y ↦ ap value (e .rest k (omega arith)) ∙ sym (p k (omega arith)) ]
+
+-- ---- the keys
+
+pub keys-all : (ws : List ℕ) (n : ℕ) (ks : List ℕ) → n ≡ size (decodeTable ws) → n ≤ 64 → Filled (λ k. k) ks 0 (key (decodeTable ws)) n → take n ks ≡ decodeTable ws .keys
+keys-all ws n ks e h l =
+    let t : length (take n ks) ≡ n = length-take-le n ks (omega (arith, l .long)) in
+    ext-getD 0 (take n ks) (decodeTable ws .keys) (t ∙ e) (λ i k. getD-take n ks i 0 (omega arith) ∙ l .low i (omega arith))

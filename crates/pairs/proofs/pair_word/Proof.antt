@@ -1,0 +1,12 @@
+use borrow.Author.Needs.{needs}
+use Rattle.pairs.proofs.pair_word.Statement.{statement}
+use Rattle.pairs.proofs.pair_word.Tie as tie
+
+returns : tie.Need-returns
+returns c = cc
+
+pub pair-word-spec : {M : Type 1} → statement M
+pair-word-spec =
+    tie.close
+    (tie.spec
+    (λ c. search needs) (λ c κs. search needs) (λ c κs. search needs) (λ c κs. search needs) returns)

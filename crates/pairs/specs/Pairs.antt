@@ -1,0 +1,22 @@
+-- The own record of a node in the words of its pairs: what is stored, and what is loaded.
+use mathlib.Core.Path.{_≡_}
+use mathlib.Core.Logic.{_≢_}
+use mathlib.Core.List.{List}
+use Prim.Native.Nat.{ℕ, _+_, _<_, _≤_}
+use lib.ListN.{length, getD}
+use Rattle.model.specs.Ring.{Own}
+use Rattle.model.specs.Words.{pairPlace, pairWord, spareWord, decodeOwn}
+use Rattle.model.specs.Structs.{ownOf, RoomNode}
+use Rattle.model.specs.declared.node.NodeRecord.{NodeRecord}
+
+-- ws' is ws with the pairs of x and each z from a up to b, of the own record o
+pub record Stored (ws ws' : List ℕ) (x a b : ℕ) (o : Own) : Type 0 where
+  pub long : length ws' ≡ length ws
+  pub first : (z : ℕ) → a ≤ z → z < b → getD ws' (pairPlace x z) 0 ≡ pairWord (o .commit z) (o .held z) (o .candidates z)
+  pub second : (z : ℕ) → a ≤ z → z < b → getD ws' (pairPlace x z + 1) 0 ≡ spareWord (o .spare z)
+  pub other : (i : ℕ) → ((z : ℕ) → a ≤ z → z < b → (i ≢ pairPlace x z) × (i ≢ pairPlace x z + 1)) → getD ws' i 0 ≡ getD ws i 0
+
+-- what loading the own record of node x gives
+pub record LoadedNode (ws : List ℕ) (x : ℕ) (q : NodeRecord) : Type 0 where
+  pub own : ownOf q ≡ decodeOwn ws x
+  pub room : RoomNode q
