@@ -2,3 +2,4 @@ pub mod Lent
 pub mod Opened
 pub mod Asked
 pub mod Held
+pub mod Far
