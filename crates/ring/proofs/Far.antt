@@ -18,7 +18,7 @@ use Rattle.model.proofs.Laws.{decide, is-false}
 use Rattle.model.proofs.Answers.{accepted-is}
 use Rattle.events.proofs.Valid.{few}
 use Rattle.events.proofs.Refusals.{here, out-of-table}
-use Rattle.ring.specs.Exports.{nodeOf}
+use Rattle.ring.specs.Parts.{nodeOf}
 use Rattle.ring.proofs.Asked
 
 -- a law of 64 for every number from 64 on is one of the cut number

@@ -3,3 +3,4 @@ pub mod Opened
 pub mod Asked
 pub mod Held
 pub mod Far
+pub mod Numbers

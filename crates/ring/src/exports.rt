@@ -6,8 +6,11 @@ ghost use Rattle.model.specs.Answers.{numberOf};
 ghost use Rattle.model.specs.Structs.{tableOf};
 ghost use Rattle.model.specs.Buffer.{openBuffer};
 ghost use Rattle.model.specs.Questions.{leafsetAnswer, leafsetOf, connectionAnswer, connectionOf, groupsAnswer, groupsOf};
-ghost use Rattle.ring.specs.Exports.{nodeOf};
+ghost use Rattle.model.specs.Events.{wordAnswer};
+ghost use Rattle.ring.specs.Parts.{nodeOf, readParts, partsAnswer, writeParts};
+ghost use Rattle.ring.specs.Parts.{parts as partsIn};
 use super::open;
+use super::parts;
 use super::questions;
 use model::values::NodeNumber;
 
@@ -49,6 +52,36 @@ pub extern "C" fn mekvalgs_groups(words: &[u32], groups: &mut u32) -> u32
     let asked = questions::groups(words);
     *groups = asked.groups;
     let answer = asked.answer;
+    answer.number()
+}
+
+// The event of a word: its kind, its node or position, and its other node or timer.
+#[no_mangle]
+pub extern "C" fn mekvalgs_read_event(
+    word: u32,
+    kind: &mut u32,
+    first: &mut u32,
+    second: &mut u32,
+) -> u32
+    ensures { λ r. ⌜ (r ≡ numberOf (wordAnswer word)) × (partsIn (now (kind .exit)) (now (first .exit)) (now (second .exit)) ≡ readParts word) ⌝ }
+{
+    let read = parts::read(word);
+    let p = read.parts;
+    *kind = p.kind;
+    *first = p.first;
+    *second = p.second;
+    let answer = read.answer;
+    answer.number()
+}
+
+// The word of the event with that kind, node or position, and other node or timer.
+#[no_mangle]
+pub extern "C" fn mekvalgs_write_event(kind: u32, first: u32, second: u32, word: &mut u32) -> u32
+    ensures { λ r. ⌜ (r ≡ numberOf (partsAnswer (partsIn kind first second))) × (now (word .exit) ≡ writeParts (partsIn kind first second)) ⌝ }
+{
+    let written = parts::write(parts::make(kind, first, second));
+    *word = written.word;
+    let answer = written.answer;
     answer.number()
 }
 
