@@ -2,5 +2,3 @@ pub mod Lent
 pub mod Opened
 pub mod Asked
 pub mod Held
-pub mod Far
-pub mod Numbers
