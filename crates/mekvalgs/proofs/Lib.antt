@@ -1,0 +1,2 @@
+pub mod Far
+pub mod Numbers

@@ -1,0 +1,31 @@
+use mathlib.Core.Path.{ap, _∙_}
+use mathlib.Core.List.{List}
+use Prim.Native.Nat.{ℕ}
+use Rattle.model.specs.Answers.{numberOf}
+use Rattle.model.specs.Questions.{leafsetAnswer, leafsetOf}
+use Rattle.mekvalgs.proofs.Far.{leafset-cut, leafset-of-cut}
+use borrow.Author.Needs.{needs}
+use Rattle.mekvalgs.proofs.mekvalgs_leafset.Statement.{statement}
+use Rattle.mekvalgs.proofs.mekvalgs_leafset.Tie as tie
+
+node-requires : tie.Need-node-requires
+node-requires c κs = search needs
+
+leafset-of-requires : tie.Need-leafset-of-requires
+leafset-of-requires c κs = search needs
+
+number-requires : tie.Need-number-requires
+number-requires c κs = search needs
+
+returns : tie.Need-returns
+returns c =
+    let ws : List ℕ = c .before .before .before .before .args .words .now in
+    let x : ℕ = c .before .before .before .before .args .x in
+    let asked = c .before .leafset-of .ensures in (
+      c .number .ensures ∙ ap numberOf (asked .0 ∙ ap (leafsetAnswer ws) (c .before .before .node .ensures) ∙ leafset-cut ws x),
+      asked .1 ∙ ap (leafsetOf ws) (c .before .before .node .ensures) ∙ leafset-of-cut ws x,
+    )
+
+pub mekvalgs-leafset-spec : {M : Type 1} → statement M
+mekvalgs-leafset-spec =
+    tie.close (tie.spec node-requires leafset-of-requires number-requires returns)

@@ -1,0 +1,25 @@
+use mathlib.Core.Path.{ap, _∙_}
+use Rattle.model.specs.Answers.{numberOf}
+use Rattle.mekvalgs.specs.Parts.{partsAnswer, writeParts}
+use borrow.Author.Needs.{needs}
+use Rattle.mekvalgs.proofs.mekvalgs_write_event.Statement.{statement}
+use Rattle.mekvalgs.proofs.mekvalgs_write_event.Tie as tie
+
+make-requires : tie.Need-make-requires
+make-requires c κs = search needs
+
+write-requires : tie.Need-write-requires
+write-requires c κs = search needs
+
+number-requires : tie.Need-number-requires
+number-requires c κs = search needs
+
+returns : tie.Need-returns
+returns c = (
+  c .number .ensures ∙ ap numberOf (c .before .write .ensures .0 ∙ ap partsAnswer (c .before .before .make .ensures)),
+  c .before .write .ensures .1 ∙ ap writeParts (c .before .before .make .ensures),
+)
+
+pub mekvalgs-write-event-spec : {M : Type 1} → statement M
+mekvalgs-write-event-spec =
+    tie.close (tie.spec make-requires write-requires number-requires returns)

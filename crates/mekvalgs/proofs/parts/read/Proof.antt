@@ -1,0 +1,42 @@
+use mathlib.Core.Path.{sym, _∙_}
+use Rattle.mekvalgs.proofs.Numbers.{read-given, read-refused}
+use borrow.Author.Needs.{needs}
+use Rattle.mekvalgs.proofs.parts.read.Statement.{statement}
+use Rattle.mekvalgs.proofs.parts.read.Tie as tie
+
+read-event-requires : tie.Need-read-event-requires
+read-event-requires c κs = search needs
+
+enum-known-reading : tie.Need-enum-known-reading
+enum-known-reading c = search needs
+
+of-event-requires : tie.Need-of-event-requires
+of-event-requires c κs = search needs
+
+enum-known-reading-2 : tie.Need-enum-known-reading-2
+enum-known-reading-2 c = search needs
+
+make-requires : tie.Need-make-requires
+make-requires c κs = search needs
+
+returns : tie.Need-returns
+returns c =
+    let q = read-given (c .before .before .before .before .before .args .word) _ (sym (c .before .before .before .before .read-event .ensures) ∙ c .before .before .reading .given .1) in
+    (q .0, c .of-event .ensures ∙ q .1)
+
+returns-2 : tie.Need-returns-2
+returns-2 c =
+    let q = read-refused (c .before .before .before .before .before .args .word) _ (sym (c .before .before .before .before .read-event .ensures) ∙ c .before .before .reading2 .given .1) in
+    (q .0, c .make .ensures ∙ q .1)
+
+pub read-spec : {M : Type 1} → statement M
+read-spec =
+    tie.close
+    (tie.spec
+    read-event-requires
+    enum-known-reading
+    of-event-requires
+    enum-known-reading-2
+    make-requires
+    returns
+    returns-2)

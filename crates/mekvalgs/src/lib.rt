@@ -1,0 +1,97 @@
+// The calls under C's names, on numbers and slices: include/mekvalgs.h. An answer is document 01's number; what a call
+// returns beside it is written through a reference.
+ghost use mathlib.Core.Path.{_≡_};
+ghost use Rattle.model.specs.Fields.{bit};
+ghost use Rattle.model.specs.Answers.{numberOf};
+ghost use Rattle.model.specs.Structs.{tableOf};
+ghost use Rattle.model.specs.Buffer.{openBuffer};
+ghost use Rattle.model.specs.Questions.{leafsetAnswer, leafsetOf, connectionAnswer, connectionOf, groupsAnswer, groupsOf};
+ghost use Rattle.model.specs.Events.{wordAnswer};
+ghost use Rattle.mekvalgs.specs.Parts.{nodeOf, numbers, readParts, partsAnswer, writeParts};
+use model::values::NodeNumber;
+use ring::open;
+use ring::questions;
+
+mod parts;
+
+// Writes the initial ring of `leaf` and the keys.
+#[no_mangle]
+pub extern "C" fn mekvalgs_open(words: &mut [u32], leaf: u32, keys: &[u32]) -> u32
+    ensures { λ r. ⌜ (r ≡ numberOf (openBuffer (now (words .entry)) (tableOf leaf (now (keys .entry))) .answer)) × (now (words .exit) ≡ openBuffer (now (words .entry)) (tableOf leaf (now (keys .entry))) .words) ⌝ }
+{
+    open::open(words, leaf, keys).number()
+}
+
+// The leafset of node x in its held set.
+#[no_mangle]
+pub extern "C" fn mekvalgs_leafset(words: &[u32], x: u32, set: &mut u64) -> u32
+    ensures { λ r. ⌜ (r ≡ numberOf (leafsetAnswer (now (words .entry)) x)) × (now (set .exit) ≡ leafsetOf (now (words .entry)) x) ⌝ }
+{
+    let asked = questions::leafset_of(words, node(x));
+    *set = asked.set;
+    let answer = asked.answer;
+    answer.number()
+}
+
+// Whether a and b are connected: 1, or 0.
+#[no_mangle]
+pub extern "C" fn mekvalgs_connected(words: &[u32], a: u32, b: u32, connected: &mut u32) -> u32
+    ensures { λ r. ⌜ (r ≡ numberOf (connectionAnswer (now (words .entry)) a b)) × (now (connected .exit) ≡ bit (connectionOf (now (words .entry)) a b)) ⌝ }
+{
+    let asked = questions::connected(words, node(a), node(b));
+    *connected = asked.connected as u32;
+    let answer = asked.answer;
+    answer.number()
+}
+
+// The number of groups.
+#[no_mangle]
+pub extern "C" fn mekvalgs_groups(words: &[u32], groups: &mut u32) -> u32
+    ensures { λ r. ⌜ (r ≡ numberOf (groupsAnswer (now (words .entry)))) × (now (groups .exit) ≡ groupsOf (now (words .entry))) ⌝ }
+{
+    let asked = questions::groups(words);
+    *groups = asked.groups;
+    let answer = asked.answer;
+    answer.number()
+}
+
+// The event of a word: its kind, its node or position, and its other node or timer.
+#[no_mangle]
+pub extern "C" fn mekvalgs_read_event(
+    word: u32,
+    kind: &mut u32,
+    first: &mut u32,
+    second: &mut u32,
+) -> u32
+    ensures { λ r. ⌜ (r ≡ numberOf (wordAnswer word)) × (numbers (now (kind .exit)) (now (first .exit)) (now (second .exit)) ≡ readParts word) ⌝ }
+{
+    let read = parts::read(word);
+    let p = read.parts;
+    *kind = p.kind;
+    *first = p.first;
+    *second = p.second;
+    let answer = read.answer;
+    answer.number()
+}
+
+// The word of the event with that kind, node or position, and other node or timer.
+#[no_mangle]
+pub extern "C" fn mekvalgs_write_event(kind: u32, first: u32, second: u32, word: &mut u32) -> u32
+    ensures { λ r. ⌜ (r ≡ numberOf (partsAnswer (numbers kind first second))) × (now (word .exit) ≡ writeParts (numbers kind first second)) ⌝ }
+{
+    let written = parts::write(parts::make(kind, first, second));
+    *word = written.word;
+    let answer = written.answer;
+    answer.number()
+}
+
+// The node of a number that may be too big for one: then 64, which is no node either.
+fn node(x: u32) -> NodeNumber
+    ensures { λ r. ⌜ r .0 ≡ nodeOf x ⌝ }
+{
+    if x < 64 {
+        NodeNumber(x as u8)
+    } else {
+        NodeNumber::NONE
+    }
+}
