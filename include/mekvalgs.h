@@ -49,6 +49,9 @@ enum mekvalgs_kind {
  * Answers 0, 1, 2 (leaf is 1 to 8, n is 1 to 64), 3. */
 uint32_t mekvalgs_open(uint32_t *words, size_t length, uint32_t leaf, const uint32_t *keys, size_t n);
 
+/* Plays an event word on the ring. Answers 0, 1, 4 to 11. */
+uint32_t mekvalgs_play(uint32_t *words, size_t length, uint32_t word);
+
 /* The leafset of node x in its held set, bit s for node s. Answers 0, 1, 6, 7, 8; the set is empty where refused. */
 uint32_t mekvalgs_leafset(const uint32_t *words, size_t length, uint32_t x, uint64_t *set);
 

@@ -4,12 +4,13 @@ ghost use mathlib.Core.Path.{_≡_};
 ghost use Rattle.model.specs.Fields.{bit};
 ghost use Rattle.model.specs.Answers.{numberOf};
 ghost use Rattle.model.specs.Structs.{tableOf};
-ghost use Rattle.model.specs.Buffer.{openBuffer};
+ghost use Rattle.model.specs.Buffer.{openBuffer, playBuffer};
 ghost use Rattle.model.specs.Questions.{leafsetAnswer, leafsetOf, connectionAnswer, connectionOf, groupsAnswer, groupsOf};
 ghost use Rattle.model.specs.Events.{wordAnswer};
 ghost use Rattle.mekvalgs.specs.Parts.{nodeOf, numbers, readParts, partsAnswer, writeParts};
 use model::values::NodeNumber;
 use ring::open;
+use ring::play;
 use ring::questions;
 
 mod parts;
@@ -20,6 +21,14 @@ pub extern "C" fn mekvalgs_open(words: &mut [u32], leaf: u32, keys: &[u32]) -> u
     ensures { λ r. ⌜ (r ≡ numberOf (openBuffer (now (words .entry)) (tableOf leaf (now (keys .entry))) .answer)) × (now (words .exit) ≡ openBuffer (now (words .entry)) (tableOf leaf (now (keys .entry))) .words) ⌝ }
 {
     open::open(words, leaf, keys).number()
+}
+
+// Plays an event word.
+#[no_mangle]
+pub extern "C" fn mekvalgs_play(words: &mut [u32], word: u32) -> u32
+    ensures { λ r. ⌜ (r ≡ numberOf (playBuffer (now (words .entry)) word .answer)) × (now (words .exit) ≡ playBuffer (now (words .entry)) word .words) ⌝ }
+{
+    play::play(words, word).number()
 }
 
 // The leafset of node x in its held set.
