@@ -7,6 +7,7 @@ use crate::random::Random;
 use crate::ring::Ring;
 use crate::script::{Mix, Script};
 use crate::unbroken::Tested;
+use std::fmt;
 
 pub struct Plan {
     pub seed: u64,
@@ -31,6 +32,19 @@ pub struct Tally {
     pub tested: Tested,
 }
 
+impl fmt::Display for Tally {
+    fn fmt(&self, f: &mut fmt::Formatter) -> fmt::Result {
+        let Tally { scripts, events, damaged, valid, questions, answers, delivered, tested } = self;
+        writeln!(f, "{scripts} scripts, {events} events, {questions} questions")?;
+        writeln!(f, "{damaged} damaged buffers, of which {valid} still read as a ring")?;
+        writeln!(f, "answers 0 to 11: {answers:?}")?;
+        writeln!(f, "delivered, types 1 to 12: {:?}", &delivered[1..])?;
+        let Tested { starts, points, spans, acknowledged, released } = tested;
+        writeln!(f, "demand 3: {points} points tested, against {starts} chosen points, {spans} pairs of points;")?;
+        write!(f, "  {acknowledged} of them with an acknowledgement in flight; {released} links released")
+    }
+}
+
 /// A fault with the case that shows it.
 pub struct Found {
     pub fault: Fault,
@@ -45,7 +59,8 @@ pub fn run(plan: &Plan, rings: &[&dyn Ring]) -> (Tally, Option<Found>) {
     let mut script = 0;
     while tally.events < plan.events {
         let mix = plan.mixes[script as usize % plan.mixes.len()];
-        let n = 1 + script as usize / plan.mixes.len() % 64;
+        // Every n from 1 to 64 in turn, small and large ones mixed.
+        let n = 1 + 37 * (script as usize / plan.mixes.len()) % 64;
         let found = Play::new(plan, rings, script, mix, n).run(&mut tally);
         if let Some((fault, case)) = found {
             return (tally, Some(Found { fault, case, script, mix }));

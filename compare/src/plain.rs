@@ -163,7 +163,7 @@ impl Pair {
 
 impl Message {
     fn decode(words: &[u32]) -> Message {
-        let in_view = |s: &usize| bits(words[2 + s / 24], (s % 24) as u32, (s % 24) as u32) == 1;
+        let in_view = |s: &usize| words[2 + s / 24] >> (s % 24) & 1 == 1;
         Message {
             kind: bits(words[0], 0, 3),
             sender: bits(words[0], 4, 9) as usize,

@@ -35,7 +35,7 @@ impl Mix {
             Mix::Gentle =>      [2, 1, 10, 0, 30, 40, 40, 20, 20, 15, 600, 15, 0],
             Mix::Chaos =>       [30, 12, 15, 20, 80, 30, 30, 30, 30, 30, 350, 60, 0],
             Mix::Garbage =>     [30, 12, 15, 20, 80, 30, 30, 30, 30, 30, 350, 60, 250],
-            Mix::Replacement => [1, 0, 5, 0, 200, 12, 12, 70, 70, 4, 800, 10, 0],
+            Mix::Replacement => [1, 0, 5, 0, 60, 4, 4, 20, 60, 4, 800, 10, 0],
         };
         let choices = [
             On, Off, NoticeOfOff, NoticeOfAny, Contact, Timer(0), Timer(1), Timer(2), Timer(3), Timer(4), Deliver, Lose,
@@ -62,10 +62,12 @@ pub struct Script {
     random: Random,
     mix: Mix,
     n: usize,
-    /// Above this number of messages in flight mostly deliveries follow.
+    /// With fewer messages in flight more are sent; with more, mostly deliveries follow.
     crowd: usize,
     /// Nodes that are to be switched on before anything else.
     waiting: Vec<usize>,
+    /// Events are mostly at these nodes: some that link up densely, or all.
+    circle: Vec<usize>,
 }
 
 impl Script {
@@ -73,7 +75,10 @@ impl Script {
         let crowd = random.pick(&[3, 20, 80, 300, 900, 2_000]);
         let share = random.pick(&[60, 90, 100]);
         let waiting = (0..n).filter(|_| random.percent(share)).collect();
-        Script { random, mix, n, crowd, waiting }
+        let size = if mix == Mix::Replacement { 4 + random.below(13) } else { n };
+        let first = random.below(n);
+        let circle = (0..size.min(n)).map(|k| (first + k) % n).collect();
+        Script { random, mix, n, crowd, waiting, circle }
     }
 
     /// L, small more often than not so that nodes lie outside leafsets, and n different keys.
@@ -115,6 +120,10 @@ impl Script {
         if messages > self.crowd && self.random.percent(90) {
             return Choice::Deliver;
         }
+        if messages < self.crowd && self.random.percent(20) {
+            let asking = if self.mix == Mix::Replacement { Choice::Timer(2) } else { Choice::Timer(0) };
+            return self.random.pick(&[Choice::Contact, asking, Choice::Timer(3)]);
+        }
         let weights = self.mix.weights();
         let mut left = self.random.below(weights.iter().map(|&(_, weight)| weight).sum());
         for (choice, weight) in weights {
@@ -146,9 +155,13 @@ impl Script {
         if self.random.percent(2) {
             return self.random.below(64) as u32;
         }
-        let start = self.random.below(self.n);
-        let found = (0..self.n).map(|k| (start + k) % self.n).find(|&s| look::is_running(words, s) == running);
-        found.unwrap_or(start) as u32
+        if self.random.percent(3) {
+            return self.random.below(self.n) as u32;
+        }
+        let start = self.random.below(self.circle.len());
+        let in_turn = self.circle[start..].iter().chain(&self.circle[..start]);
+        let found = in_turn.copied().find(|&s| look::is_running(words, s) == running);
+        found.unwrap_or(self.circle[start]) as u32
     }
 
     /// A notice or contact at a running node, the other mostly a running one too.

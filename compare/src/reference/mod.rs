@@ -2,9 +2,12 @@
 //! the document's text alone.
 
 mod events;
+mod lanes;
 mod layout;
+mod messages;
 mod place;
 mod questions;
+mod row;
 mod sets;
 mod validity;
 
