@@ -14,7 +14,7 @@ use Rattle.model.specs.Answers.{isAccepted}
 use Rattle.model.specs.Events.{wordOf, eventOf, eventRefusals, eventAnswer, writeEvent, wordRefusals, wordAnswer, readEvent}
 use Rattle.model.specs.Play.{stateRefusals}
 use Rattle.model.specs.Buffer.{wrongLength, notARing, openRefusals, openAnswer, openBuffer, playRefusals, bufferAnswer, playBuffer}
-use Rattle.model.specs.Questions.{leafsetRefusals, leafsetAnswer, connectionRefusals, connectionAnswer}
+use Rattle.model.specs.Questions.{leafsetRefusals, leafsetAnswer, connectionRefusals, connectionAnswer, groupsRefusals, groupsAnswer}
 use Rattle.model.specs.Connection.{Connected, connected}
 use Rattle.model.specs.ConnectivityPreserved.{ConnectivityPreserved}
 use Rattle.model.specs.declared.answer.Answer.the-variants.{Accepted}
@@ -67,6 +67,10 @@ lowest-at-leafset ws x = lowest-given 0 (leafsetRefusals ws x) refl
 pub lowest-at-connection : (ws : List ℕ) (a b : ℕ) → LowestOf (connectionRefusals ws a b) (connectionAnswer ws a b)
 unfolding connectionAnswer
 lowest-at-connection ws a b = lowest-given 0 (connectionRefusals ws a b) refl
+
+pub lowest-at-groups : (ws : List ℕ) → LowestOf (groupsRefusals ws) (groupsAnswer ws)
+unfolding groupsAnswer
+lowest-at-groups ws = lowest-given 0 (groupsRefusals ws) refl
 
 -- ---- event words
 

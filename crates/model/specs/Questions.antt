@@ -1,4 +1,4 @@
--- The questions about a lent buffer: a node's leafset, and whether two nodes are connected.
+-- The questions about a lent buffer: a node's leafset, whether two nodes are connected, and the number of groups.
 use Prim.Native.Nat.{ℕ}
 use mathlib.Core.Bool.{Bool, false}
 use mathlib.Core.List.{List, [], _∷_}
@@ -10,7 +10,7 @@ use Rattle.model.specs.Answers.{Refusal, firstOf, isAccepted}
 use Rattle.model.specs.Words.{decode}
 use Rattle.model.specs.Buffer.{wrongLength, notARing}
 use Rattle.model.specs.Play.{noNode, nodeOff}
-use Rattle.model.specs.Connection.{connected}
+use Rattle.model.specs.Connection.{connected, groups}
 use Rattle.model.specs.declared.answer.Answer.{Answer}
 
 -- "about one stand's leafset in its held set": refusals 1, 6, 7 and "8. .. or a question about one"
@@ -35,3 +35,14 @@ connectionAnswer ws a b = firstOf (connectionRefusals ws a b)
 -- a refused "connection question no"
 unfoldable pub connectionOf : List ℕ → ℕ → ℕ → Bool
 connectionOf ws a b = if isAccepted (connectionAnswer ws a b) then connected (decode ws) a b else false
+
+-- "the number of connected groups of running stands": refusals 1 and 6
+abbrev pub groupsRefusals : List ℕ → List Refusal
+groupsRefusals ws = wrongLength ws ∷ notARing ws ∷ []
+
+unfoldable pub groupsAnswer : List ℕ → Answer
+groupsAnswer ws = firstOf (groupsRefusals ws)
+
+-- 0 where refused
+unfoldable pub groupsOf : List ℕ → ℕ
+groupsOf ws = if isAccepted (groupsAnswer ws) then groups (decode ws) else 0

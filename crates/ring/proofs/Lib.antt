@@ -1,0 +1,4 @@
+pub mod Lent
+pub mod Opened
+pub mod Asked
+pub mod Held
