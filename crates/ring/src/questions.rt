@@ -56,9 +56,10 @@ pub fn connected(words: &[u32], a: NodeNumber, b: NodeNumber) -> ConnectionAnswe
             connected: false,
         };
     }
+    let n = head::nodes(words);
     ConnectionAnswer {
         answer,
-        connected: connection::connected(words, head::nodes(words), a, b),
+        connected: connection::connected(words, n, a, b),
     }
 }
 
@@ -70,9 +71,10 @@ pub fn groups(words: &[u32]) -> GroupsAnswer
     if answer.number() != 0 {
         return GroupsAnswer { answer, groups: 0 };
     }
+    let n = head::nodes(words);
     GroupsAnswer {
         answer,
-        groups: connection::groups(words, head::nodes(words)),
+        groups: connection::groups(words, n),
     }
 }
 
