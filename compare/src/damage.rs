@@ -55,7 +55,7 @@ fn poke(
 }
 
 /// The word with the bits from `low`, `width` of them, set to the value.
-fn with(word: u32, low: u32, width: u32, value: u32) -> u32 {
+pub fn with(word: u32, low: u32, width: u32, value: u32) -> u32 {
     let field = ((1u64 << width) - 1) as u32;
     word & !(field << low) | (value & field) << low
 }

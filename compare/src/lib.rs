@@ -2,7 +2,9 @@
 
 pub mod agree;
 pub mod bench;
+pub mod calls_test;
 pub mod case;
+
 pub mod damage;
 pub mod edges;
 #[cfg(feature = "library")]

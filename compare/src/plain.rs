@@ -601,7 +601,7 @@ impl State {
 }
 
 /// Refusals 4 and 5 of an event word.
-fn event_fault(word: u32) -> Option<u32> {
+pub fn event_fault(word: u32) -> Option<u32> {
     let unnamed = match bits(word, 28, 31) {
         9 | 10 => bits(word, 6, 27),
         11 | 12 => bits(word, 12, 27),
