@@ -8,7 +8,7 @@ use std::path::Path;
 fn main() -> std::io::Result<()> {
     let book = calls_test::all();
     println!("{}", book.tally);
-    book.tally.check();
+    assert!(book.tally.is_full(), "an answer, a type or a timer is missing, or one came that can't");
     let unnoticed = unnoticed(&book);
     println!("wrong programs that give other lines: {} of {}", Slip::ALL.len() - unnoticed.len(), Slip::ALL.len());
     assert!(unnoticed.is_empty(), "not noticed: {unnoticed:?}");

@@ -1,14 +1,14 @@
 //! The commands written so far, with the lines that they have to give. Every case says the answer that document 01 demands;
 //! values and words are those of the plain implementation, with which the reference has to agree.
 
+use super::events::on;
 use super::machine::{Command, Line, Machine};
+use super::tally::{count, Tally};
 use crate::look;
 use crate::plain::Plain;
 use crate::reference::Reference;
 use crate::ring::Ring;
 use crate::LENGTH;
-use std::collections::BTreeMap;
-use std::fmt;
 
 pub struct Book {
     plain: Machine<'static>,
@@ -18,77 +18,6 @@ pub struct Book {
     pub input: Vec<u8>,
     pub output: String,
     pub tally: Tally,
-}
-
-/// How often each sort of case came.
-#[derive(Default)]
-pub struct Tally {
-    section: &'static str,
-    sections: BTreeMap<&'static str, usize>,
-    /// By the call's number and the answer.
-    pub calls: BTreeMap<(u32, u32), usize>,
-    /// Played words, by kind and answer.
-    pub events: BTreeMap<(u32, u32), usize>,
-    /// Accepted deliveries to a running node, by type.
-    pub delivered: BTreeMap<u32, usize>,
-    /// Accepted timers.
-    pub timers: BTreeMap<u32, usize>,
-    /// Answers that replays wrote.
-    pub replayed: BTreeMap<u32, usize>,
-    pub damages: usize,
-}
-
-impl fmt::Display for Tally {
-    fn fmt(&self, f: &mut fmt::Formatter) -> fmt::Result {
-        for (section, calls) in &self.sections {
-            writeln!(f, "{section}: {calls} calls")?;
-        }
-        writeln!(f, "(call, answer): {:?}", self.calls)?;
-        writeln!(f, "(event kind, answer): {:?}", self.events)?;
-        writeln!(f, "type delivered: {:?}", self.delivered)?;
-        writeln!(f, "timer: {:?}", self.timers)?;
-        writeln!(f, "answers replayed: {:?}", self.replayed)?;
-        write!(f, "damages: {}", self.damages)
-    }
-}
-
-impl Tally {
-    /// Every answer that a call, or an event of a kind, can get has come, and no other.
-    pub fn check(&self) {
-        let calls = [
-            (Command::OPEN, &[0, 1, 2, 3][..]),
-            (Command::PLAY, &[0, 1, 4, 5, 6, 7, 8, 9, 10, 11]),
-            (Command::LEAFSET, &[0, 1, 6, 7, 8]),
-            (Command::CONNECTED, &[0, 1, 6, 7, 8]),
-            (Command::GROUPS, &[0, 1, 6]),
-            (Command::READ, &[0, 4, 5]),
-            (Command::WRITE, &[0, 4, 5]),
-            (Command::REPLAY, &[0, 1, 2, 3]),
-        ];
-        let events = [
-            (9, &[0, 1, 4, 6, 7, 9, 10][..]),
-            (10, &[0, 1, 4, 6, 7, 8]),
-            (11, &[0, 1, 4, 5, 6, 7, 8, 10]),
-            (12, &[0, 1, 4, 5, 6, 7, 8, 10, 11]),
-            (13, &[0, 1, 4, 6, 7, 8, 10, 11]),
-            (14, &[0, 1, 4, 6, 7, 10]),
-            (15, &[0, 1, 4, 6, 7]),
-        ];
-        let of_events = self.events.keys().copied().filter(|(kind, _)| *kind >= 9);
-        assert_eq!(self.calls.keys().copied().collect::<Vec<_>>(), each(&calls));
-        assert_eq!(of_events.collect::<Vec<_>>(), each(&events));
-        assert_eq!(self.delivered.keys().copied().collect::<Vec<_>>(), (1..=12).collect::<Vec<_>>());
-        assert_eq!(self.timers.keys().copied().collect::<Vec<_>>(), (0..=4).collect::<Vec<_>>());
-        assert_eq!(self.replayed.keys().copied().collect::<Vec<_>>(), [0, 4, 5, 7, 8, 9, 11]);
-    }
-}
-
-fn each(table: &[(u32, &[u32])]) -> Vec<(u32, u32)> {
-    table.iter().flat_map(|(first, answers)| answers.iter().map(move |answer| (*first, *answer))).collect()
-}
-
-fn count<K: Ord>(counts: &mut BTreeMap<K, usize>, key: K) {
-    *counts.entry(key).or_default() += 1;
 }
 
 impl Book {
@@ -141,7 +70,9 @@ impl Book {
     }
 
     pub fn set_word(&mut self, at: usize, value: u32) {
-        self.fill_words(at as u32, at as u32 + 1, value);
+        if self.plain.words[at] != value {
+            self.fill_words(at as u32, at as u32 + 1, value);
+        }
     }
 
     pub fn fill_list(&mut self, from: u32, to: u32, value: u32) {
@@ -162,10 +93,11 @@ impl Book {
         self.call(Command::OPEN, [leaf, keys.len() as u32, 0], answer);
     }
 
-    /// Opens with all nodes on.
+    /// Opens with all nodes on, by a replay.
     pub fn open_running(&mut self, leaf: u32, keys: &[u32]) {
-        self.open(leaf, keys, 0);
-        (0..keys.len() as u32).for_each(|x| self.play(super::events::on(x), 0));
+        let n = keys.len() as u32;
+        self.list(n, &(0..n).map(on).collect::<Vec<u32>>());
+        self.replay(leaf, keys, n, 0);
     }
 
     /// Plays a word that the implementations alone judge.
@@ -190,7 +122,8 @@ impl Book {
     fn delivery(&self, word: u32) -> Option<u32> {
         let position = word as usize & 1_023;
         let receiver = (self.words()[8_321 + 5 * position] >> 10 & 63) as usize;
-        (word >> 28 == 14 && look::is_running(self.words(), receiver)).then(|| look::message_type(self.words(), position))
+        (word >> 28 == 14 && look::is_running(self.words(), receiver))
+            .then(|| look::message_type(self.words(), position))
     }
 
     pub fn leafset(&mut self, x: u32, answer: u32) -> u64 {

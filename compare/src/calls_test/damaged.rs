@@ -17,6 +17,7 @@ pub fn write(book: &mut Book) {
     spares(book);
     (0..12).for_each(|position| message(book, position));
     nobody(book);
+    every_kind_and_bit(book);
     smallest(book);
     largest(book);
 }
@@ -93,17 +94,15 @@ fn right_field(book: &mut Book, at: usize, (low, width): (u32, u32), values: &[u
     }
 }
 
-/// The kind, and each of the unnamed bits.
-fn wrong_frame(book: &mut Book, at: usize, unnamed: std::ops::Range<u32>) {
+/// The kind, and the unnamed bits from the lowest up to bit 27.
+fn wrong_frame(book: &mut Book, at: usize, lowest: u32) {
     let kind = book.words()[at] >> 28;
-    wrong_field(book, at, KIND, &[0, kind - 1, kind + 1]);
-    unnamed.for_each(|bit| wrong_field(book, at, (bit, 1), &[1]));
+    wrong_field(book, at, (28, 4), &[kind - 1, kind + 1]);
+    [lowest, 27].into_iter().for_each(|bit| wrong_field(book, at, (bit, 1), &[1]));
 }
 
-const KIND: (u32, u32) = (28, 4);
-
 fn head(book: &mut Book) {
-    wrong_frame(book, 0, 22..28);
+    wrong_frame(book, 0, 22);
     wrong_field(book, 0, (0, 4), &[0, 9, 15]);
     right_field(book, 0, (0, 4), &[1, 8]);
     wrong_field(book, 0, (4, 7), &[0, N - 1, N + 1, 64, 65, 127]);
@@ -115,11 +114,11 @@ fn nodes(book: &mut Book) {
     let (key, clock, running) = ((0, 24), (0, 24), (24, 1));
     for x in [0, 4] {
         let at = 1 + 2 * x;
-        wrong_frame(book, at, 25..28);
+        wrong_frame(book, at, 25);
         let others: Vec<u32> = (0..5).filter(|&s| s != x).map(|s| look::key(book.words(), s)).collect();
         wrong_field(book, at, key, &others);
         right_field(book, at, key, &[0, 16_777_215]);
-        wrong_frame(book, at + 1, 24..28);
+        wrong_frame(book, at + 1, 24);
     }
     // Off while it holds, or has a candidate; node 3 has neither.
     [0, 1, 2].into_iter().for_each(|x| wrong_field(book, 1 + 2 * x, running, &[0]));
@@ -138,7 +137,7 @@ fn pairs(book: &mut Book) {
     let (commit, held, candidate) = ((0, 24), (24, 1), (25, 1));
     let clock = look::clock(book.words(), 0);
     for (x, z) in [(0, 1), (0, 3), (4, 0)] {
-        wrong_frame(book, pair(x, z), 26..28);
+        wrong_frame(book, pair(x, z), 26);
     }
     wrong_field(book, pair(0, 1), commit, &[0, 16_777_215]);
     let above = look::clock(book.words(), 0) + 1;
@@ -159,7 +158,7 @@ fn pairs(book: &mut Book) {
 fn spares(book: &mut Book) {
     let spare = (0, 7);
     for (x, z) in [(0, 1), (0, 3), (4, 0)] {
-        wrong_frame(book, pair(x, z) + 1, 7..28);
+        wrong_frame(book, pair(x, z) + 1, 7);
     }
     // Held by node 0: neither node 0 nor node 1.
     wrong_field(book, pair(0, 1) + 1, spare, &[0, 1, N, 63, 65, 127]);
@@ -175,7 +174,7 @@ fn message(book: &mut Book, position: usize) {
     let (kind, sender, receiver, subject) = ((0, 4), (4, 6), (10, 6), (16, 7));
     let head = book.words()[at];
     let (from, to) = (head >> 4 & 63, head >> 10 & 63);
-    wrong_frame(book, at, 23..28);
+    wrong_frame(book, at, 23);
     wrong_field(book, at, kind, &[0, 13, 15]);
     wrong_field(book, at, sender, &[to, N, 63]);
     wrong_field(book, at, receiver, &[from, N, 63]);
@@ -197,8 +196,7 @@ fn message(book: &mut Book, position: usize) {
 
 fn stamp(book: &mut Book, position: usize) {
     let at = 8_322 + 5 * position;
-    wrong_field(book, at, KIND, &[0, 6, 8]);
-    [24, 27].into_iter().for_each(|bit| wrong_field(book, at, (bit, 1), &[1]));
+    wrong_frame(book, at, 24);
     match position + 1 {
         9 | 10 => right_field(book, at, (0, 24), &[0, 16_777_215]),
         _ => wrong_field(book, at, (0, 24), &[1, 16_777_215]),
@@ -207,10 +205,7 @@ fn stamp(book: &mut Book, position: usize) {
 
 fn view(book: &mut Book, position: usize) {
     let at = 8_323 + 5 * position;
-    for (part, last) in [(0, 24), (1, 24), (2, 16)] {
-        wrong_field(book, at + part, KIND, &[0, 7, 9]);
-        [last, 27].into_iter().for_each(|bit| wrong_field(book, at + part, (bit, 1), &[1]));
-    }
+    [24, 24, 16].into_iter().enumerate().for_each(|(part, lowest)| wrong_frame(book, at + part, lowest));
     let seen = if position + 1 == 4 {
         // Not the receiver; the sender and nobody are fine.
         wrong_field(book, at, (0, 1), &[1]);
@@ -239,6 +234,27 @@ fn nobody(book: &mut Book) {
     }
     for at in (8_381..8_386).chain([8_386, 13_435, LENGTH - 1]) {
         [1, 1 << 31].into_iter().for_each(|value| wrong(book, at, value));
+    }
+}
+
+/// Every other kind and every unnamed bit, in one word of each sort.
+fn every_kind_and_bit(book: &mut Book) {
+    let message = 8_321;
+    for (at, lowest) in [
+        (0, 22),
+        (1, 25),
+        (2, 24),
+        (pair(0, 1), 26),
+        (pair(0, 1) + 1, 7),
+        (message, 23),
+        (message + 1, 24),
+        (message + 2, 24),
+        (message + 3, 24),
+        (message + 4, 16),
+    ] {
+        let word = book.words()[at];
+        (1..16).for_each(|change| wrong_alone(book, at, word ^ change << 28));
+        (lowest..28).for_each(|bit| wrong_alone(book, at, word ^ 1 << bit));
     }
 }
 

@@ -10,8 +10,9 @@ mod pool;
 mod refusals;
 mod replays;
 mod steps;
+mod tally;
 
-pub use book::{Book, Tally};
+pub use book::Book;
 pub use machine::run;
 
 /// Every case.

@@ -65,7 +65,7 @@ fn random(book: &mut Book) {
         let (leaf, keys) = script.opening();
         book.open(leaf, &keys, 0);
         let mut words = Vec::new();
-        for _ in 0..120 {
+        for _ in 0..100 {
             let word = script.next(book.words());
             book.play_any(word);
             words.push(word);

@@ -122,14 +122,9 @@ fn views(book: &mut Book) {
 
 /// Timer 1, and types 5 and 6.
 fn invitations(book: &mut Book) {
-    for (held, candidates) in [
-        (&[][..], &[][..]),
-        (&[], &[5]),
-        (&[2], &[3, 5]),
-        (&[2, 3], &[1, 3, 5]),
-        (&[1, 4], &[2, 3, 5]),
-        (&[3], &[3]),
-    ] {
+    for (held, candidates) in
+        [(&[][..], &[][..]), (&[], &[5]), (&[2], &[3, 5]), (&[2, 3], &[1, 3, 5]), (&[1, 4], &[2, 3, 5]), (&[3], &[3])]
+    {
         six_holding(book, held);
         candidates.iter().for_each(|&z| book.candidate(0, z));
         book.play(timer(0, 1), 0);
@@ -235,7 +230,9 @@ fn acknowledgements(book: &mut Book) {
 /// Timer 4, and types 11 and 12: nodes before key 0, after it and at it.
 fn zero(book: &mut Book) {
     // Node 4 passes zero to node 0; node 0 doesn't, but for a successor round the ring.
-    for (x, held) in [(4, &[][..]), (4, &[0]), (4, &[0, 2]), (0, &[3, 4]), (0, &[2]), (5, &[4]), (5, &[4, 0]), (5, &[0])] {
+    for (x, held) in
+        [(4, &[][..]), (4, &[0]), (4, &[0, 2]), (0, &[3, 4]), (0, &[2]), (5, &[4]), (5, &[4, 0]), (5, &[0])]
+    {
         for origin in [3, x] {
             six(book);
             held.iter().for_each(|&z| book.hold(x, z, 1, 64));
