@@ -1,0 +1,184 @@
+//! Random scripts, played on implementations in step, with damaged buffers between the events.
+
+use crate::case::{Case, Fault, Runner, Step};
+use crate::damage::damage;
+use crate::look;
+use crate::random::Random;
+use crate::ring::Ring;
+use crate::script::{Mix, Script};
+use crate::unbroken::Tested;
+use std::fmt;
+
+pub struct Plan {
+    pub seed: u64,
+    pub events: u64,
+    pub damaged: u64,
+    pub mixes: Vec<Mix>,
+}
+
+/// What a run did.
+#[derive(Default)]
+pub struct Tally {
+    pub scripts: u64,
+    pub events: u64,
+    pub damaged: u64,
+    /// Damaged buffers that still read as a ring.
+    pub valid: u64,
+    pub questions: u64,
+    /// Answers to the events, by number, those on damaged buffers included.
+    pub answers: [u64; 12],
+    /// Accepted deliveries by type.
+    pub delivered: [u64; 13],
+    pub tested: Tested,
+}
+
+impl fmt::Display for Tally {
+    fn fmt(&self, f: &mut fmt::Formatter) -> fmt::Result {
+        let Tally { scripts, events, damaged, valid, questions, answers, delivered, tested } = self;
+        writeln!(f, "{scripts} scripts, {events} events, {questions} questions")?;
+        writeln!(f, "{damaged} damaged buffers, of which {valid} still read as a ring")?;
+        writeln!(f, "answers 0 to 11: {answers:?}")?;
+        writeln!(f, "delivered, types 1 to 12: {:?}", &delivered[1..])?;
+        let Tested { starts, points, spans, acknowledged, released } = tested;
+        writeln!(f, "demand 3: {points} points tested, against {starts} chosen points, {spans} pairs of points;")?;
+        write!(f, "  {acknowledged} of them with an acknowledgement in flight; {released} links released")
+    }
+}
+
+/// A fault with the case that shows it.
+pub struct Found {
+    pub fault: Fault,
+    pub case: Case,
+    pub script: u64,
+    pub mix: Mix,
+}
+
+/// Plays scripts until the plan is fulfilled or something is found.
+pub fn run(plan: &Plan, rings: &[&dyn Ring]) -> (Tally, Option<Found>) {
+    let mut tally = Tally::default();
+    let mut script = 0;
+    while tally.events < plan.events {
+        let mix = plan.mixes[script as usize % plan.mixes.len()];
+        // Every n from 1 to 64 in turn, small and large ones mixed.
+        let n = 1 + 37 * (script as usize / plan.mixes.len()) % 64;
+        let found = Play::new(plan, rings, script, mix, n).run(&mut tally);
+        if let Some((fault, case)) = found {
+            return (tally, Some(Found { fault, case, script, mix }));
+        }
+        script += 1;
+    }
+    (tally, None)
+}
+
+/// One script under way.
+struct Play<'a> {
+    runner: Runner<'a>,
+    script: Script,
+    random: Random,
+    case: Case,
+    /// Damaged buffers for each 1,000 events.
+    damage_rate: u64,
+}
+
+impl<'a> Play<'a> {
+    fn new(plan: &Plan, rings: &'a [&'a dyn Ring], number: u64, mix: Mix, n: usize) -> Play<'a> {
+        let mut script = Script::new(Random::new(plan.seed, 2 * number), mix, n);
+        let (leaf, keys) = script.opening();
+        Play {
+            runner: Runner::new(rings),
+            script,
+            random: Random::new(plan.seed, 2 * number + 1),
+            case: Case { leaf, keys, steps: Vec::new() },
+            damage_rate: plan.damaged * 1_000 / plan.events.max(1),
+        }
+    }
+
+    fn run(mut self, tally: &mut Tally) -> Option<(Fault, Case)> {
+        let outcome = self.play_all(tally);
+        tally.scripts += 1;
+        tally.tested.add(self.runner.unbroken.tested);
+        outcome.err().map(|fault| (fault, self.case))
+    }
+
+    fn play_all(&mut self, tally: &mut Tally) -> Result<(), Fault> {
+        self.runner.open(self.case.leaf, &self.case.keys)?;
+        let n = self.case.keys.len();
+        for _ in 0..200 + 40 * n + self.random.below(1_000) {
+            let word = self.script.next(self.runner.words());
+            self.play(word, tally)?;
+            if self.random.percent(10) {
+                self.ask(tally)?;
+            }
+            let damages = self.damage_rate / 1_000 + (self.random.below(1_000) < self.damage_rate as usize % 1_000) as u64;
+            for _ in 0..damages {
+                self.damage(tally)?;
+            }
+        }
+        Ok(())
+    }
+
+    fn play(&mut self, word: u32, tally: &mut Tally) -> Result<(), Fault> {
+        let delivered = (word >> 28 == 14 && (word as usize & 1_023) < look::messages(self.runner.words()))
+            .then(|| look::message_type(self.runner.words(), word as usize & 1_023));
+        self.case.steps.push(Step::Play(word));
+        let answer = self.runner.play_watched(word)?;
+        tally.events += 1;
+        tally.answers[answer as usize] += 1;
+        if let (0, Some(kind)) = (answer, delivered) {
+            tally.delivered[kind as usize] += 1;
+        }
+        Ok(())
+    }
+
+    /// A question, on the case for as long as it is asked.
+    fn ask(&mut self, tally: &mut Tally) -> Result<(), Fault> {
+        let n = self.case.keys.len();
+        let (a, b) = (self.random.below(n + 1) as u32, self.random.below(n + 1) as u32);
+        let question = match self.random.below(4) {
+            0 => Step::Leafset(a),
+            1 | 2 => Step::Connected(a, b),
+            _ => Step::Groups,
+        };
+        self.case.steps.push(question);
+        self.runner.step(question)?;
+        self.case.steps.pop();
+        tally.questions += 1;
+        Ok(())
+    }
+
+    /// Damages the buffers, plays some events and asks on them, and puts everything back.
+    fn damage(&mut self, tally: &mut Tally) -> Result<(), Fault> {
+        let before = self.runner.words().to_vec();
+        let length = self.case.steps.len();
+        for poke in damage(&mut self.random, &before) {
+            self.case.steps.push(poke);
+            self.runner.step(poke)?;
+        }
+        tally.damaged += 1;
+        self.play_on_damaged(&before, tally)?;
+        if self.random.percent(20) {
+            self.ask(tally)?;
+        }
+        self.case.steps.truncate(length);
+        self.runner.restore(&before);
+        Ok(())
+    }
+
+    /// Up to four events; one where the words no longer read as a ring.
+    fn play_on_damaged(&mut self, before: &[u32], tally: &mut Tally) -> Result<(), Fault> {
+        let mut reads = false;
+        for _ in 0..4 {
+            // Damage may leave any n: the choice is by the words before it.
+            let word = self.script.any(before);
+            self.case.steps.push(Step::Play(word));
+            let answer = self.runner.step(Step::Play(word))?;
+            tally.answers[answer as usize] += 1;
+            if answer == 6 {
+                break;
+            }
+            reads |= answer != 4 && answer != 5;
+        }
+        tally.valid += reads as u64;
+        Ok(())
+    }
+}

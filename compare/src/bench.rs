@@ -1,0 +1,69 @@
+//! Document 01's bench program, over any implementation.
+
+use crate::ring::Ring;
+use crate::{LENGTH, look};
+use std::fmt::Write;
+
+/// What the bench program prints for these bytes.
+pub fn run(ring: &dyn Ring, input: &[u8]) -> String {
+    let mut words = vec![0; LENGTH];
+    let mut out = String::new();
+    match open(ring, &mut words, input) {
+        Ok(events) => {
+            play_all(ring, &mut words, events, &mut out);
+            show(ring, &words, &mut out);
+        }
+        Err(refusal) => writeln!(out, "0 {refusal} 0").unwrap(),
+    }
+    out
+}
+
+fn little_endian(bytes: &[u8]) -> u32 {
+    u32::from_le_bytes(bytes.try_into().unwrap())
+}
+
+/// Opens by word 0 and the key words; the bytes after them are the events.
+fn open<'a>(ring: &dyn Ring, words: &mut [u32], input: &'a [u8]) -> Result<&'a [u8], u32> {
+    let (first, rest) = input.split_at_checked(4).ok_or(2u32)?;
+    let word = little_endian(first);
+    // Kind 1, no message, no unnamed bit; L and n are the opening's to judge.
+    if word & 0xFFFF_F800 != 0x1000_0000 {
+        return Err(2);
+    }
+    let (leaf, n) = (word & 15, (word >> 4 & 127) as usize);
+    if !(1..=8).contains(&leaf) || !(1..=64).contains(&n) {
+        return Err(2);
+    }
+    let (table, events) = rest.split_at_checked(4 * n).ok_or(2u32)?;
+    let keys: Vec<u32> = table.chunks_exact(4).map(little_endian).collect();
+    // Kind 2, running 0, no unnamed bit.
+    if keys.iter().any(|key| key >> 24 != 0x20) {
+        return Err(3);
+    }
+    let keys: Vec<u32> = keys.iter().map(|key| key & 0xFF_FFFF).collect();
+    match ring.open(words, leaf, &keys) {
+        0 => Ok(events),
+        refusal => Err(refusal),
+    }
+}
+
+fn play_all(ring: &dyn Ring, words: &mut [u32], events: &[u8], out: &mut String) {
+    for (before, event) in events.chunks(4).enumerate() {
+        // "A tail under 4 bytes is an event answered 4."
+        let answer = if event.len() == 4 { ring.play(words, little_endian(event)) } else { 4 };
+        writeln!(out, "{} {} {}", before + 1, answer, look::messages(words)).unwrap();
+    }
+}
+
+fn show(ring: &dyn Ring, words: &[u32], out: &mut String) {
+    for s in 0..look::nodes(words) {
+        let (key, running, clock) = (look::key(words, s), look::is_running(words, s), look::clock(words, s));
+        let held: Vec<usize> = (0..look::nodes(words)).filter(|&z| look::holds(words, s, z)).collect();
+        write!(out, "{s} {key} {} {clock} {}", running as u32, held.len()).unwrap();
+        for z in held {
+            write!(out, " {z}").unwrap();
+        }
+        out.push('\n');
+    }
+    writeln!(out, "groups {}", ring.groups(words).1).unwrap();
+}

@@ -1,0 +1,226 @@
+//! The commands written so far, with the lines that they have to give. Every case says the answer that document 01 demands;
+//! values and words are those of the plain implementation, with which the reference has to agree.
+
+use super::events::on;
+use super::machine::{Command, Line, Machine};
+use super::tally::{count, Tally};
+use crate::look;
+use crate::plain::Plain;
+use crate::reference::Reference;
+use crate::ring::Ring;
+use crate::LENGTH;
+
+pub struct Book {
+    plain: Machine<'static>,
+    reference: Machine<'static>,
+    /// How many words the calls are lent.
+    lent: u32,
+    pub input: Vec<u8>,
+    pub output: String,
+    pub tally: Tally,
+}
+
+impl Book {
+    pub fn new() -> Book {
+        Book {
+            plain: Machine::new(&Plain { slip: None }),
+            reference: Machine::new(&Reference),
+            lent: LENGTH as u32,
+            input: Vec::new(),
+            output: String::new(),
+            tally: Tally::default(),
+        }
+    }
+
+    pub fn section(&mut self, name: &'static str) {
+        self.tally.section = name;
+    }
+
+    /// Lends so many words to the calls from now on.
+    pub fn lend(&mut self, length: usize) {
+        self.lent = length as u32;
+    }
+
+    pub fn words(&self) -> &[u32] {
+        &self.plain.words[..LENGTH]
+    }
+
+    fn run(&mut self, number: u32, a: u32, b: u32, c: u32) -> Option<Line> {
+        let command = Command { number, a, b, c, lent: self.lent };
+        self.input.extend(command.bytes());
+        let line = self.plain.run(command);
+        assert_eq!(line, self.reference.run(command), "plain and reference, {command:?}");
+        line
+    }
+
+    /// Writes a call with its line, which has to have the answer.
+    fn call(&mut self, number: u32, [a, b, c]: [u32; 3], answer: u32) -> Line {
+        let line = self.run(number, a, b, c).unwrap();
+        let section = self.tally.section;
+        assert_eq!(line.answer, answer, "{section}: call {number} of {a:#X} {b:#X} {c:#X}");
+        assert!(answer == 0 || line.changed == 0, "{section}: a refused call wrote");
+        self.output += &line.to_string();
+        count(&mut self.tally.sections, section);
+        count(&mut self.tally.calls, (number, answer));
+        line
+    }
+
+    pub fn fill_words(&mut self, from: u32, to: u32, value: u32) {
+        self.run(Command::FILL_WORDS, from, to, value);
+    }
+
+    pub fn set_word(&mut self, at: usize, value: u32) {
+        if self.plain.words[at] != value {
+            self.fill_words(at as u32, at as u32 + 1, value);
+        }
+    }
+
+    pub fn fill_list(&mut self, from: u32, to: u32, value: u32) {
+        self.run(Command::FILL_LIST, from, to, value);
+    }
+
+    /// Puts the words into the list.
+    pub fn list(&mut self, from: u32, words: &[u32]) {
+        for (at, &word) in (from..).zip(words) {
+            if self.plain.list[at as usize] != word {
+                self.fill_list(at, at + 1, word);
+            }
+        }
+    }
+
+    pub fn open(&mut self, leaf: u32, keys: &[u32], answer: u32) {
+        self.list(0, keys);
+        self.call(Command::OPEN, [leaf, keys.len() as u32, 0], answer);
+    }
+
+    /// Opens with all nodes on, by a replay.
+    pub fn open_running(&mut self, leaf: u32, keys: &[u32]) {
+        let n = keys.len() as u32;
+        self.list(n, &(0..n).map(on).collect::<Vec<u32>>());
+        self.replay(leaf, keys, n, 0);
+    }
+
+    /// Plays a word that the implementations alone judge.
+    pub fn play_any(&mut self, word: u32) {
+        let answer = Plain { slip: None }.play(&mut self.words().to_vec(), word);
+        self.play(word, answer);
+    }
+
+    pub fn play(&mut self, word: u32, answer: u32) {
+        let kind = word >> 28;
+        if let (0, Some(delivered)) = (answer, self.delivery(word)) {
+            count(&mut self.tally.delivered, delivered);
+        }
+        if kind == 13 && answer == 0 {
+            count(&mut self.tally.timers, word >> 12 & 7);
+        }
+        count(&mut self.tally.events, (kind, answer));
+        self.call(Command::PLAY, [word, 0, 0], answer);
+    }
+
+    /// The type of the message that the word would deliver to a running node.
+    fn delivery(&self, word: u32) -> Option<u32> {
+        let position = word as usize & 1_023;
+        let receiver = (self.words()[8_321 + 5 * position] >> 10 & 63) as usize;
+        (word >> 28 == 14 && look::is_running(self.words(), receiver))
+            .then(|| look::message_type(self.words(), position))
+    }
+
+    pub fn leafset(&mut self, x: u32, answer: u32) -> u64 {
+        self.call(Command::LEAFSET, [x, 0, 0], answer).value
+    }
+
+    pub fn connected(&mut self, a: u32, b: u32, answer: u32) -> bool {
+        self.call(Command::CONNECTED, [a, b, 0], answer).value == 1
+    }
+
+    pub fn groups(&mut self, answer: u32) -> u64 {
+        self.call(Command::GROUPS, [0; 3], answer).value
+    }
+
+    pub fn read(&mut self, word: u32, answer: u32) {
+        self.call(Command::READ, [word, 0, 0], answer);
+    }
+
+    pub fn write(&mut self, kind: u32, first: u32, second: u32, answer: u32) {
+        self.call(Command::WRITE, [kind, first, second], answer);
+    }
+
+    /// Replays the `count` words of the list after the keys.
+    pub fn replay(&mut self, leaf: u32, keys: &[u32], length: u32, answer: u32) {
+        self.list(0, keys);
+        self.call(Command::REPLAY, [leaf, keys.len() as u32, length], answer);
+        if answer == 0 {
+            for &answer in self.plain.places.iter().take(length as usize) {
+                count(&mut self.tally.replayed, answer as u32);
+            }
+        }
+    }
+
+    // Parts of a ring, written as words.
+
+    pub fn set_clock(&mut self, x: u32, clock: u32) {
+        self.set_word(2 + 2 * x as usize, 5 << 28 | clock);
+    }
+
+    /// Node x holds z, with a commit stamp and a spare.
+    pub fn hold(&mut self, x: u32, z: u32, commit: u32, spare: u32) {
+        let at = pair(x, z);
+        self.set_word(at, self.words()[at] & !0xFF_FFFF | 1 << 24 | commit);
+        self.set_word(at + 1, 4 << 28 | spare);
+    }
+
+    pub fn candidate(&mut self, x: u32, z: u32) {
+        let at = pair(x, z);
+        self.set_word(at, self.words()[at] | 1 << 25);
+    }
+
+    /// A message more.
+    pub fn send(&mut self, message: Message) {
+        let at = 8_321 + 5 * look::messages(self.words());
+        for (part, word) in message.words().into_iter().enumerate() {
+            self.set_word(at + part, word);
+        }
+        self.set_word(0, self.words()[0] + (1 << 11));
+    }
+}
+
+/// The place of the first word of a pair.
+pub fn pair(x: u32, z: u32) -> usize {
+    129 + 2 * (64 * x + z) as usize
+}
+
+#[derive(Clone, Copy)]
+pub struct Message {
+    pub kind: u32,
+    pub sender: u32,
+    pub receiver: u32,
+    /// 64 is none.
+    pub subject: u32,
+    pub stamp: u32,
+    pub view: u64,
+}
+
+impl Message {
+    pub fn new(kind: u32, sender: u32, receiver: u32) -> Message {
+        Message { kind, sender, receiver, subject: 64, stamp: 0, view: 0 }
+    }
+
+    pub fn about(self, subject: u32) -> Message {
+        Message { subject, ..self }
+    }
+
+    pub fn stamped(self, stamp: u32) -> Message {
+        Message { stamp, ..self }
+    }
+
+    pub fn seeing(self, nodes: &[u32]) -> Message {
+        Message { view: nodes.iter().map(|s| 1 << s).sum(), ..self }
+    }
+
+    fn words(self) -> [u32; 5] {
+        let Message { kind, sender, receiver, subject, stamp, view } = self;
+        let part = |k: u32| 8 << 28 | (view >> (24 * k)) as u32 & 0xFF_FFFF;
+        [6 << 28 | subject << 16 | receiver << 10 | sender << 4 | kind, 7 << 28 | stamp, part(0), part(1), part(2)]
+    }
+}

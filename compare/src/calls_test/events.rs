@@ -1,0 +1,29 @@
+//! The words of events.
+
+pub fn on(x: u32) -> u32 {
+    9 << 28 | x
+}
+
+pub fn off(x: u32) -> u32 {
+    10 << 28 | x
+}
+
+pub fn notice(x: u32, subject: u32) -> u32 {
+    11 << 28 | subject << 6 | x
+}
+
+pub fn contact(x: u32, y: u32) -> u32 {
+    12 << 28 | y << 6 | x
+}
+
+pub fn timer(x: u32, timer: u32) -> u32 {
+    13 << 28 | timer << 12 | x
+}
+
+pub fn deliver(position: u32) -> u32 {
+    14 << 28 | position
+}
+
+pub fn lose(position: u32) -> u32 {
+    15 << 28 | position
+}

@@ -1,0 +1,132 @@
+//! What `crates/calls_test` does with its commands, on any implementation.
+
+use super::event_word;
+use crate::ring::Ring;
+use crate::LENGTH;
+use std::fmt;
+
+/// Five words: the number, a, b, c, and how many words of the buffer are lent to the call.
+#[derive(Clone, Copy, Debug)]
+pub struct Command {
+    pub number: u32,
+    pub a: u32,
+    pub b: u32,
+    pub c: u32,
+    pub lent: u32,
+}
+
+impl Command {
+    pub const FILL_WORDS: u32 = 0;
+    pub const FILL_LIST: u32 = 1;
+    pub const OPEN: u32 = 2;
+    pub const PLAY: u32 = 3;
+    pub const LEAFSET: u32 = 4;
+    pub const CONNECTED: u32 = 5;
+    pub const GROUPS: u32 = 6;
+    pub const READ: u32 = 7;
+    pub const WRITE: u32 = 8;
+    pub const REPLAY: u32 = 9;
+
+    pub fn bytes(self) -> Vec<u8> {
+        [self.number, self.a, self.b, self.c, self.lent].iter().flat_map(|word| word.to_le_bytes()).collect()
+    }
+
+    fn from_bytes(bytes: &[u8]) -> Command {
+        let word = |k: usize| u32::from_le_bytes(bytes[4 * k..4 * k + 4].try_into().unwrap());
+        Command { number: word(0), a: word(1), b: word(2), c: word(3), lent: word(4) }
+    }
+}
+
+/// What a call gives: the answer, the value that comes with it, how many words it changed, and the digest of all words.
+#[derive(PartialEq, Debug)]
+pub struct Line {
+    pub number: u32,
+    pub answer: u32,
+    pub value: u64,
+    pub changed: usize,
+    pub digest: u64,
+}
+
+impl fmt::Display for Line {
+    fn fmt(&self, f: &mut fmt::Formatter) -> fmt::Result {
+        let Line { number, answer, value, changed, digest } = self;
+        writeln!(f, "{number} {answer} {value} {changed} {digest}")
+    }
+}
+
+/// A buffer of one word more than a ring, a list with keys and after them a script, and the places for a replay's answers.
+pub struct Machine<'a> {
+    ring: &'a dyn Ring,
+    pub words: Vec<u32>,
+    pub list: Vec<u32>,
+    pub places: Vec<u8>,
+}
+
+impl<'a> Machine<'a> {
+    pub fn new(ring: &'a dyn Ring) -> Machine<'a> {
+        Machine { ring, words: vec![0; LENGTH + 1], list: vec![0; 1_200], places: vec![0; 1_040] }
+    }
+
+    pub fn run(&mut self, command: Command) -> Option<Line> {
+        let Command { number, a, b, c, .. } = command;
+        match number {
+            Command::FILL_WORDS => self.words[a as usize..b as usize].fill(c),
+            Command::FILL_LIST => self.list[a as usize..b as usize].fill(c),
+            _ => {
+                let before = self.words.clone();
+                let (answer, value) = self.call(command);
+                let changed = before.iter().zip(&self.words).filter(|(old, new)| old != new).count();
+                return Some(Line { number, answer, value, changed, digest: digest(self.words.iter().copied()) });
+            }
+        }
+        None
+    }
+
+    fn call(&mut self, command: Command) -> (u32, u64) {
+        let Command { number, a, b, c, lent } = command;
+        let words = &mut self.words[..lent as usize];
+        match number {
+            Command::OPEN => (self.ring.open(words, a, &self.list[..b as usize]), 0),
+            Command::PLAY => (self.ring.play(words, a), 0),
+            Command::LEAFSET => self.ring.leafset_of(words, a),
+            Command::CONNECTED => {
+                let (answer, yes) = self.ring.connected(words, a, b);
+                (answer, yes as u64)
+            }
+            Command::GROUPS => {
+                let (answer, groups) = self.ring.groups(words);
+                (answer, groups as u64)
+            }
+            Command::READ => event_word::read(a),
+            Command::WRITE => event_word::write(a, b, c),
+            _ => self.replay(command),
+        }
+    }
+
+    /// Opens, and plays each word on what the one before left; answers without a place are dropped.
+    fn replay(&mut self, command: Command) -> (u32, u64) {
+        let (keys, rest) = self.list.split_at(command.b as usize);
+        let words = &mut self.words[..command.lent as usize];
+        let opened = self.ring.open(words, command.a, keys);
+        if opened == 0 {
+            for (position, &word) in rest[..command.c as usize].iter().enumerate() {
+                let answer = self.ring.play(words, word);
+                if let Some(place) = self.places.get_mut(position) {
+                    *place = answer as u8;
+                }
+            }
+        }
+        (opened, digest(self.places.iter().map(|&place| place as u32)))
+    }
+}
+
+fn digest(words: impl Iterator<Item = u32>) -> u64 {
+    words.fold(0, |digest, word| (31 * digest + word as u64) % (1 << 32))
+}
+
+/// The lines of an implementation for the commands in these bytes.
+pub fn run(ring: &dyn Ring, input: &[u8]) -> String {
+    let mut machine = Machine::new(ring);
+    let lines = input.chunks_exact(20).filter_map(|bytes| machine.run(Command::from_bytes(bytes)));
+    lines.map(|line| line.to_string()).collect()
+}

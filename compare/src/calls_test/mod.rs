@@ -1,0 +1,29 @@
+//! The cases of `crates/calls_test`: its commands, and the lines that document 01 demands of it.
+
+mod book;
+mod damaged;
+mod event_word;
+mod events;
+mod machine;
+mod openings;
+mod pool;
+mod refusals;
+mod replays;
+mod steps;
+mod tally;
+
+pub use book::Book;
+pub use machine::run;
+
+/// Every case.
+pub fn all() -> Book {
+    let mut book = Book::new();
+    openings::write(&mut book);
+    event_word::write_cases(&mut book);
+    steps::write(&mut book);
+    refusals::write(&mut book);
+    pool::write(&mut book);
+    damaged::write(&mut book);
+    replays::write(&mut book);
+    book
+}

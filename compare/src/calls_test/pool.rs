@@ -1,0 +1,91 @@
+//! The pool of messages filled to its end: refusal 11, alone and after the others.
+
+use super::book::Book;
+use super::events::*;
+use crate::look;
+
+const CLOCK_LIMIT: u32 = 16_777_215;
+
+pub fn write(book: &mut Book) {
+    book.section("pool");
+    largest(book);
+    smallest(book);
+    last_places(book);
+}
+
+/// Replays an opening with all nodes on and so many contacts from node 0 to node 1.
+fn crowded(book: &mut Book, keys: &[u32], messages: u32) {
+    let n = keys.len() as u32;
+    book.list(n, &(0..n).map(on).collect::<Vec<u32>>());
+    book.fill_list(2 * n, 2 * n + messages, contact(0, 1));
+    book.replay(1, keys, n + messages, 0);
+}
+
+/// 64 nodes with 1,024 messages. Node 0 lies before key 0 and holds all others, each with a spare; node 5 has a candidate.
+fn largest(book: &mut Book) {
+    crowded(book, &(0..64).map(|s| (16_777_200 + 100 * s) % 16_777_216).collect::<Vec<u32>>(), 1_024);
+    (1..64).for_each(|z| book.hold(0, z, 1, z % 63 + 1));
+    book.candidate(5, 7);
+    book.groups(0);
+    refused(book);
+    accepted(book);
+    // 6 before 11.
+    let head = book.words()[0];
+    book.set_word(0, head + (1 << 11));
+    [contact(5, 0), timer(0, 0), deliver(0)].into_iter().for_each(|word| book.play(word, 6));
+    book.groups(6);
+    book.set_word(0, head);
+    book.play(contact(5, 0), 11);
+}
+
+/// Each event that would send: a contact, and timers 0 to 4. Before 11 come 4, 5, 8 and 10.
+fn refused(book: &mut Book) {
+    [contact(0, 1), contact(5, 0), timer(5, 1)].into_iter().for_each(|word| book.play(word, 11));
+    [0, 2, 3, 4].into_iter().for_each(|k| book.play(timer(0, k), 11));
+    [contact(0, 1) | 1 << 27, timer(0, 5)].into_iter().for_each(|word| book.play(word, 4));
+    book.play(contact(0, 0), 5);
+    book.play(off(9), 0);
+    [contact(9, 0), timer(9, 0)].into_iter().for_each(|word| book.play(word, 8));
+    let clock = look::clock(book.words(), 0);
+    book.set_clock(0, CLOCK_LIMIT);
+    [contact(0, 1), timer(0, 0), timer(0, 3)].into_iter().for_each(|word| book.play(word, 10));
+    book.set_clock(0, clock);
+}
+
+/// Events that send nothing, and deliveries: each takes its message out first, so that its answer has room.
+fn accepted(book: &mut Book) {
+    [on(9), notice(0, 9), timer(5, 0), timer(6, 1), timer(5, 2), timer(5, 3), timer(5, 4)]
+        .into_iter()
+        .for_each(|word| book.play(word, 0));
+    [deliver(1_023), deliver(0), deliver(500)].into_iter().for_each(|word| book.play(word, 0));
+    assert_eq!(look::messages(book.words()), 1_024);
+    // The newest is an answer now, which sends nothing.
+    book.play(deliver(1_023), 0);
+    book.play(contact(5, 0), 0);
+    book.play(contact(5, 0), 11);
+    book.play(lose(1_023), 0);
+    book.play(lose(1_023), 7);
+    book.play(deliver(1_023), 7);
+    book.play(contact(5, 0), 0);
+}
+
+/// Two nodes with 1,024 messages: 7 before 11.
+fn smallest(book: &mut Book) {
+    crowded(book, &[10, 20], 1_024);
+    book.play(contact(0, 1), 11);
+    [contact(0, 2), contact(2, 0), notice(0, 2), timer(2, 0), on(2)].into_iter().for_each(|word| book.play(word, 7));
+    // The last contact of the list is refused.
+    crowded(book, &[10, 20], 1_025);
+    // Not every answer has a place.
+    crowded(book, &[10, 20], 1_100);
+}
+
+/// A timer that sends two messages, with two places left, and with one.
+fn last_places(book: &mut Book) {
+    for (messages, answer) in [(1_021, 0), (1_022, 0), (1_023, 11), (1_024, 11)] {
+        crowded(book, &[10, 20, 30], messages);
+        book.hold(0, 1, 1, 64);
+        book.hold(0, 2, 1, 64);
+        book.play(timer(0, 0), answer);
+    }
+}

@@ -1,0 +1,94 @@
+//! What the cases reach.
+
+use super::machine::Command;
+use std::collections::BTreeMap;
+use std::fmt;
+
+/// How often each sort of case came.
+#[derive(Default)]
+pub struct Tally {
+    pub section: &'static str,
+    /// Calls, by section.
+    pub sections: BTreeMap<&'static str, usize>,
+    /// Calls, by number and answer.
+    pub calls: BTreeMap<(u32, u32), usize>,
+    /// Played words, by kind and answer.
+    pub events: BTreeMap<(u32, u32), usize>,
+    /// Accepted deliveries to a running node, by type.
+    pub delivered: BTreeMap<u32, usize>,
+    /// Accepted timers.
+    pub timers: BTreeMap<u32, usize>,
+    /// Answers that replays wrote.
+    pub replayed: BTreeMap<u32, usize>,
+    /// Words damaged.
+    pub damages: usize,
+}
+
+pub fn count<K: Ord>(counts: &mut BTreeMap<K, usize>, key: K) {
+    *counts.entry(key).or_default() += 1;
+}
+
+/// The answers that each call can give.
+const CALLS: [(&str, u32, &[u32]); 8] = [
+    ("open", Command::OPEN, &[0, 1, 2, 3]),
+    ("play", Command::PLAY, &[0, 1, 4, 5, 6, 7, 8, 9, 10, 11]),
+    ("leafset", Command::LEAFSET, &[0, 1, 6, 7, 8]),
+    ("connected", Command::CONNECTED, &[0, 1, 6, 7, 8]),
+    ("groups", Command::GROUPS, &[0, 1, 6]),
+    ("read", Command::READ, &[0, 4, 5]),
+    ("write", Command::WRITE, &[0, 4, 5]),
+    ("replay", Command::REPLAY, &[0, 1, 2, 3]),
+];
+
+/// The answers that playing a word of each event kind can give.
+const EVENTS: [(&str, u32, &[u32]); 7] = [
+    ("on", 9, &[0, 1, 4, 6, 7, 9, 10]),
+    ("off", 10, &[0, 1, 4, 6, 7, 8]),
+    ("notice", 11, &[0, 1, 4, 5, 6, 7, 8, 10]),
+    ("contact", 12, &[0, 1, 4, 5, 6, 7, 8, 10, 11]),
+    ("timer", 13, &[0, 1, 4, 6, 7, 8, 10, 11]),
+    ("deliver", 14, &[0, 1, 4, 6, 7, 10]),
+    ("lose", 15, &[0, 1, 4, 6, 7]),
+];
+
+/// The answers in a replay's places, where no clock is ever spent.
+const REPLAYED: [u32; 7] = [0, 4, 5, 7, 8, 9, 11];
+
+impl Tally {
+    /// Every answer that can come has come, and no other; every type was delivered, and every timer accepted.
+    pub fn is_full(&self) -> bool {
+        let events = self.events.keys().filter(|(kind, _)| *kind >= 9);
+        self.calls.keys().copied().eq(each(&CALLS))
+            && events.copied().eq(each(&EVENTS))
+            && self.replayed.keys().copied().eq(REPLAYED)
+            && self.delivered.keys().copied().eq(1..=12)
+            && self.timers.keys().copied().eq(0..=4)
+    }
+}
+
+fn each(table: &'static [(&str, u32, &[u32])]) -> impl Iterator<Item = (u32, u32)> {
+    table.iter().flat_map(|(_, number, answers)| answers.iter().map(|answer| (*number, *answer)))
+}
+
+impl fmt::Display for Tally {
+    fn fmt(&self, f: &mut fmt::Formatter) -> fmt::Result {
+        writeln!(f, "calls: {:?}, words damaged: {}", self.sections, self.damages)?;
+        rows(f, &CALLS, &self.calls)?;
+        rows(f, &EVENTS, &self.events)?;
+        writeln!(f, "delivered, by type: {:?}", self.delivered)?;
+        writeln!(f, "timers accepted: {:?}", self.timers)?;
+        write!(f, "answers of replayed words: {:?}", self.replayed)
+    }
+}
+
+/// A line for each row of a table, with how often each answer came.
+fn rows(f: &mut fmt::Formatter, table: &[(&str, u32, &[u32])], counts: &BTreeMap<(u32, u32), usize>) -> fmt::Result {
+    for (name, number, _) in table {
+        write!(f, "{name:>10}, by answer:")?;
+        for ((_, answer), count) in counts.range((*number, 0)..(number + 1, 0)) {
+            write!(f, " {answer}: {count}")?;
+        }
+        writeln!(f)?;
+    }
+    Ok(())
+}

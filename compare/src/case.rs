@@ -1,0 +1,219 @@
+//! A case: an opening and steps, played on one or more implementations at once.
+
+use crate::look;
+use crate::ring::Ring;
+use crate::unbroken::Unbroken;
+use crate::LENGTH;
+use std::fmt;
+
+#[derive(Clone, Copy)]
+pub enum Step {
+    Play(u32),
+    /// The word at a place is overwritten: damage.
+    Poke(usize, u32),
+    Leafset(u32),
+    Connected(u32, u32),
+    Groups,
+}
+
+impl fmt::Display for Step {
+    fn fmt(&self, f: &mut fmt::Formatter) -> fmt::Result {
+        match *self {
+            Step::Play(word) => write!(f, "{word:08X}"),
+            Step::Poke(at, value) => write!(f, "@{at}={value:08X}"),
+            Step::Leafset(x) => write!(f, "leafset({x})"),
+            Step::Connected(a, b) => write!(f, "connected({a},{b})"),
+            Step::Groups => write!(f, "groups()"),
+        }
+    }
+}
+
+#[derive(Clone)]
+pub struct Case {
+    pub leaf: u32,
+    pub keys: Vec<u32>,
+    pub steps: Vec<Step>,
+}
+
+/// The words of a bench script: word 0, the keys, then the steps.
+impl fmt::Display for Case {
+    fn fmt(&self, f: &mut fmt::Formatter) -> fmt::Result {
+        write!(f, "{:08X}", 1 << 28 | (self.keys.len() as u32) << 4 | self.leaf)?;
+        self.keys.iter().try_for_each(|key| write!(f, " {:08X}", 2 << 28 | key))?;
+        for (number, step) in self.steps.iter().enumerate() {
+            write!(f, "{}{step}", if number % 10 == 0 { "\n" } else { " " })?;
+        }
+        Ok(())
+    }
+}
+
+/// The answer of a call, with the value that comes beside it: 0 for a play.
+type Outcome = (u32, u64);
+
+/// What a run found.
+#[derive(Clone)]
+pub enum Fault {
+    /// Two implementations differ: their names, what they answered, and the words that differ.
+    Difference { names: [&'static str; 2], outcomes: [Outcome; 2], words: Vec<(usize, u32, u32)> },
+    /// Demand 3 is broken: two nodes that were connected no longer are.
+    Parted { name: &'static str, nodes: (usize, usize) },
+}
+
+impl Fault {
+    pub fn same_sort(&self, other: &Fault) -> bool {
+        std::mem::discriminant(self) == std::mem::discriminant(other)
+    }
+}
+
+impl fmt::Display for Fault {
+    fn fmt(&self, f: &mut fmt::Formatter) -> fmt::Result {
+        match self {
+            Fault::Difference { names, outcomes, words } => {
+                for (name, (answer, value)) in names.iter().zip(outcomes) {
+                    writeln!(f, "  {name} answers {answer}, value {value:X}")?;
+                }
+                for (at, one, other) in words.iter().take(10) {
+                    writeln!(f, "  word {at}: {} {one:08X}, {} {other:08X}", names[0], names[1])?;
+                }
+                write!(f, "  words that differ: {}", words.len())
+            }
+            Fault::Parted { name, nodes: (a, b) } => {
+                write!(f, "  {name}: nodes {a} and {b} were connected with no acknowledgement in flight, and are parted")
+            }
+        }
+    }
+}
+
+/// Implementations in step, each with a buffer of its own.
+pub struct Runner<'a> {
+    rings: &'a [&'a dyn Ring],
+    buffers: Vec<Vec<u32>>,
+    pub unbroken: Unbroken,
+}
+
+impl<'a> Runner<'a> {
+    pub fn new(rings: &'a [&'a dyn Ring]) -> Runner<'a> {
+        Runner { rings, buffers: vec![vec![0; LENGTH]; rings.len()], unbroken: Unbroken::default() }
+    }
+
+    /// The words of the first implementation.
+    pub fn words(&self) -> &[u32] {
+        &self.buffers[0]
+    }
+
+    /// Puts the words back to what they were, in every buffer.
+    pub fn restore(&mut self, words: &[u32]) {
+        self.buffers.iter_mut().for_each(|buffer| buffer.copy_from_slice(words));
+    }
+
+    /// Opens over old words of any kind.
+    pub fn open(&mut self, leaf: u32, keys: &[u32]) -> Result<u32, Fault> {
+        let (answer, _) = self.call(|ring, words| (ring.open(words, leaf, keys), 0))?;
+        self.unbroken.restart();
+        Ok(answer)
+    }
+
+    pub fn step(&mut self, step: Step) -> Result<u32, Fault> {
+        let (answer, _) = match step {
+            Step::Play(word) => self.call(|ring, words| (ring.play(words, word), 0))?,
+            Step::Leafset(x) => self.call(|ring, words| ring.leafset_of(words, x))?,
+            Step::Connected(a, b) => self.call(|ring, words| {
+                let (answer, yes) = ring.connected(words, a, b);
+                (answer, yes as u64)
+            })?,
+            Step::Groups => self.call(|ring, words| {
+                let (answer, number) = ring.groups(words);
+                (answer, number as u64)
+            })?,
+            Step::Poke(at, value) => {
+                self.buffers.iter_mut().for_each(|words| words[at] = value);
+                (0, 0)
+            }
+        };
+        Ok(answer)
+    }
+
+    /// One call on every implementation: the answers and all words have to agree.
+    fn call(&mut self, mut call: impl FnMut(&dyn Ring, &mut [u32]) -> Outcome) -> Result<Outcome, Fault> {
+        let first = call(self.rings[0], &mut self.buffers[0]);
+        for other in 1..self.rings.len() {
+            let outcome = call(self.rings[other], &mut self.buffers[other]);
+            if outcome != first || self.buffers[other] != self.buffers[0] {
+                return Err(self.difference(other, [first, outcome]));
+            }
+        }
+        Ok(first)
+    }
+
+    fn difference(&self, other: usize, outcomes: [Outcome; 2]) -> Fault {
+        let both = self.buffers[0].iter().zip(&self.buffers[other]).enumerate();
+        let words = both.filter(|(_, (one, two))| one != two).map(|(at, (&one, &two))| (at, one, two)).collect();
+        Fault::Difference { names: [self.rings[0].name(), self.rings[other].name()], outcomes, words }
+    }
+
+    /// Plays an event word of a list from an opening: what demand 3 says of the list is judged, too.
+    pub fn play_watched(&mut self, word: u32) -> Result<u32, Fault> {
+        let named_is_off = word >> 28 == 11 && {
+            let subject = (word >> 6 & 63) as usize;
+            subject < look::nodes(self.words()) && !look::is_running(self.words(), subject)
+        };
+        let answer = self.step(Step::Play(word))?;
+        if answer == 0 {
+            let parted = self.unbroken.accepted(word, named_is_off, &self.buffers[0]);
+            if let Some(nodes) = parted {
+                return Err(Fault::Parted { name: self.rings[0].name(), nodes });
+            }
+        }
+        Ok(answer)
+    }
+}
+
+impl Case {
+    /// The first fault of the case and the number of steps up to it. Demand 3 is judged until words are poked.
+    pub fn fault(&self, rings: &[&dyn Ring]) -> Option<(usize, Fault)> {
+        let mut runner = Runner::new(rings);
+        match runner.open(self.leaf, &self.keys) {
+            Err(fault) => return Some((0, fault)),
+            Ok(0) => {}
+            Ok(_) => return None,
+        }
+        let mut watched = true;
+        for (number, &step) in self.steps.iter().enumerate() {
+            watched &= !matches!(step, Step::Poke(..));
+            let outcome = match step {
+                Step::Play(word) if watched => runner.play_watched(word),
+                _ => runner.step(step),
+            };
+            if let Err(fault) = outcome {
+                return Some((number + 1, fault));
+            }
+        }
+        None
+    }
+
+    /// The case cut after its first fault, and without every chunk of steps that isn't needed for a fault of that sort.
+    pub fn shortened(&self, rings: &[&dyn Ring], sort: &Fault) -> Case {
+        let mut best = self.clone();
+        let mut chunk = best.steps.len().div_ceil(2);
+        loop {
+            let mut from = 0;
+            let mut dropped = false;
+            while from < best.steps.len() {
+                let mut trial = best.clone();
+                trial.steps.drain(from..(from + chunk).min(best.steps.len()));
+                match trial.fault(rings) {
+                    Some((length, fault)) if fault.same_sort(sort) => {
+                        trial.steps.truncate(length);
+                        best = trial;
+                        dropped = true;
+                    }
+                    _ => from += chunk,
+                }
+            }
+            if chunk == 1 && !dropped {
+                return best;
+            }
+            chunk = chunk.div_ceil(2);
+        }
+    }
+}

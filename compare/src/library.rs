@@ -1,0 +1,47 @@
+//! The proved library, linked: the only file that knows its C interface. A slice goes as pointer and length.
+
+use crate::ring::Ring;
+
+#[link(name = "ring", kind = "static")]
+extern "C" {
+    fn mekvalgs_open(words: *mut u32, len: usize, leaf: u32, keys: *const u32, n: usize) -> u32;
+    fn mekvalgs_play(words: *mut u32, len: usize, word: u32) -> u32;
+    fn mekvalgs_leafset(words: *const u32, len: usize, node: u32, set: *mut u64) -> u32;
+    fn mekvalgs_connected(words: *const u32, len: usize, a: u32, b: u32, yes: *mut bool) -> u32;
+    fn mekvalgs_groups(words: *const u32, len: usize, number: *mut u32) -> u32;
+}
+
+pub struct Library;
+
+// SAFETY of each call: pointer and length are those of a slice lent for the call, and what the library writes beside
+// the words is a local of its type.
+impl Ring for Library {
+    fn name(&self) -> &'static str {
+        "library"
+    }
+
+    fn open(&self, words: &mut [u32], leaf: u32, keys: &[u32]) -> u32 {
+        unsafe { mekvalgs_open(words.as_mut_ptr(), words.len(), leaf, keys.as_ptr(), keys.len()) }
+    }
+
+    fn play(&self, words: &mut [u32], word: u32) -> u32 {
+        unsafe { mekvalgs_play(words.as_mut_ptr(), words.len(), word) }
+    }
+
+    // A refused question has to write its empty value, too: the locals start with another.
+
+    fn leafset_of(&self, words: &[u32], node: u32) -> (u32, u64) {
+        let mut set = u64::MAX;
+        (unsafe { mekvalgs_leafset(words.as_ptr(), words.len(), node, &mut set) }, set)
+    }
+
+    fn connected(&self, words: &[u32], a: u32, b: u32) -> (u32, bool) {
+        let mut yes = true;
+        (unsafe { mekvalgs_connected(words.as_ptr(), words.len(), a, b, &mut yes) }, yes)
+    }
+
+    fn groups(&self, words: &[u32]) -> (u32, u32) {
+        let mut number = u32::MAX;
+        (unsafe { mekvalgs_groups(words.as_ptr(), words.len(), &mut number) }, number)
+    }
+}

@@ -1,0 +1,34 @@
+//! What the harness itself reads from words that read as a ring: enough to choose events and to judge connection.
+
+pub fn leaf(words: &[u32]) -> usize {
+    (words[0] & 15) as usize
+}
+
+pub fn nodes(words: &[u32]) -> usize {
+    (words[0] >> 4 & 127) as usize
+}
+
+pub fn messages(words: &[u32]) -> usize {
+    (words[0] >> 11 & 2047) as usize
+}
+
+pub fn key(words: &[u32], s: usize) -> u32 {
+    words[1 + 2 * s] & 0xFF_FFFF
+}
+
+pub fn is_running(words: &[u32], s: usize) -> bool {
+    words[1 + 2 * s] >> 24 & 1 == 1
+}
+
+pub fn clock(words: &[u32], s: usize) -> u32 {
+    words[2 + 2 * s] & 0xFF_FFFF
+}
+
+pub fn holds(words: &[u32], x: usize, z: usize) -> bool {
+    words[129 + 2 * (64 * x + z)] >> 24 & 1 == 1
+}
+
+/// The type of the message at a position.
+pub fn message_type(words: &[u32], position: usize) -> u32 {
+    words[8_321 + 5 * position] & 15
+}

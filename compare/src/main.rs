@@ -1,0 +1,150 @@
+//! compare [MODE] [NAME=VALUE..]: see README.md.
+
+use compare::agree::{self, Found, Plan};
+use compare::plain::Plain;
+use compare::reference::Reference;
+use compare::ring::Ring;
+use compare::script::Mix;
+use compare::{edges, self_test, speed, vectors};
+use std::path::Path;
+use std::process::ExitCode;
+use std::time::Instant;
+
+const USAGE: &str = "compare [all | agree | unbroken | self-test | speed | vectors]
+    [seed=1] [events=5000000] [damaged=1000000] [mixes=gentle,chaos,garbage,replacement]
+    [vectors=FOLDER] [show=SLIP]";
+
+struct Options {
+    mode: String,
+    plan: Plan,
+    /// The mixes for demand 3.
+    steady: Vec<Mix>,
+    vectors: Option<String>,
+    show: Option<String>,
+}
+
+fn options() -> Option<Options> {
+    let plan = Plan { seed: 1, events: 5_000_000, damaged: 1_000_000, mixes: Mix::ALL.to_vec() };
+    let steady = vec![Mix::Gentle, Mix::Replacement];
+    let mut options = Options { mode: "all".to_string(), plan, steady, vectors: None, show: None };
+    for word in std::env::args().skip(1) {
+        match word.split_once('=') {
+            None => options.mode = word,
+            Some(("seed", value)) => options.plan.seed = value.parse().ok()?,
+            Some(("events", value)) => options.plan.events = value.parse().ok()?,
+            Some(("damaged", value)) => options.plan.damaged = value.parse().ok()?,
+            Some(("mixes", value)) => {
+                options.plan.mixes = value.split(',').map(Mix::named).collect::<Option<_>>()?;
+                options.steady = options.plan.mixes.clone();
+            }
+            Some(("vectors", value)) => options.vectors = Some(value.to_string()),
+            Some(("show", value)) => options.show = Some(value.to_string()),
+            Some(_) => return None,
+        }
+    }
+    Some(options)
+}
+
+/// The library, where it is linked, and the reference.
+fn fast_rings() -> Vec<&'static dyn Ring> {
+    vec![
+        #[cfg(feature = "library")]
+        &compare::library::Library,
+        &Reference,
+    ]
+}
+
+fn main() -> ExitCode {
+    let Some(options) = options() else {
+        eprintln!("{USAGE}");
+        return ExitCode::from(2);
+    };
+    let good = match options.mode.as_str() {
+        "agree" => agree_all(&options.plan),
+        "unbroken" => unbroken(&options),
+        "self-test" => self_test::run(options.plan.seed, options.show.as_deref()) == 0,
+        "speed" => speed_table(),
+        "vectors" => stored(&options),
+        "all" => {
+            stored(&options) & agree_all(&options.plan) & unbroken(&options) && speed_table()
+        }
+        _ => {
+            eprintln!("{USAGE}");
+            false
+        }
+    };
+    if good {
+        ExitCode::SUCCESS
+    } else {
+        ExitCode::FAILURE
+    }
+}
+
+fn speed_table() -> bool {
+    println!("\nSpeed");
+    speed::report(&fast_rings());
+    true
+}
+
+/// The stored scripts, through every implementation.
+fn stored(options: &Options) -> bool {
+    let Some(folder) = &options.vectors else { return true };
+    println!("\nStored scripts of {folder}");
+    let mut good = true;
+    for ring in every_ring() {
+        match vectors::run(ring, Path::new(folder)) {
+            Ok((count, wrong)) => {
+                println!("{:>12}: {count} scripts, {} wrong {}", ring.name(), wrong.len(), wrong.join(" "));
+                good &= count > 0 && wrong.is_empty();
+            }
+            Err(error) => {
+                println!("{error}");
+                return false;
+            }
+        }
+    }
+    good
+}
+
+fn every_ring() -> Vec<&'static dyn Ring> {
+    let mut rings = fast_rings();
+    rings.push(&Plain { slip: None });
+    rings
+}
+
+/// All implementations in step.
+fn agree_all(plan: &Plan) -> bool {
+    let rings = every_ring();
+    let names: Vec<&str> = rings.iter().map(|ring| ring.name()).collect();
+    println!("\nAgreement of {}", names.join(", "));
+    let differences = edges::run(plan.seed, 20_000, &rings);
+    println!("20000 openings and calls on buffers of other lengths: {} differences", differences.len());
+    differences.iter().take(5).for_each(|difference| println!("  {difference}"));
+    let start = Instant::now();
+    let (tally, found) = agree::run(plan, &rings);
+    println!("{tally}\n{:.0} seconds", start.elapsed().as_secs_f64());
+    differences.is_empty() & nothing(plan, &rings, found)
+}
+
+/// Demand 3 on the first implementation alone.
+fn unbroken(options: &Options) -> bool {
+    let rings = &fast_rings()[..1];
+    println!("\nUnbroken connection, {}", rings[0].name());
+    let plan = Plan { damaged: 0, mixes: options.steady.clone(), ..options.plan };
+    let (tally, found) = agree::run(&plan, rings);
+    println!("{tally}");
+    nothing(&plan, rings, found)
+}
+
+/// True where nothing was found; else the case is shortened and shown.
+fn nothing(plan: &Plan, rings: &[&dyn Ring], found: Option<Found>) -> bool {
+    let Some(Found { fault, case, script, mix }) = found else { return true };
+    println!("FOUND by seed {}, script {script}, {}, after {} steps", plan.seed, mix.name(), case.steps.len());
+    println!("{fault}");
+    let short = case.shortened(rings, &fault);
+    println!("shortened to {} steps:\n{short}", short.steps.len());
+    if let Some((_, fault)) = short.fault(rings) {
+        println!("{fault}");
+    }
+    false
+}

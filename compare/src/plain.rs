@@ -1,0 +1,706 @@
+//! Document 01 once more, simple and slow: the words are decoded to plain structs, the event is played on them, and they
+//! are encoded again. Written from the document's text alone, and not from the reference.
+//!
+//! A [`Slip`] makes it a wrong program, for the self-test of the harness.
+
+use crate::ring::Ring;
+use crate::LENGTH;
+use std::collections::BTreeSet;
+
+/// Wrong programs: what document 01 warns of, and slips at the edges of its rules.
+#[derive(Clone, Copy, PartialEq, Debug)]
+pub enum Slip {
+    /// "Comparing stamps with 'not above'."
+    StampNotAbove,
+    /// "Commit 0 for a stand taken in again."
+    CommitZero,
+    /// "Offering the asker as its own spare."
+    AskerAsSpare,
+    /// "Sorting keys without the wrap."
+    NoWrap,
+    /// One that never lets go on 10.
+    NeverRelease,
+    /// "One that trades a link at timer 3."
+    ReleaseAtTimer3,
+    /// On 10, lets go of z whatever its commit.
+    CommitIgnored,
+    /// On 10, lets go of z without taking y in.
+    ReleaseWithoutHold,
+    /// On 9, the commit doesn't become now.
+    CommitNotRenewed,
+    /// On 10, the leafset is the one after y is held.
+    LeafsetAfterHold,
+    /// Type 7's tie goes to the counter-clockwise one.
+    TieCounterClockwise,
+    /// Timer 1 takes only the invited from the candidates.
+    CandidatesKept,
+    /// "One that always finds stands connected."
+    AlwaysConnected,
+    /// Groups count the nodes that are off, too.
+    GroupsOfAll,
+    /// Refusal 11 where exactly 1,024 messages would be left.
+    FullPoolEarly,
+    /// Refusal 8 before refusal 7.
+    OffBeforeUnknown,
+    /// Reads as a ring with a commit stamp one above the clock.
+    CommitAboveClock,
+    /// Reads as a ring with a node as its own spare.
+    OwnSpare,
+    /// Reads as a ring with a view that holds its receiver.
+    ReceiverInView,
+    /// Reads as a ring with two equal keys.
+    EqualKeys,
+    /// Reads as a ring with a word that is not 0 where a node is paired with itself.
+    Diagonal,
+    /// Reads as a ring whatever the last word is.
+    LastWord,
+}
+
+impl Slip {
+    pub const ALL: [Slip; 22] = [
+        Slip::StampNotAbove,
+        Slip::CommitZero,
+        Slip::AskerAsSpare,
+        Slip::NoWrap,
+        Slip::NeverRelease,
+        Slip::ReleaseAtTimer3,
+        Slip::CommitIgnored,
+        Slip::ReleaseWithoutHold,
+        Slip::CommitNotRenewed,
+        Slip::LeafsetAfterHold,
+        Slip::TieCounterClockwise,
+        Slip::CandidatesKept,
+        Slip::AlwaysConnected,
+        Slip::GroupsOfAll,
+        Slip::FullPoolEarly,
+        Slip::OffBeforeUnknown,
+        Slip::CommitAboveClock,
+        Slip::OwnSpare,
+        Slip::ReceiverInView,
+        Slip::EqualKeys,
+        Slip::Diagonal,
+        Slip::LastWord,
+    ];
+}
+
+pub struct Plain {
+    pub slip: Option<Slip>,
+}
+
+const CLOCK_LIMIT: u32 = 16_777_215;
+const PLACES: u32 = 16_777_216;
+
+#[derive(Clone, Default)]
+struct Pair {
+    commit: u32,
+    held: bool,
+    candidate: bool,
+    spare: Option<usize>,
+}
+
+struct Node {
+    key: u32,
+    running: bool,
+    clock: u32,
+    /// One for each node; the one for the node itself stays as it is made.
+    pairs: Vec<Pair>,
+}
+
+#[derive(Clone)]
+struct Message {
+    kind: u32,
+    sender: usize,
+    receiver: usize,
+    subject: Option<usize>,
+    stamp: u32,
+    view: BTreeSet<usize>,
+}
+
+impl Message {
+    fn new(kind: u32, sender: usize, receiver: usize) -> Message {
+        Message { kind, sender, receiver, subject: None, stamp: 0, view: BTreeSet::new() }
+    }
+}
+
+struct State {
+    leaf: usize,
+    nodes: Vec<Node>,
+    messages: Vec<Message>,
+    slip: Option<Slip>,
+}
+
+/// Bits `from` to `to` of a word, both included.
+fn bits(word: u32, from: u32, to: u32) -> u32 {
+    word >> from & (2u32.pow(to - from + 1) - 1)
+}
+
+/// A node number, or 64 for none.
+fn node_or_none(number: u32) -> Option<usize> {
+    (number != 64).then_some(number as usize)
+}
+
+fn number_or_64(node: Option<usize>) -> u32 {
+    node.map_or(64, |s| s as u32)
+}
+
+// Between words and structs.
+
+impl Pair {
+    fn decode(words: &[u32]) -> Pair {
+        Pair {
+            commit: bits(words[0], 0, 23),
+            held: bits(words[0], 24, 24) == 1,
+            candidate: bits(words[0], 25, 25) == 1,
+            spare: node_or_none(bits(words[1], 0, 6)),
+        }
+    }
+
+    fn encode(&self) -> [u32; 2] {
+        let marks = (self.held as u32) << 24 | (self.candidate as u32) << 25;
+        [3 << 28 | self.commit | marks, 4 << 28 | number_or_64(self.spare)]
+    }
+}
+
+impl Message {
+    fn decode(words: &[u32]) -> Message {
+        let in_view = |s: &usize| words[2 + s / 24] >> (s % 24) & 1 == 1;
+        Message {
+            kind: bits(words[0], 0, 3),
+            sender: bits(words[0], 4, 9) as usize,
+            receiver: bits(words[0], 10, 15) as usize,
+            subject: node_or_none(bits(words[0], 16, 22)),
+            stamp: bits(words[1], 0, 23),
+            view: (0..64).filter(in_view).collect(),
+        }
+    }
+
+    fn encode(&self) -> [u32; 5] {
+        let ends = (self.sender as u32) << 4 | (self.receiver as u32) << 10;
+        let mut words = [6 << 28 | self.kind | ends | number_or_64(self.subject) << 16, 7 << 28 | self.stamp, 0, 0, 0];
+        for (part, word) in words[2..].iter_mut().enumerate() {
+            *word = 8 << 28;
+            for &s in self.view.iter().filter(|&&s| s / 24 == part) {
+                *word += 1 << (s % 24);
+            }
+        }
+        words
+    }
+}
+
+impl State {
+    /// The ring in the words, where they read as one: what was decoded has to fit and give the same words again.
+    fn decode(words: &[u32], slip: Option<Slip>) -> Option<State> {
+        let n = bits(words[0], 4, 10) as usize;
+        let m = bits(words[0], 11, 21) as usize;
+        if n > 64 || m > 1024 {
+            return None;
+        }
+        let node = |s: usize| Node {
+            key: bits(words[1 + 2 * s], 0, 23),
+            running: bits(words[1 + 2 * s], 24, 24) == 1,
+            clock: bits(words[2 + 2 * s], 0, 23),
+            pairs: (0..n).map(|z| Pair::decode(&words[129 + 2 * (64 * s + z)..])).collect(),
+        };
+        let state = State {
+            leaf: bits(words[0], 0, 3) as usize,
+            nodes: (0..n).map(node).collect(),
+            messages: (0..m).map(|p| Message::decode(&words[8321 + 5 * p..])).collect(),
+            slip,
+        };
+        (state.fits() && state.same_words(words)).then_some(state)
+    }
+
+    fn encode(&self) -> Vec<u32> {
+        let mut words = vec![0; LENGTH];
+        let n = self.nodes.len();
+        words[0] = 1 << 28 | self.leaf as u32 | (n as u32) << 4 | (self.messages.len() as u32) << 11;
+        for (x, node) in self.nodes.iter().enumerate() {
+            words[1 + 2 * x] = 2 << 28 | node.key | (node.running as u32) << 24;
+            words[2 + 2 * x] = 5 << 28 | node.clock;
+            for (z, pair) in node.pairs.iter().enumerate().filter(|&(z, _)| z != x) {
+                let at = 129 + 2 * (64 * x + z);
+                words[at..at + 2].copy_from_slice(&pair.encode());
+            }
+        }
+        for (p, message) in self.messages.iter().enumerate() {
+            words[8321 + 5 * p..8326 + 5 * p].copy_from_slice(&message.encode());
+        }
+        words
+    }
+
+    fn same_words(&self, words: &[u32]) -> bool {
+        let mut again = self.encode();
+        if self.has(Slip::LastWord) {
+            again[LENGTH - 1] = words[LENGTH - 1];
+        }
+        if self.has(Slip::Diagonal) {
+            again[129] = words[129];
+        }
+        again == words
+    }
+
+    fn has(&self, slip: Slip) -> bool {
+        self.slip == Some(slip)
+    }
+
+    // What makes it a ring.
+
+    fn fits(&self) -> bool {
+        let n = self.nodes.len();
+        let keys: BTreeSet<u32> = self.nodes.iter().map(|node| node.key).collect();
+        (1..=8).contains(&self.leaf)
+            && n >= 1
+            && (keys.len() == n || self.has(Slip::EqualKeys))
+            && (0..n).all(|x| (0..n).all(|z| x == z || self.pair_fits(x, z)))
+            && self.messages.iter().all(|message| self.message_fits(message))
+    }
+
+    fn pair_fits(&self, x: usize, z: usize) -> bool {
+        let (node, pair) = (&self.nodes[x], &self.nodes[x].pairs[z]);
+        let latest = node.clock + self.has(Slip::CommitAboveClock) as u32;
+        let spare_fits = |s: usize| s < self.nodes.len() && (s != x || self.has(Slip::OwnSpare)) && s != z;
+        (pair.commit == 0) == !pair.held
+            && pair.commit <= latest
+            && (pair.held || pair.spare.is_none())
+            && pair.spare.is_none_or(spare_fits)
+            && (node.running || !pair.held && !pair.candidate)
+    }
+
+    fn message_fits(&self, message: &Message) -> bool {
+        let n = self.nodes.len();
+        let (sender, receiver) = (message.sender, message.receiver);
+        let subject_fits = match (message.kind, message.subject) {
+            (8, Some(s)) => s < n && s != sender && s != receiver,
+            (9..=11, Some(s)) => s < n,
+            (9..=11, None) => false,
+            (_, subject) => subject.is_none(),
+        };
+        let stamp_fits = message.kind == 9 || message.kind == 10 || message.stamp == 0;
+        let seen = |s: &usize| *s < n && (*s != receiver || self.has(Slip::ReceiverInView));
+        let view_fits = message.view.is_empty() || message.kind == 4 && message.view.iter().all(seen);
+        let ends_fit = sender < n && receiver < n && sender != receiver;
+        (1..=12).contains(&message.kind) && ends_fit && subject_fits && stamp_fits && view_fits
+    }
+
+    // Keys and leafsets.
+
+    fn clockwise(&self, a: usize, b: usize) -> u32 {
+        (PLACES + self.nodes[b].key - self.nodes[a].key) % PLACES
+    }
+
+    fn distance(&self, a: usize, b: usize) -> u32 {
+        self.clockwise(a, b).min(self.clockwise(b, a))
+    }
+
+    fn leafset(&self, x: usize, set: &BTreeSet<usize>) -> BTreeSet<usize> {
+        let mut others: Vec<usize> = set.iter().copied().filter(|&s| s != x).collect();
+        if others.len() < 2 * self.leaf {
+            return others.into_iter().collect();
+        }
+        if self.has(Slip::NoWrap) {
+            others.sort_by_key(|&s| self.nodes[s].key.abs_diff(self.nodes[x].key));
+            return others[..2 * self.leaf].iter().copied().collect();
+        }
+        others.sort_by_key(|&s| self.clockwise(x, s));
+        let last = others.len() - self.leaf;
+        others[..self.leaf].iter().chain(&others[last..]).copied().collect()
+    }
+
+    fn held(&self, x: usize) -> BTreeSet<usize> {
+        (0..self.nodes.len()).filter(|&z| self.nodes[x].pairs[z].held).collect()
+    }
+
+    fn candidates(&self, x: usize) -> BTreeSet<usize> {
+        (0..self.nodes.len()).filter(|&z| self.nodes[x].pairs[z].candidate).collect()
+    }
+
+    fn own_leafset(&self, x: usize) -> BTreeSet<usize> {
+        self.leafset(x, &self.held(x))
+    }
+
+    // Events.
+
+    fn play(&mut self, word: u32) -> Result<(), u32> {
+        let (x, y) = (bits(word, 0, 5) as usize, bits(word, 6, 11) as usize);
+        match bits(word, 28, 31) {
+            9 => self.on(x),
+            10 => self.off(x),
+            11 => self.notice(x, y),
+            12 => self.contact(x, y),
+            13 => self.timer(x, bits(word, 12, 14)),
+            14 => self.deliver(bits(word, 0, 9) as usize),
+            _ => self.take_out(bits(word, 0, 9) as usize).map(|_| ()),
+        }
+    }
+
+    /// Refusals 7, 8 and 10 for a notice, contact or timer at x.
+    fn can_act(&self, x: usize, other: usize) -> Result<(), u32> {
+        if self.has(Slip::OffBeforeUnknown) && self.nodes.get(x).is_some_and(|node| !node.running) {
+            return Err(8);
+        }
+        if x >= self.nodes.len() || other >= self.nodes.len() {
+            Err(7)
+        } else if !self.nodes[x].running {
+            Err(8)
+        } else if self.nodes[x].clock == CLOCK_LIMIT {
+            Err(10)
+        } else {
+            Ok(())
+        }
+    }
+
+    fn tick(&mut self, x: usize) -> u32 {
+        self.nodes[x].clock += 1;
+        self.nodes[x].clock
+    }
+
+    fn on(&mut self, x: usize) -> Result<(), u32> {
+        let node = self.nodes.get_mut(x).ok_or(7u32)?;
+        if node.running {
+            return Err(9);
+        }
+        if node.clock == CLOCK_LIMIT {
+            return Err(10);
+        }
+        node.clock += 1;
+        node.running = true;
+        Ok(())
+    }
+
+    fn off(&mut self, x: usize) -> Result<(), u32> {
+        let node = self.nodes.get_mut(x).ok_or(7u32)?;
+        if !node.running {
+            return Err(8);
+        }
+        node.running = false;
+        node.pairs.fill(Pair::default());
+        Ok(())
+    }
+
+    fn notice(&mut self, x: usize, subject: usize) -> Result<(), u32> {
+        self.can_act(x, subject)?;
+        self.tick(x);
+        self.release(x, subject);
+        Ok(())
+    }
+
+    fn contact(&mut self, x: usize, y: usize) -> Result<(), u32> {
+        self.can_act(x, y)?;
+        self.tick(x);
+        self.messages.push(Message::new(1, x, y));
+        Ok(())
+    }
+
+    fn timer(&mut self, x: usize, timer: u32) -> Result<(), u32> {
+        self.can_act(x, x)?;
+        let now = self.tick(x);
+        let held = self.held(x);
+        let leafset = self.own_leafset(x);
+        match timer {
+            0 => held.iter().for_each(|&y| self.messages.push(Message::new(3, x, y))),
+            1 => self.invite(x),
+            2 => held.difference(&leafset).for_each(|&y| self.messages.push(Message::new(7, x, y))),
+            3 => held.difference(&leafset).for_each(|&z| self.request(x, z, now)),
+            _ => {
+                if let Some(successor) = self.successor(x).filter(|&successor| self.passes_zero(x, successor)) {
+                    self.messages.push(Message { subject: Some(x), ..Message::new(11, x, successor) });
+                }
+            }
+        }
+        Ok(())
+    }
+
+    fn invite(&mut self, x: usize) {
+        let (held, candidates) = (self.held(x), self.candidates(x));
+        let near = self.leafset(x, &held.union(&candidates).copied().collect());
+        for &y in candidates.difference(&held).filter(|y| near.contains(y)) {
+            self.messages.push(Message::new(5, x, y));
+            self.nodes[x].pairs[y].candidate = false;
+        }
+        if !self.has(Slip::CandidatesKept) {
+            self.nodes[x].pairs.iter_mut().for_each(|pair| pair.candidate = false);
+        }
+    }
+
+    /// Type 9 to the spare of z, if there is one.
+    fn request(&mut self, x: usize, z: usize, now: u32) {
+        let Some(spare) = self.nodes[x].pairs[z].spare else { return };
+        self.messages.push(Message { subject: Some(z), stamp: now, ..Message::new(9, x, spare) });
+        if self.has(Slip::ReleaseAtTimer3) {
+            self.release(x, z);
+        }
+    }
+
+    fn successor(&self, x: usize) -> Option<usize> {
+        self.held(x).into_iter().min_by_key(|&z| self.clockwise(x, z))
+    }
+
+    fn passes_zero(&self, x: usize, successor: usize) -> bool {
+        (PLACES - self.nodes[x].key) % PLACES < self.clockwise(x, successor)
+    }
+
+    fn hold(&mut self, x: usize, y: usize, now: u32) {
+        let commit = if self.has(Slip::CommitZero) { 0 } else { now };
+        let pair = &mut self.nodes[x].pairs[y];
+        if !pair.held {
+            *pair = Pair { held: true, commit, spare: None, ..*pair };
+        }
+    }
+
+    fn release(&mut self, x: usize, z: usize) {
+        let pair = &mut self.nodes[x].pairs[z];
+        *pair = Pair { held: false, commit: 0, spare: None, ..*pair };
+    }
+
+    fn take_out(&mut self, position: usize) -> Result<Message, u32> {
+        if position >= self.messages.len() {
+            return Err(7);
+        }
+        Ok(self.messages.remove(position))
+    }
+
+    fn deliver(&mut self, position: usize) -> Result<(), u32> {
+        let message = self.take_out(position)?;
+        let x = message.receiver;
+        if !self.nodes[x].running {
+            return Ok(());
+        }
+        if self.nodes[x].clock == CLOCK_LIMIT {
+            return Err(10);
+        }
+        let now = self.tick(x);
+        self.receive(message, now);
+        Ok(())
+    }
+
+    fn receive(&mut self, message: Message, now: u32) {
+        let (x, a) = (message.receiver, message.sender);
+        match message.kind {
+            1 => self.messages.push(Message::new(2, x, a)),
+            2 => self.hold(x, a, now),
+            3 => {
+                let view = self.leafset(a, &self.held(x));
+                self.messages.push(Message { view, ..Message::new(4, x, a) });
+                self.nodes[x].pairs[a].candidate = true;
+            }
+            4 => message.view.iter().for_each(|&z| self.nodes[x].pairs[z].candidate = true),
+            5 => self.messages.push(Message::new(6, x, a)),
+            6 => {
+                let mut with_sender = self.held(x);
+                with_sender.insert(a);
+                if self.leafset(x, &with_sender).contains(&a) {
+                    self.hold(x, a, now);
+                }
+            }
+            7 => {
+                let subject = self.offer(x, a);
+                self.messages.push(Message { subject, ..Message::new(8, x, a) });
+            }
+            8 if self.nodes[x].pairs[a].held => self.nodes[x].pairs[a].spare = message.subject,
+            9 => self.requested(&message, now),
+            10 => self.acknowledged(&message, now),
+            11 => self.pass_on(x, message.subject.unwrap()),
+            12 => self.nodes[x].pairs[a].candidate = true,
+            _ => {}
+        }
+    }
+
+    /// Type 7's choice at x for a.
+    fn offer(&self, x: usize, a: usize) -> Option<usize> {
+        let mut nearer = self.own_leafset(x);
+        nearer.retain(|&z| (z != a || self.has(Slip::AskerAsSpare)) && self.distance(a, z) < self.distance(a, x));
+        let least = nearer.iter().map(|&z| self.distance(a, z)).min()?;
+        let nearest: Vec<usize> = nearer.into_iter().filter(|&z| self.distance(a, z) == least).collect();
+        let wanted = if self.has(Slip::TieCounterClockwise) { PLACES - least } else { least };
+        nearest.iter().copied().find(|&z| self.clockwise(a, z) == wanted).or(nearest.first().copied())
+    }
+
+    fn requested(&mut self, request: &Message, now: u32) {
+        let x = request.receiver;
+        let renew = !self.has(Slip::CommitNotRenewed);
+        let pair = &mut self.nodes[x].pairs[request.subject.unwrap()];
+        if !pair.held {
+            return;
+        }
+        if renew {
+            pair.commit = now;
+        }
+        self.messages.push(Message { kind: 10, sender: x, receiver: request.sender, ..request.clone() });
+    }
+
+    fn acknowledged(&mut self, message: &Message, now: u32) {
+        let (x, y, z) = (message.receiver, message.sender, message.subject.unwrap());
+        let pair = self.nodes[x].pairs[z].clone();
+        let mut held = self.held(x);
+        if self.has(Slip::LeafsetAfterHold) {
+            held.insert(y);
+        }
+        if !pair.held || pair.spare != Some(y) || self.leafset(x, &held).contains(&z) {
+            return;
+        }
+        if !self.has(Slip::ReleaseWithoutHold) {
+            self.hold(x, y, now);
+        }
+        let below = match self.slip {
+            Some(Slip::StampNotAbove) => pair.commit <= message.stamp,
+            Some(Slip::NeverRelease) => false,
+            Some(Slip::CommitIgnored) => true,
+            _ => pair.commit < message.stamp,
+        };
+        if below {
+            self.release(x, z);
+            if self.nodes[x].pairs[y].held {
+                self.nodes[x].pairs[y].commit = now;
+            }
+        }
+    }
+
+    fn pass_on(&mut self, x: usize, origin: usize) {
+        let Some(successor) = self.successor(x) else { return };
+        if origin == x {
+            return;
+        }
+        if self.passes_zero(x, successor) {
+            self.nodes[x].pairs[origin].candidate = true;
+            self.messages.push(Message::new(12, x, origin));
+        } else {
+            self.messages.push(Message { subject: Some(origin), ..Message::new(11, x, successor) });
+        }
+    }
+
+    // Connection.
+
+    /// The running nodes reached from a, which runs.
+    fn group(&self, a: usize) -> BTreeSet<usize> {
+        let beside = |x: usize, z: usize| self.nodes[x].pairs[z].held || self.nodes[z].pairs[x].held;
+        let mut group = BTreeSet::from([a]);
+        loop {
+            let more = |z: &usize| self.nodes[*z].running && group.iter().any(|&x| beside(x, *z));
+            let found: Vec<usize> = (0..self.nodes.len()).filter(|z| !group.contains(z)).filter(more).collect();
+            if found.is_empty() {
+                return group;
+            }
+            group.extend(found);
+        }
+    }
+
+    fn groups(&self) -> usize {
+        let counts = |a: &usize| self.nodes[*a].running || self.has(Slip::GroupsOfAll);
+        let groups: BTreeSet<BTreeSet<usize>> = (0..self.nodes.len()).filter(counts).map(|a| self.group(a)).collect();
+        groups.len()
+    }
+
+    /// Refusals 7 and 8 of a question about a node.
+    fn ask(&self, node: u32) -> Result<usize, u32> {
+        match self.nodes.get(node as usize) {
+            None => Err(7),
+            Some(node) if !node.running => Err(8),
+            Some(_) => Ok(node as usize),
+        }
+    }
+}
+
+/// Refusals 4 and 5 of an event word.
+pub fn event_fault(word: u32) -> Option<u32> {
+    let unnamed = match bits(word, 28, 31) {
+        9 | 10 => bits(word, 6, 27),
+        11 | 12 => bits(word, 12, 27),
+        13 => bits(word, 6, 11) + bits(word, 15, 27) + bits(word, 12, 14) / 5,
+        14 | 15 => bits(word, 10, 27),
+        _ => return Some(4),
+    };
+    let two_nodes = bits(word, 28, 31) == 11 || bits(word, 28, 31) == 12;
+    if unnamed != 0 {
+        Some(4)
+    } else if two_nodes && bits(word, 0, 5) == bits(word, 6, 11) {
+        Some(5)
+    } else {
+        None
+    }
+}
+
+impl Plain {
+    fn read(&self, words: &[u32]) -> Result<State, u32> {
+        if words.len() != LENGTH {
+            return Err(1);
+        }
+        State::decode(words, self.slip).ok_or(6)
+    }
+
+    fn try_open(&self, words: &mut [u32], leaf: u32, keys: &[u32]) -> Result<(), u32> {
+        let distinct: BTreeSet<u32> = keys.iter().copied().collect();
+        if words.len() != LENGTH {
+            return Err(1);
+        }
+        if leaf < 1 || leaf > 8 || keys.is_empty() || keys.len() > 64 {
+            return Err(2);
+        }
+        if distinct.len() < keys.len() || distinct.last() >= Some(&PLACES) {
+            return Err(3);
+        }
+        let pairs = vec![Pair::default(); keys.len()];
+        let node = |&key: &u32| Node { key, running: false, clock: 0, pairs: pairs.clone() };
+        let nodes = keys.iter().map(node).collect();
+        let state = State { leaf: leaf as usize, nodes, messages: vec![], slip: self.slip };
+        words.copy_from_slice(&state.encode());
+        Ok(())
+    }
+
+    fn try_play(&self, words: &mut [u32], word: u32) -> Result<(), u32> {
+        if words.len() != LENGTH {
+            return Err(1);
+        }
+        if let Some(refusal) = event_fault(word) {
+            return Err(refusal);
+        }
+        let mut state = self.read(words)?;
+        state.play(word)?;
+        let room = if self.slip == Some(Slip::FullPoolEarly) { 1023 } else { 1024 };
+        if state.messages.len() > room {
+            return Err(11);
+        }
+        words.copy_from_slice(&state.encode());
+        Ok(())
+    }
+
+    fn try_leafset(&self, words: &[u32], node: u32) -> Result<u64, u32> {
+        let state = self.read(words)?;
+        let node = state.ask(node)?;
+        Ok(state.own_leafset(node).iter().map(|&s| 1u64 << s).sum())
+    }
+
+    fn try_connected(&self, words: &[u32], a: u32, b: u32) -> Result<bool, u32> {
+        let state = self.read(words)?;
+        let (first, second) = (state.ask(a), state.ask(b));
+        if let Some(refusal) = first.err().into_iter().chain(second.err()).min() {
+            return Err(refusal);
+        }
+        Ok(state.group(a as usize).contains(&(b as usize)) || self.slip == Some(Slip::AlwaysConnected))
+    }
+}
+
+impl Ring for Plain {
+    fn name(&self) -> &'static str {
+        "plain"
+    }
+
+    fn open(&self, words: &mut [u32], leaf: u32, keys: &[u32]) -> u32 {
+        self.try_open(words, leaf, keys).err().unwrap_or(0)
+    }
+
+    fn play(&self, words: &mut [u32], word: u32) -> u32 {
+        self.try_play(words, word).err().unwrap_or(0)
+    }
+
+    fn leafset_of(&self, words: &[u32], node: u32) -> (u32, u64) {
+        self.try_leafset(words, node).map_or_else(|refusal| (refusal, 0), |set| (0, set))
+    }
+
+    fn connected(&self, words: &[u32], a: u32, b: u32) -> (u32, bool) {
+        self.try_connected(words, a, b).map_or_else(|refusal| (refusal, false), |yes| (0, yes))
+    }
+
+    fn groups(&self, words: &[u32]) -> (u32, u32) {
+        self.read(words).map_or_else(|refusal| (refusal, 0), |state| (0, state.groups() as u32))
+    }
+}

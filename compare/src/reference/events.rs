@@ -1,0 +1,279 @@
+//! Event words, and what each event does to a valid ring ("Events").
+
+use super::layout::*;
+use super::place::{Message, Place};
+use super::sets::{contains, members};
+
+#[derive(Clone, Copy)]
+pub enum Event {
+    On(usize),
+    Off(usize),
+    Notice(usize, usize),
+    Contact(usize, usize),
+    Timer(usize, u32),
+    Deliver(usize),
+    Lose(usize),
+}
+
+impl Event {
+    /// The event of a word, or refusal 4 or 5.
+    pub fn read(word: u32) -> Result<Event, u32> {
+        let x = (word & 63) as usize;
+        let y = (word >> 6 & 63) as usize;
+        let timer = word >> 12 & 7;
+        let position = (word & 1023) as usize;
+        let (event, named) = match word >> 28 {
+            9 => (Event::On(x), 0x3F),
+            10 => (Event::Off(x), 0x3F),
+            11 => (Event::Notice(x, y), 0xFFF),
+            12 => (Event::Contact(x, y), 0xFFF),
+            13 if timer <= 4 => (Event::Timer(x, timer), 0x703F),
+            14 => (Event::Deliver(position), 0x3FF),
+            15 => (Event::Lose(position), 0x3FF),
+            _ => return Err(4),
+        };
+        if word & 0x0FFF_FFFF & !named != 0 {
+            return Err(4);
+        }
+        match event {
+            Event::Notice(x, y) | Event::Contact(x, y) if x == y => Err(5),
+            _ => Ok(event),
+        }
+    }
+}
+
+fn refuse_if(condition: bool, refusal: u32) -> Result<(), u32> {
+    if condition {
+        Err(refusal)
+    } else {
+        Ok(())
+    }
+}
+
+impl Place<'_> {
+    /// Plays the event: refused, with 7 to 11, nothing is written.
+    pub fn play(&mut self, event: Event) -> Result<(), u32> {
+        match event {
+            Event::On(x) => self.on(x),
+            Event::Off(x) => self.off(x),
+            Event::Notice(x, subject) => self.notice(x, subject),
+            Event::Contact(x, y) => self.contact(x, y),
+            Event::Timer(x, timer) => self.timer(x, timer),
+            Event::Deliver(position) => self.deliver(position),
+            Event::Lose(position) => {
+                self.in_flight(position)?;
+                self.take_out(position);
+                Ok(())
+            }
+        }
+    }
+
+    fn known(&self, x: usize) -> Result<(), u32> {
+        refuse_if(x >= self.header.nodes, 7)
+    }
+
+    fn in_flight(&self, position: usize) -> Result<(), u32> {
+        refuse_if(position >= self.header.messages, 7)
+    }
+
+    fn running(&self, x: usize) -> Result<(), u32> {
+        refuse_if(!self.is_running(x), 8)
+    }
+
+    fn clock_can_rise(&self, x: usize) -> Result<(), u32> {
+        refuse_if(self.clock(x) == LOW24, 10)
+    }
+
+    fn room_for(&self, count: u32) -> Result<(), u32> {
+        refuse_if(self.header.messages + count as usize > POOL, 11)
+    }
+
+    fn on(&mut self, x: usize) -> Result<(), u32> {
+        self.known(x)?;
+        refuse_if(self.is_running(x), 9)?;
+        self.clock_can_rise(x)?;
+        self.tick(x);
+        self.switch_on(x);
+        Ok(())
+    }
+
+    fn off(&mut self, x: usize) -> Result<(), u32> {
+        self.known(x)?;
+        self.running(x)?;
+        self.switch_off(x);
+        Ok(())
+    }
+
+    fn notice(&mut self, x: usize, subject: usize) -> Result<(), u32> {
+        self.known(x)?;
+        self.known(subject)?;
+        self.running(x)?;
+        self.clock_can_rise(x)?;
+        self.tick(x);
+        self.release(x, subject);
+        Ok(())
+    }
+
+    fn contact(&mut self, x: usize, y: usize) -> Result<(), u32> {
+        self.known(x)?;
+        self.known(y)?;
+        self.running(x)?;
+        self.clock_can_rise(x)?;
+        self.room_for(1)?;
+        self.tick(x);
+        self.send(Message::new(1, x, y), 0);
+        Ok(())
+    }
+
+    fn timer(&mut self, x: usize, timer: u32) -> Result<(), u32> {
+        self.known(x)?;
+        self.running(x)?;
+        self.clock_can_rise(x)?;
+        match timer {
+            0 => self.send_each(x, 3, self.held(x)),
+            1 => self.invite(x),
+            2 => self.send_each(x, 7, self.outside(x)),
+            3 => self.replace(x),
+            _ => self.deloopy(x),
+        }
+    }
+
+    /// The held nodes outside the leafset of the held.
+    fn outside(&self, x: usize) -> u64 {
+        let held = self.held(x);
+        held & !self.table().leafset(x, held)
+    }
+
+    fn send_each(&mut self, x: usize, kind: u32, to: u64) -> Result<(), u32> {
+        self.room_for(to.count_ones())?;
+        self.tick(x);
+        for y in members(to) {
+            self.send(Message::new(kind, x, y), 0);
+        }
+        Ok(())
+    }
+
+    /// Timer 1.
+    fn invite(&mut self, x: usize) -> Result<(), u32> {
+        let (held, candidates) = (self.held(x), self.candidates(x));
+        let near = self.table().leafset(x, candidates | held);
+        self.send_each(x, 5, candidates & !held & near)?;
+        self.empty_candidates(x);
+        Ok(())
+    }
+
+    /// Timer 3.
+    fn replace(&mut self, x: usize) -> Result<(), u32> {
+        let outside = self.outside(x);
+        let replaceable = members(outside).filter(|&z| self.spare(x, z) != NONE).fold(0, |set, z| set | 1 << z);
+        self.room_for(u64::count_ones(replaceable))?;
+        let now = self.tick(x);
+        for z in members(replaceable) {
+            let spare = self.spare(x, z) as usize;
+            self.send(Message::new(9, x, spare).about(z as u32).stamped(now), 0);
+        }
+        Ok(())
+    }
+
+    /// Timer 4.
+    fn deloopy(&mut self, x: usize) -> Result<(), u32> {
+        let table = self.table();
+        let successor = table.successor(x, self.held(x)).filter(|&successor| table.passes_zero(x, successor));
+        self.room_for(successor.is_some() as u32)?;
+        self.tick(x);
+        if let Some(successor) = successor {
+            self.send(Message::new(11, x, successor).about(x as u32), 0);
+        }
+        Ok(())
+    }
+
+    /// The room needs no test: a delivery takes one message out and sends at most one.
+    fn deliver(&mut self, position: usize) -> Result<(), u32> {
+        self.in_flight(position)?;
+        let message = self.message(position);
+        let x = message.receiver;
+        if !self.is_running(x) {
+            self.take_out(position);
+            return Ok(());
+        }
+        self.clock_can_rise(x)?;
+        let view = self.view(position);
+        self.take_out(position);
+        let now = self.tick(x);
+        self.receive(message, view, now);
+        Ok(())
+    }
+
+    fn receive(&mut self, message: Message, view: u64, now: u32) {
+        let (x, a) = (message.receiver, message.sender);
+        match message.kind {
+            1 => self.send(Message::new(2, x, a), 0),
+            2 => self.hold(x, a, now),
+            3 => {
+                let answer = self.table().leafset(a, self.held(x));
+                self.send(Message::new(4, x, a), answer);
+                self.add_candidate(x, a);
+            }
+            4 => members(view).for_each(|z| self.add_candidate(x, z)),
+            5 => self.send(Message::new(6, x, a), 0),
+            6 => {
+                if contains(self.table().leafset(x, self.held(x) | 1 << a), a) {
+                    self.hold(x, a, now);
+                }
+            }
+            7 => {
+                let table = self.table();
+                let choice = table.nearer(x, a, table.leafset(x, self.held(x)));
+                self.send(Message::new(8, x, a).about(choice.map_or(NONE, |z| z as u32)), 0);
+            }
+            8 => {
+                if self.holds(x, a) {
+                    self.set_spare(x, a, message.subject);
+                }
+            }
+            9 => self.requested(message, now),
+            10 => self.acknowledged(message, now),
+            11 => self.pass_on(message),
+            _ => self.add_candidate(x, a),
+        }
+    }
+
+    /// "On 9: if z is held, its commit becomes now and I answer 10 with the same subject and stamp."
+    fn requested(&mut self, request: Message, now: u32) {
+        let (x, z) = (request.receiver, request.subject as usize);
+        if self.holds(x, z) {
+            self.set_commit(x, z, now);
+            self.send(Message::new(10, x, request.sender).about(request.subject).stamped(request.stamp), 0);
+        }
+    }
+
+    /// "On 10 from y: if z is held, outside my leafset, and its spare is y, take y in; then, if z's commit is below the
+    /// message's stamp, let go of z and set y's commit to now."
+    fn acknowledged(&mut self, message: Message, now: u32) {
+        let (x, y, z) = (message.receiver, message.sender, message.subject as usize);
+        if !self.holds(x, z) || self.spare(x, z) != y as u32 || !contains(self.outside(x), z) {
+            return;
+        }
+        self.hold(x, y, now);
+        if self.commit(x, z) < message.stamp {
+            self.release(x, z);
+            self.set_commit(x, y, now);
+        }
+    }
+
+    /// On 11.
+    fn pass_on(&mut self, message: Message) {
+        let (x, origin) = (message.receiver, message.subject as usize);
+        let table = self.table();
+        let Some(successor) = table.successor(x, self.held(x)) else { return };
+        if origin == x {
+            return;
+        }
+        if table.passes_zero(x, successor) {
+            self.add_candidate(x, origin);
+            self.send(Message::new(12, x, origin), 0);
+        } else {
+            self.send(Message::new(11, x, successor).about(message.subject), 0);
+        }
+    }
+}

@@ -1,0 +1,92 @@
+//! Document 01 over the lent words, in place and tuned by hand: no allocation and no copy of the buffer. Written from
+//! the document's text alone.
+
+mod events;
+mod lanes;
+mod layout;
+mod messages;
+mod place;
+mod questions;
+mod row;
+mod sets;
+mod validity;
+
+use crate::ring::Ring;
+use events::Event;
+use layout::*;
+use place::Place;
+
+pub struct Reference;
+
+impl Ring for Reference {
+    fn name(&self) -> &'static str {
+        "reference"
+    }
+
+    fn open(&self, words: &mut [u32], leaf: u32, keys: &[u32]) -> u32 {
+        answer(open(words, leaf, keys))
+    }
+
+    fn play(&self, words: &mut [u32], word: u32) -> u32 {
+        answer(play(words, word))
+    }
+
+    fn leafset_of(&self, words: &[u32], node: u32) -> (u32, u64) {
+        with_answer(questions::leafset_of(words, node))
+    }
+
+    fn connected(&self, words: &[u32], a: u32, b: u32) -> (u32, bool) {
+        with_answer(questions::connected(words, a, b))
+    }
+
+    fn groups(&self, words: &[u32]) -> (u32, u32) {
+        with_answer(questions::groups(words))
+    }
+}
+
+/// 0 where accepted, or the refusal's number.
+fn answer(outcome: Result<(), u32>) -> u32 {
+    outcome.err().unwrap_or(0)
+}
+
+fn with_answer<T: Default>(outcome: Result<T, u32>) -> (u32, T) {
+    match outcome {
+        Ok(value) => (0, value),
+        Err(refusal) => (refusal, T::default()),
+    }
+}
+
+fn open(words: &mut [u32], leaf: u32, keys: &[u32]) -> Result<(), u32> {
+    let words: &mut Words = words.try_into().map_err(|_| 1u32)?;
+    if !(1..=8).contains(&leaf) || !(1..=NODES).contains(&keys.len()) {
+        return Err(2);
+    }
+    let repeated = (1..keys.len()).any(|s| keys[..s].contains(&keys[s]));
+    if repeated || keys.iter().any(|&key| key > LOW24) {
+        return Err(3);
+    }
+    write_initial(words, leaf as usize, keys);
+    Ok(())
+}
+
+/// "A fresh ring has every stand off, all clocks 0, no messages."
+fn write_initial(words: &mut Words, leaf: usize, keys: &[u32]) {
+    let n = keys.len();
+    words.fill(0);
+    words[0] = Header { leaf, nodes: n, messages: 0 }.word();
+    for (x, &key) in keys.iter().enumerate() {
+        words[node_at(x)] = KIND_KEY | key;
+        words[node_at(x) + 1] = KIND_CLOCK;
+        for z in (0..n).filter(|&z| z != x) {
+            words[pair_at(x, z)] = IDLE;
+            words[pair_at(x, z) + 1] = NO_SPARE;
+        }
+    }
+}
+
+fn play(words: &mut [u32], word: u32) -> Result<(), u32> {
+    let words: &mut Words = words.try_into().map_err(|_| 1u32)?;
+    let event = Event::read(word)?;
+    let header = validity::reads_as_ring(words).ok_or(6u32)?;
+    Place { words, header }.play(event)
+}

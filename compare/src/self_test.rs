@@ -1,0 +1,49 @@
+//! The harness has to be able to fail: every wrong program ([`Slip`]) must be found, and its case shortened.
+
+use crate::agree::{self, Found, Plan};
+use crate::plain::{Plain, Slip};
+use crate::reference::Reference;
+use crate::ring::Ring;
+use crate::script::Mix;
+
+/// Wrong programs that part nodes: found by demand 3 alone, without another implementation.
+const PARTING: [Slip; 4] =
+    [Slip::ReleaseAtTimer3, Slip::ReleaseWithoutHold, Slip::CommitIgnored, Slip::CommitNotRenewed];
+
+/// How many wrong programs were not found.
+pub fn run(seed: u64, show: Option<&str>) -> usize {
+    let agreement = Plan { seed, events: 1_000_000, damaged: 1_000_000, mixes: Mix::ALL.to_vec() };
+    let demand_3 = Plan { seed, events: 10_000_000, damaged: 0, mixes: vec![Mix::Replacement] };
+    let by_difference = Slip::ALL.into_iter().filter(|&slip| {
+        let wrong = Plain { slip: Some(slip) };
+        !finds(&agreement, &[&Reference, &wrong], slip, show)
+    });
+    let by_demand_3 = PARTING.into_iter().filter(|&slip| {
+        let wrong = Plain { slip: Some(slip) };
+        !finds(&demand_3, &[&wrong], slip, show)
+    });
+    by_difference.count() + by_demand_3.count()
+}
+
+fn finds(plan: &Plan, rings: &[&dyn Ring], slip: Slip, show: Option<&str>) -> bool {
+    let (tally, found) = agree::run(plan, rings);
+    let name = format!("{slip:?}");
+    let way = if rings.len() > 1 { "difference" } else { "demand 3" };
+    let Some(Found { fault, case, mix, .. }) = found else {
+        println!("{name:<20} {way:<11} NOT FOUND in {} events, {} damaged buffers", tally.events, tally.damaged);
+        return false;
+    };
+    let short = case.shortened(rings, &fault);
+    println!(
+        "{name:<20} {way:<11} {} after {} events and {} damaged buffers; shortened from {} steps to {}",
+        mix.name(),
+        tally.events,
+        tally.damaged,
+        case.steps.len(),
+        short.steps.len()
+    );
+    if show == Some(&name) {
+        println!("{fault}\n{short}");
+    }
+    true
+}

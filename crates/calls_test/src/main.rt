@@ -1,0 +1,60 @@
+// Runs the public calls by commands from standard input, and prints a line for each call. The file stdout has what
+// document 01 demands of them, by an implementation of its own (compare/README.md).
+ghost use mathlib.Core.Path.{_≡_};
+ghost use lib.ListN.{length};
+
+mod calls;
+mod command;
+mod event_word;
+mod line;
+mod memory;
+
+use command::Command;
+use command::Next;
+
+// More commands than any input has.
+const MOST: u32 = 1_000_000;
+
+// A call, with its line: the command's number, the answer, the value, how many words the call changed, and the digest of
+// all words after it.
+fn call(command: Command, words: &mut [u32], before: &mut [u32], list: &[u32], places: &mut [u8])
+    requires { ⌜ length (now words) ≡ length (now before) ⌝ }
+{
+    memory::copy(words, before);
+    let outcome = calls::call(command, words, list, places);
+    let changed = memory::differing(before, words);
+    line::print(command.number, outcome, changed, memory::digest(words));
+}
+
+fn run(command: Command, words: &mut [u32], before: &mut [u32], list: &mut [u32], places: &mut [u8])
+    requires { ⌜ length (now words) ≡ length (now before) ⌝ }
+{
+    let number = command.number;
+    match number {
+        Command::FILL_WORDS => memory::fill(words, command.a, command.b, command.c),
+        Command::FILL_LIST => memory::fill(list, command.a, command.b, command.c),
+        _ => call(command, words, before, list, places),
+    }
+}
+
+fn run_all(words: &mut [u32], before: &mut [u32], list: &mut [u32], places: &mut [u8])
+    requires { ⌜ length (now words) ≡ length (now before) ⌝ }
+{
+    for _ in 0..MOST {
+        let next = command::read();
+        let Next::Command(command) = next else {
+            return;
+        };
+        run(command, words, before, list, places);
+    }
+}
+
+// The buffer has one word more than a ring. The list has keys, and after them a script; the places take the answers of
+// a replay.
+fn main() {
+    let mut words = [0u32; 13442];
+    let mut before = [0u32; 13442];
+    let mut list = [0u32; 1200];
+    let mut places = [0u8; 1040];
+    run_all(&mut words, &mut before, &mut list, &mut places);
+}

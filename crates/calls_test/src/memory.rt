@@ -1,0 +1,71 @@
+// The words that the calls work on.
+ghost use mathlib.Core.Path.{_≡_};
+ghost use Prim.Native.Nat.{_<_, _^_};
+ghost use lib.ListN.{length};
+ghost use Rattle.io.specs.Counts.{Counts};
+
+// n, or the number of words where n is above it.
+pub fn at_most(n: u32, words: &[u32]) -> usize
+    ensures { λ r. ⌜ Counts r (now (words .entry)) ⌝ }
+{
+    let wanted = n as usize;
+    let most = words.len();
+    if wanted <= most { wanted } else { most }
+}
+
+// Words `from` up to `to` become the value.
+pub fn fill(words: &mut [u32], from: u32, to: u32, value: u32) {
+    let end = at_most(to, words);
+    for i in from as usize..end {
+        words[i] = value;
+    }
+}
+
+pub fn copy(words: &[u32], to: &mut [u32])
+    requires { ⌜ length (now words) ≡ length (now to) ⌝ }
+{
+    for i in 0..words.len() {
+        to[i] = words[i];
+    }
+}
+
+// The number of places at which the words differ.
+pub fn differing(before: &[u32], after: &[u32]) -> u64
+    requires { ⌜ length (now before) ≡ length (now after) ⌝ }
+{
+    let mut count = 0;
+    for i in 0..before.len() {
+        if before[i] != after[i] {
+            count += 1;
+        }
+    }
+    count
+}
+
+// One more word. 31 is odd, so lists that differ in one word have different digests.
+fn digested(digest: u64, word: u32) -> u64
+    requires { ⌜ digest < 2 ^ 32 ⌝ }
+    ensures { λ r. ⌜ r < 2 ^ 32 ⌝ }
+{
+    (31 * digest + word as u64) % 0x1_0000_0000
+}
+
+pub fn digest(words: &[u32]) -> u64 {
+    let mut digest = 0;
+    for i in 0..words.len() {
+        digest = digested(digest, words[i]);
+    }
+    digest
+}
+
+pub fn digest_bytes(bytes: &[u8]) -> u64 {
+    let mut digest = 0;
+    for i in 0..bytes.len() {
+        digest = digested(digest, wide(bytes[i]));
+    }
+    digest
+}
+
+fn wide(byte: u8) -> u32 {
+    byte as u32
+}
