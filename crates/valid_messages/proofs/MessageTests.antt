@@ -25,7 +25,7 @@ use Rattle.model.proofs.Fields.{field, bits<}
 use Rattle.sets.proofs.Bits.{toBits-ofBits, within-less}
 use Rattle.valid_messages.specs.Messages.{messageReads, messagesRead}
 use Rattle.valid_nodes.specs.Nodes.{clear}
-use Rattle.valid_messages.specs.Parts.{kept, frontFits, frontReads, viewReads}
+use Rattle.valid_messages.specs.Parts.{kept, frontFits, frontReads, viewReads, viewOf, viewLimit, viewTests}
 use Rattle.valid_nodes.proofs.Gather.{or-test, all-cong, all-both}
 use Rattle.valid_nodes.proofs.Formats.{of-kind, lowest, xor-test}
 
@@ -125,6 +125,14 @@ ones n h =
     ∙ ap (λ (p : ℕ). p / 2 ^ (64 - n)) (mul-pred (pow-pos n) (pow-pos (64 - n)))
     ∙ digits-div (2 ^ n - 1) (pow-sub-lt (64 - n) (lit< tt))
 
+tests-joined : (a b c d e : Bool) → (a && b && c && d && e) ≡ every (a ∷ b ∷ c ∷ every (d ∷ e ∷ []) ∷ [])
+tests-joined false b c d e = refl
+tests-joined true false c d e = refl
+tests-joined true true false d e = refl
+tests-joined true true true false e = refl
+tests-joined true true true true false = refl
+tests-joined true true true true true = refl
+
 -- within the limit of a type
 limited : (used : Bool) (n v : ℕ) → leb v (if used then 2 ^ n - 1 else 0) ≡ every ((used || eqb v 0) ∷ ltb v (2 ^ n) ∷ [])
 limited true n v =
@@ -196,30 +204,30 @@ module _ (ws : List ℕ) (k : ℕ) where
   high = getD ws (messagePlace k + 4) 0
 
   -- the view as a number
-  abbrev pub viewOf : ℕ
-  viewOf = bits 0 24 low + 2 ^ 24 * bits 0 24 middle + 2 ^ 48 * bits 0 16 high
+  abbrev view : ℕ
+  view = viewOf low middle high
 
-  viewOf< : viewOf < 2 ^ 64
-  viewOf< = omega (arith, bits< 0 24 low, bits< 0 24 middle, bits< 0 16 high)
+  view< : view < 2 ^ 64
+  view< = omega (arith, bits< 0 24 low, bits< 0 24 middle, bits< 0 16 high)
 
-  whole : toBits 64 (ofBits viewOf) ≡ viewOf
-  whole = toBits-ofBits 64 viewOf viewOf<
+  whole : toBits 64 (ofBits view) ≡ view
+  whole = toBits-ofBits 64 view view<
 
-  pub low-kept : kept ws k 2 ≡ eqb (getD ws (messagePlace k + 2) 0 / 2 ^ 24) 128
+  low-kept : kept ws k 2 ≡ eqb (getD ws (messagePlace k + 2) 0 / 2 ^ 24) 128
   unfolding decodeMessage viewWord
   low-kept =
       ap (λ (p : ℕ). eqb low (8 * 2 ^ 28 + p))
       (ap (bits 0 24) whole ∙ field 0 24 (bits 0 24 middle + 2 ^ 24 * bits 0 16 high) (bits 0 24 low) 0 (omega arith) (lit< tt) (bits< 0 24 low))
       ∙ plain 24 8 128 low refl
 
-  pub middle-kept : kept ws k 3 ≡ eqb (getD ws (messagePlace k + 3) 0 / 2 ^ 24) 128
+  middle-kept : kept ws k 3 ≡ eqb (getD ws (messagePlace k + 3) 0 / 2 ^ 24) 128
   unfolding decodeMessage viewWord
   middle-kept =
       ap (λ (p : ℕ). eqb middle (8 * 2 ^ 28 + p))
       (ap (bits 24 24) whole ∙ field 24 24 (bits 0 16 high) (bits 0 24 middle) (bits 0 24 low) (omega arith) (bits< 0 24 low) (bits< 0 24 middle))
       ∙ plain 24 8 128 middle refl
 
-  pub high-kept : kept ws k 4 ≡ eqb (getD ws (messagePlace k + 4) 0 / 2 ^ 16) 32768
+  high-kept : kept ws k 4 ≡ eqb (getD ws (messagePlace k + 4) 0 / 2 ^ 16) 32768
   unfolding decodeMessage viewWord
   high-kept =
       ap (λ (p : ℕ). eqb high (8 * 2 ^ 28 + p))
@@ -228,23 +236,25 @@ module _ (ws : List ℕ) (k : ℕ) where
       (omega (arith, bits< 0 24 low, bits< 0 24 middle)) (bits< 0 16 high))
       ∙ plain 16 8 32768 high refl
 
-  -- what is left to test where the three words of the view are of their kind
-  pub view-test : (t : Table) (n tag v limit : ℕ) → n ≤ 64 → size t ≡ n → decodeMessage ws k .type ≡ tag → v ≡ viewOf → limit ≡ (if usesView tag then 2 ^ n - 1 else 0) → low / 2 ^ 24 ≡ 128 → middle / 2 ^ 24 ≡ 128 → high / 2 ^ 16 ≡ 32768 → viewReads ws t k ≡ (leb v limit && not (ofBits v (decodeMessage ws k .receiver)))
+  -- the view, as the code joins its tests
+  pub view-test : (t : Table) → size t ≤ 64 → viewTests (size t) (getD ws (messagePlace k) 0) low middle high ≡ viewReads ws t k
   unfolding viewReads decodeMessage
-  view-test t n tag v limit few e f g h x y z =
-      rw (h, ← e, ← f, g, low-kept, middle-kept, high-kept, eq-eqb (low / 2 ^ 24) 128 x, eq-eqb (middle / 2 ^ 24) 128 y, eq-eqb (high / 2 ^ 16) 32768 z, and-true (viewFits t (decodeMessage ws k)), view-fits (decodeMessage ws k .type) (size t) (decodeMessage ws k .receiver) viewOf (rw e few) viewOf< (bits< 10 6 (getD ws (messagePlace k) 0)), and-true (not (ofBits viewOf (decodeMessage ws k .receiver))))
+  view-test t few =
+      let first : ℕ = getD ws (messagePlace k) 0 in
+      rw (low-kept, middle-kept, high-kept, view-fits (bits 0 4 first) (size t) (bits 10 6 first) view few view< (bits< 10 6 first), lowest 4 first)
+      (tests-joined (eqb (low / 2 ^ 24) 128) (eqb (middle / 2 ^ 24) 128) (eqb (high / 2 ^ 16) 32768) (leb view (viewLimit (first % 16) (size t))) (not (ofBits view (bits 10 6 first))))
 
   -- an empty view reads
   pub empty-view : (t : Table) → size t ≤ 64 → eqb (bitOr (bitOr (bitXor low 2147483648) (bitXor middle 2147483648)) (bitXor high 2147483648)) 0 ≡ true → viewReads ws t k ≡ true
   empty-view t few e =
+      let first : ℕ = getD ws (messagePlace k) 0 in
       let p = sym (or-test (bitOr (bitXor low 2147483648) (bitXor middle 2147483648)) (bitXor high 2147483648)) ∙ e in
       let q = sym (or-test (bitXor low 2147483648) (bitXor middle 2147483648)) ∙ and-left (eqb (bitOr (bitXor low 2147483648) (bitXor middle 2147483648)) 0) (eqb (bitXor high 2147483648) 0) p in
       let a : low ≡ 2147483648 = eqb-true low 2147483648 (sym (xor-test low 2147483648) ∙ and-left (eqb (bitXor low 2147483648) 0) (eqb (bitXor middle 2147483648) 0) q) in
       let b : middle ≡ 2147483648 = eqb-true middle 2147483648 (sym (xor-test middle 2147483648) ∙ and-right (eqb (bitXor low 2147483648) 0) (eqb (bitXor middle 2147483648) 0) q) in
       let c : high ≡ 2147483648 = eqb-true high 2147483648 (sym (xor-test high 2147483648) ∙ and-right (eqb (bitOr (bitXor low 2147483648) (bitXor middle 2147483648)) 0) (eqb (bitXor high 2147483648) 0) p) in
-      let v : 0 ≡ viewOf = rw (a, b, c) in
-      view-test t (size t) (decodeMessage ws k .type) 0 _ few refl refl v refl (rw a) (rw b) (rw c)
-      ∙ and-in (le-leb 0 (if usesView (decodeMessage ws k .type) then 2 ^ size t - 1 else 0) zero-le) (not-in (no-bit-above 0 0 (decodeMessage ws k .receiver) (lit< tt) zero-le))
+      sym (view-test t few)
+      ∙ rw (a, b, c) (and-in (le-leb 0 (viewLimit (first % 16) (size t)) zero-le) (not-in (no-bit-above 0 0 (bits 10 6 first) (lit< tt) zero-le)))
 
 -- ---- messages in parts
 

@@ -1,15 +1,14 @@
 // Whether the words of the messages read.
 ghost use mathlib.Core.Path.{_≡_};
-ghost use Prim.Native.Nat.{_+_, _-_, _*_, _^_, _<_, _≤_};
+ghost use Prim.Native.Nat.{ℕ, _+_, _<_, _≤_};
+ghost use mathlib.Core.List.{List};
 ghost use lib.ListN.{length};
-ghost use Rattle.model.specs.Fields.{bits};
-ghost use Rattle.model.specs.Choice.{if_then_else_};
 ghost use Rattle.model.specs.Sets.{all};
 ghost use Rattle.model.specs.Leafset.{Table, size};
 ghost use Rattle.model.specs.Ring.{Message};
-ghost use Rattle.model.specs.Words.{usesView, subjectFits};
+ghost use Rattle.model.specs.Words.{at, messagePlace, subjectFits};
 ghost use Rattle.valid_messages.specs.Messages.{messagesRead};
-ghost use Rattle.valid_messages.specs.Parts.{frontReads, viewReads};
+ghost use Rattle.valid_messages.specs.Parts.{frontReads, viewReads, viewOf, viewLimit, viewTests};
 use valid_nodes::clear::clear;
 
 // A word of an empty view.
@@ -23,14 +22,10 @@ fn subject_fits(tag: u32, subject: u32, n: u32) -> bool
     (used & ((subject < n) | ((tag == 8) & (subject == 64)))) | (!used & (subject == 64))
 }
 
-// The first two words of message k.
-fn front_reads(words: &[u32], n: u32, k: usize) -> bool
-    requires { ⌜ (length (now words) ≡ 13441) × (k < 1024) ⌝ }
-    ensures { λ r. ⌜ ((t : Table) → size t ≡ n → r ≡ frontReads (now (words .entry)) t k) ⌝ }
+// The first two words of a message.
+fn front_fits(first: u32, second: u32, n: u32) -> bool
+    ensures { λ r. ⌜ ((ws : List ℕ) (t : Table) (k : ℕ) → size t ≡ n → at ws (messagePlace k) ≡ first → at ws (messagePlace k + 1) ≡ second → r ≡ frontReads ws t k) ⌝ }
 {
-    let at = 8321 + 5 * k;
-    let first = words[at];
-    let second = words[at + 1];
     let tag = first % 16;
     let sender = (first >> 4) % 64;
     let receiver = (first >> 10) % 64;
@@ -46,9 +41,18 @@ fn front_reads(words: &[u32], n: u32, k: usize) -> bool
         & (((9 <= tag) & (tag <= 10)) | (second % 0x100_0000 == 0))
 }
 
+// The first two words of message k.
+fn front_reads(words: &[u32], n: u32, k: usize) -> bool
+    requires { ⌜ (length (now words) ≡ 13441) × (k < 1024) ⌝ }
+    ensures { λ r. ⌜ ((t : Table) → size t ≡ n → r ≡ frontReads (now (words .entry)) t k) ⌝ }
+{
+    let at = 8321 + 5 * k;
+    front_fits(words[at], words[at + 1], n)
+}
+
 // The view whose parts three words hold.
 fn view_of(low: u32, middle: u32, high: u32) -> u64
-    ensures { λ r. ⌜ r ≡ bits 0 24 low + 2 ^ 24 * bits 0 24 middle + 2 ^ 48 * bits 0 16 high ⌝ }
+    ensures { λ r. ⌜ r ≡ viewOf low middle high ⌝ }
 {
     (low % 0x100_0000) as u64
         + 0x100_0000 * ((middle % 0x100_0000) as u64)
@@ -58,12 +62,25 @@ fn view_of(low: u32, middle: u32, high: u32) -> u64
 // The largest view of a type: "Type 4 uses the view"; "A view holds only stands below n".
 fn view_limit(tag: u32, n: u32) -> u64
     requires { ⌜ (1 ≤ n) × (n ≤ 64) ⌝ }
-    ensures { λ r. ⌜ r ≡ (if usesView tag then 2 ^ n - 1 else 0) ⌝ }
+    ensures { λ r. ⌜ r ≡ viewLimit tag n ⌝ }
 {
     if tag == 4 {
         return 0xFFFF_FFFF_FFFF_FFFF >> (64 - n);
     }
     0
+}
+
+// The last three words of a message whose first word is `first`.
+fn view_fits(first: u32, low: u32, middle: u32, high: u32, n: u32) -> bool
+    requires { ⌜ (1 ≤ n) × (n ≤ 64) ⌝ }
+    ensures { λ r. ⌜ r ≡ viewTests n first low middle high ⌝ }
+{
+    let view = view_of(low, middle, high);
+    (low >> 24 == 0x80)
+        & (middle >> 24 == 0x80)
+        & (high >> 16 == 0x8000)
+        & (view <= view_limit(first % 16, n))
+        & !((view >> ((first >> 10) % 64)) % 2 == 1)
 }
 
 // The last three words of message k. Most messages have no view.
@@ -78,21 +95,7 @@ fn view_reads(words: &[u32], n: u32, k: usize) -> bool
     if ((low ^ NO_VIEW) | (middle ^ NO_VIEW) | (high ^ NO_VIEW)) == 0 {
         return true;
     }
-    if low >> 24 != 0x80 {
-        return false;
-    }
-    if middle >> 24 != 0x80 {
-        return false;
-    }
-    if high >> 16 != 0x8000 {
-        return false;
-    }
-    let first = words[at];
-    let view = view_of(low, middle, high);
-    if view > view_limit(first % 16, n) {
-        return false;
-    }
-    (view >> ((first >> 10) % 64)) % 2 != 1
+    view_fits(words[at], low, middle, high, n)
 }
 
 // The first two words of each of m messages. The loop has no branch, so that it is done four messages at a time.

@@ -1,12 +1,8 @@
-use mathlib.Core.Path.{sym, _∙_}
-use Prim.Native.Nat.{_%_}
-use native.Mathlib.Nat.{div-one}
-use lib.ListN.{getD}
-use borrow.Author.Tests.{eq-eqb, ne-eqb, le-leb, lt-leb}
+-- `valid_messages::view_reads` meets its contract.
+use mathlib.Core.Path.{sym}
+use borrow.Author.Tests.{eq-eqb}
+use Rattle.valid_messages.proofs.MessageTests.{empty-view, view-test}
 use borrow.Author.Needs.{needs}
-use Rattle.model.specs.Words.{messagePlace, decodeMessage}
-use Rattle.valid_messages.specs.Parts.{viewReads}
-use Rattle.valid_messages.proofs.MessageTests.{low-kept, middle-kept, high-kept, empty-view, view-test}
 use Rattle.valid_messages.proofs.view_reads.Statement.{statement}
 use Rattle.valid_messages.proofs.view_reads.Tie as tie
 
@@ -45,73 +41,22 @@ shared-slice-read-high c = search needs
 
 returns : tie.Need-returns
 returns c t e =
-    let args = c .before .before .before .before .before .args in
-    sym (empty-view (args .words .now) (args .k) t (rw e (c .before .before .before .before .before .pre .2)) (eq-eqb _ 0 (c .if1 .taken)))
+    let start = c .before .before .before .before .before in
+    sym (empty-view (start .args .words .now) (start .args .k) t (rw e (start .pre .2)) (eq-eqb _ 0 (c .if1 .taken)))
+
+mul-view-fits : tie.Need-mul-view-fits
+mul-view-fits c = search needs
+
+shared-slice-read-view-fits : tie.Need-shared-slice-read-view-fits
+shared-slice-read-view-fits c = search needs
+
+view-fits-requires : tie.Need-view-fits-requires
+view-fits-requires c κs = let start = c .before .before .before .before .before .before in (start .pre .1, start .pre .2)
 
 returns-2 : tie.Need-returns-2
-unfolding viewReads
 returns-2 c t e =
-    let args = c .before .before .before .before .before .before .args in
-    let ws = args .words .now in
-    rw (low-kept ws (args .k), ne-eqb _ _ (c .if2 .taken))
-
-returns-3 : tie.Need-returns-3
-unfolding viewReads
-returns-3 c t e =
-    let args = c .before .before .before .before .before .before .before .args in
-    let ws = args .words .now in
-    rw (low-kept ws (args .k), eq-eqb _ _ (c .before .if2 .left), middle-kept ws (args .k), ne-eqb _ _ (c .if3 .taken))
-
-returns-4 : tie.Need-returns-4
-unfolding viewReads
-returns-4 c t e =
-    let args = c .before .before .before .before .before .before .before .before .args in
-    let ws = args .words .now in
-    rw (low-kept ws (args .k), eq-eqb _ _ (c .before .before .if2 .left), middle-kept ws (args .k), eq-eqb _ _ (c .before .if3 .left), high-kept ws (args .k), ne-eqb _ _ (c .if4 .taken))
-
-mul-first : tie.Need-mul-first
-mul-first c = search needs
-
-shared-slice-read-first : tie.Need-shared-slice-read-first
-shared-slice-read-first c = search needs
-
-view-of-requires : tie.Need-view-of-requires
-view-of-requires c κs = search needs
-
-view-limit-requires : tie.Need-view-limit-requires
-view-limit-requires c κs = search needs
-
-returns-5 : tie.Need-returns-5
-unfolding decodeMessage
-returns-5 c t e =
-    let limit = c .before .view-limit in
-    let view = c .before .before .view-of in
-    let known = c .before .before .before .before in
-    let args = known .before .before .before .before .before .before .before .before .args in
-    let ws = args .words .now in
-    sym
-    (view-test ws (args .k) t (args .n) (getD ws (messagePlace (args .k)) 0 % 16) (view .result) (limit .result) (known .before .before .before .before .before .before .before .before .pre .2) e (simp div-one)
-    (view .ensures) (limit .ensures) (known .before .before .if2 .left) (known .before .if3 .left) (known .if4 .left)
-    ∙ rw (lt-leb _ _ (c .if5 .taken)))
-
-cast-result : tie.Need-cast-result
-cast-result c = search needs
-
-shr-result : tie.Need-shr-result
-shr-result c = search needs
-
-returns-6 : tie.Need-returns-6
-unfolding decodeMessage
-returns-6 c t e =
-    let limit = c .before .view-limit in
-    let view = c .before .before .view-of in
-    let known = c .before .before .before .before in
-    let args = known .before .before .before .before .before .before .before .before .args in
-    let ws = args .words .now in
-    sym
-    (view-test ws (args .k) t (args .n) (getD ws (messagePlace (args .k)) 0 % 16) (view .result) (limit .result) (known .before .before .before .before .before .before .before .before .pre .2) e (simp div-one)
-    (view .ensures) (limit .ensures) (known .before .before .if2 .left) (known .before .if3 .left) (known .if4 .left)
-    ∙ rw (le-leb _ _ (c .if5 .left)))
+    let start = c .before .before .before .before .before .before .before in
+    rw (c .view-fits .ensures, ← e) (view-test (start .args .words .now) (start .args .k) t (rw e (start .pre .2)))
 
 pub view-reads-spec : {M : Type 1} → statement M
 view-reads-spec =
@@ -129,14 +74,7 @@ view-reads-spec =
     mul-high
     shared-slice-read-high
     returns
-    returns-2
-    returns-3
-    returns-4
-    mul-first
-    shared-slice-read-first
-    view-of-requires
-    view-limit-requires
-    returns-5
-    cast-result
-    shr-result
-    returns-6)
+    mul-view-fits
+    shared-slice-read-view-fits
+    view-fits-requires
+    returns-2)
