@@ -52,6 +52,12 @@ uint32_t mekvalgs_open(uint32_t *words, size_t length, uint32_t leaf, const uint
 /* Plays an event word on the ring. Answers 0, 1, 4 to 11. */
 uint32_t mekvalgs_play(uint32_t *words, size_t length, uint32_t word);
 
+/* Opens a ring as mekvalgs_open does, and plays the script's words on it one by one.
+ * Answers as mekvalgs_open. The answer to each word is written to its place in answers; answers past the places are
+ * dropped, and places past the script stay. Where the opening is refused, answers stays whole. */
+uint32_t mekvalgs_replay(uint32_t *words, size_t length, uint32_t leaf, const uint32_t *keys, size_t n,
+                         const uint32_t *script, size_t script_length, uint8_t *answers, size_t places);
+
 /* The leafset of node x in its held set, bit s for node s. Answers 0, 1, 6, 7, 8; the set is empty where refused. */
 uint32_t mekvalgs_leafset(const uint32_t *words, size_t length, uint32_t x, uint64_t *set);
 

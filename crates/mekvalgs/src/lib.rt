@@ -7,11 +7,13 @@ ghost use Rattle.model.specs.Structs.{tableOf};
 ghost use Rattle.model.specs.Buffer.{openBuffer, playBuffer};
 ghost use Rattle.model.specs.Questions.{leafsetAnswer, leafsetOf, connectionAnswer, connectionOf, groupsAnswer, groupsOf};
 ghost use Rattle.model.specs.Events.{wordAnswer};
+ghost use Rattle.ring.specs.Replay.{Replayed};
 ghost use Rattle.mekvalgs.specs.Parts.{nodeOf, numbers, readParts, partsAnswer, writeParts};
 use model::values::NodeNumber;
 use ring::open;
 use ring::play;
 use ring::questions;
+use ring::replay;
 
 mod parts;
 
@@ -29,6 +31,20 @@ pub extern "C" fn mekvalgs_play(words: &mut [u32], word: u32) -> u32
     ensures { λ r. ⌜ (r ≡ numberOf (playBuffer (now (words .entry)) word .answer)) × (now (words .exit) ≡ playBuffer (now (words .entry)) word .words) ⌝ }
 {
     play::play(words, word).number()
+}
+
+// Opens a ring and plays the script on it; the answers' numbers, as far as there are places for them.
+#[no_mangle]
+pub extern "C" fn mekvalgs_replay(
+    words: &mut [u32],
+    leaf: u32,
+    keys: &[u32],
+    script: &[u32],
+    answers: &mut [u8],
+) -> u32
+    ensures { λ r. ⌜ (r ≡ numberOf (openBuffer (now (words .entry)) (tableOf leaf (now (keys .entry))) .answer)) × Replayed (now (words .entry)) (tableOf leaf (now (keys .entry))) (now (script .entry)) (now (answers .entry)) (openBuffer (now (words .entry)) (tableOf leaf (now (keys .entry))) .answer) (now (words .exit)) (now (answers .exit)) ⌝ }
+{
+    replay::replay(words, leaf, keys, script, answers).number()
 }
 
 // The leafset of node x in its held set.
