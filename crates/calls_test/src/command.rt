@@ -38,8 +38,7 @@ impl Command {
     // Writes the event of kind a with the parts b and c.
     pub const WRITE: u32 = 8;
 
-    // Opens as above, and plays the c words of the list after the keys. Every other number is taken for this one.
-    pub const REPLAY: u32 = 9;
+    // Every other number replays: opens as above, and plays the c words of the list after the keys.
 }
 
 pub enum Next {

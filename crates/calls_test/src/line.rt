@@ -3,7 +3,6 @@ ghost use Prim.Native.Nat.{_≤_};
 ghost use lib.ListN.{length};
 use super::calls::Outcome;
 use libc::STDOUT_FILENO;
-use lines;
 
 const NEWLINE: u8 = 10;
 

@@ -17,35 +17,36 @@ const MOST: u32 = 1_000_000;
 
 // A call, with its line: the command's number, the answer, the value, how many words the call changed, and the digest of
 // all words after it.
-fn call(command: Command, words: &mut [u32], before: &mut [u32], list: &[u32], places: &mut [u8])
-    requires { ⌜ length (now words) ≡ length (now before) ⌝ }
+fn call(command: Command, words: &mut [u32], list: &[u32], places: &mut [u8])
+    requires { ⌜ length (now words) ≡ 13442 ⌝ }
 {
-    memory::copy(words, before);
+    let mut before = [0u32; 13442];
+    memory::copy(words, &mut before);
     let outcome = calls::call(command, words, list, places);
-    let changed = memory::differing(before, words);
+    let changed = memory::differing(&before, words);
     line::print(command.number, outcome, changed, memory::digest(words));
 }
 
-fn run(command: Command, words: &mut [u32], before: &mut [u32], list: &mut [u32], places: &mut [u8])
-    requires { ⌜ length (now words) ≡ length (now before) ⌝ }
+fn run(command: Command, words: &mut [u32], list: &mut [u32], places: &mut [u8])
+    requires { ⌜ length (now words) ≡ 13442 ⌝ }
 {
     let number = command.number;
     match number {
         Command::FILL_WORDS => memory::fill(words, command.a, command.b, command.c),
         Command::FILL_LIST => memory::fill(list, command.a, command.b, command.c),
-        _ => call(command, words, before, list, places),
+        _ => call(command, words, list, places),
     }
 }
 
-fn run_all(words: &mut [u32], before: &mut [u32], list: &mut [u32], places: &mut [u8])
-    requires { ⌜ length (now words) ≡ length (now before) ⌝ }
+fn run_all(words: &mut [u32], list: &mut [u32], places: &mut [u8])
+    requires { ⌜ length (now words) ≡ 13442 ⌝ }
 {
     for _ in 0..MOST {
         let next = command::read();
         let Next::Command(command) = next else {
             return;
         };
-        run(command, words, before, list, places);
+        run(command, words, list, places);
     }
 }
 
@@ -53,8 +54,7 @@ fn run_all(words: &mut [u32], before: &mut [u32], list: &mut [u32], places: &mut
 // a replay.
 fn main() {
     let mut words = [0u32; 13442];
-    let mut before = [0u32; 13442];
     let mut list = [0u32; 1200];
     let mut places = [0u8; 1040];
-    run_all(&mut words, &mut before, &mut list, &mut places);
+    run_all(&mut words, &mut list, &mut places);
 }

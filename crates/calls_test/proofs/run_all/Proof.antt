@@ -6,11 +6,11 @@ use Rattle.calls_test.proofs.run_all.Statement.{statement}
 use Rattle.calls_test.proofs.run_all.Tie as tie
 
 abbrev Inv-loop : tie.InvT-loop
-Inv-loop words₀ before₀ list₀ places₀ counter₀ words before list places counter =
-    (length words ≡ length words₀) × (length before ≡ length before₀) × (length list ≡ length list₀) × (length places ≡ length places₀)
+Inv-loop words₀ list₀ places₀ counter₀ words list places counter =
+    (length words ≡ length words₀) × (length list ≡ length list₀) × (length places ≡ length places₀)
 
 abbrev μ-loop : tie.MeasureT-loop
-μ-loop words₀ before₀ list₀ places₀ counter₀ words before list places counter = 1000000 - counter
+μ-loop words₀ list₀ places₀ counter₀ words list places counter = 1000000 - counter
 
 pub run-all-spec : {M : Type 1} → statement M
 run-all-spec =
@@ -26,9 +26,7 @@ run-all-spec =
     (λ c. search needs)
     (λ c. search needs)
     (λ c. search needs)
-    (λ c. search needs)
     (λ c κs. search needs)
-    (λ c. search needs)
     (λ c. search needs)
     (λ c. search needs)
     (λ c. search needs)
