@@ -2,12 +2,12 @@
 
 use crate::ring::Ring;
 
-#[link(name = "ring", kind = "static")]
+#[link(name = "mekvalgs", kind = "static")]
 extern "C" {
     fn mekvalgs_open(words: *mut u32, len: usize, leaf: u32, keys: *const u32, n: usize) -> u32;
     fn mekvalgs_play(words: *mut u32, len: usize, word: u32) -> u32;
     fn mekvalgs_leafset(words: *const u32, len: usize, node: u32, set: *mut u64) -> u32;
-    fn mekvalgs_connected(words: *const u32, len: usize, a: u32, b: u32, yes: *mut bool) -> u32;
+    fn mekvalgs_connected(words: *const u32, len: usize, a: u32, b: u32, yes: *mut u32) -> u32;
     fn mekvalgs_groups(words: *const u32, len: usize, number: *mut u32) -> u32;
 }
 
@@ -36,8 +36,8 @@ impl Ring for Library {
     }
 
     fn connected(&self, words: &[u32], a: u32, b: u32) -> (u32, bool) {
-        let mut yes = true;
-        (unsafe { mekvalgs_connected(words.as_ptr(), words.len(), a, b, &mut yes) }, yes)
+        let mut yes = u32::MAX;
+        (unsafe { mekvalgs_connected(words.as_ptr(), words.len(), a, b, &mut yes) }, yes != 0)
     }
 
     fn groups(&self, words: &[u32]) -> (u32, u32) {
