@@ -8,12 +8,17 @@ use crate::ring::Ring;
 use crate::script::{Mix, Script};
 use crate::unbroken::Tested;
 use std::fmt;
+use std::sync::atomic::{AtomicBool, Ordering};
+use std::thread;
 
 pub struct Plan {
     pub seed: u64,
     pub events: u64,
     pub damaged: u64,
     pub mixes: Vec<Mix>,
+    /// Scripts have from 1 to this number of nodes.
+    pub nodes: usize,
+    pub threads: u64,
 }
 
 /// What a run did.
@@ -30,6 +35,19 @@ pub struct Tally {
     /// Accepted deliveries by type.
     pub delivered: [u64; 13],
     pub tested: Tested,
+}
+
+impl Tally {
+    fn add(&mut self, other: &Tally) {
+        self.scripts += other.scripts;
+        self.events += other.events;
+        self.damaged += other.damaged;
+        self.valid += other.valid;
+        self.questions += other.questions;
+        self.answers.iter_mut().zip(other.answers).for_each(|(sum, count)| *sum += count);
+        self.delivered.iter_mut().zip(other.delivered).for_each(|(sum, count)| *sum += count);
+        self.tested.add(other.tested);
+    }
 }
 
 impl fmt::Display for Tally {
@@ -53,19 +71,35 @@ pub struct Found {
     pub mix: Mix,
 }
 
-/// Plays scripts until the plan is fulfilled or something is found.
+/// Plays scripts until the plan is fulfilled or something is found. Each thread has every `threads`th script.
 pub fn run(plan: &Plan, rings: &[&dyn Ring]) -> (Tally, Option<Found>) {
+    let stop = AtomicBool::new(false);
+    let results: Vec<_> = thread::scope(|scope| {
+        let start = |first| scope.spawn({ let stop = &stop; move || run_thread(plan, rings, first, stop) });
+        let threads: Vec<_> = (0..plan.threads).map(start).collect();
+        threads.into_iter().map(|thread| thread.join().unwrap()).collect()
+    });
     let mut tally = Tally::default();
-    let mut script = 0;
-    while tally.events < plan.events {
+    let mut found: Option<Found> = None;
+    for (of_thread, of_thread_found) in results {
+        tally.add(&of_thread);
+        found = found.into_iter().chain(of_thread_found).min_by_key(|found| found.script);
+    }
+    (tally, found)
+}
+
+fn run_thread(plan: &Plan, rings: &[&dyn Ring], first: u64, stop: &AtomicBool) -> (Tally, Option<Found>) {
+    let mut tally = Tally::default();
+    let mut script = first;
+    while tally.events < plan.events / plan.threads && !stop.load(Ordering::Relaxed) {
         let mix = plan.mixes[script as usize % plan.mixes.len()];
-        // Every n from 1 to 64 in turn, small and large ones mixed.
-        let n = 1 + 37 * (script as usize / plan.mixes.len()) % 64;
-        let found = Play::new(plan, rings, script, mix, n).run(&mut tally);
-        if let Some((fault, case)) = found {
+        // Each n in turn, small and large ones mixed.
+        let n = 1 + 37 * (script as usize / plan.mixes.len()) % plan.nodes;
+        if let Some((fault, case)) = Play::new(plan, rings, script, mix, n).run(&mut tally) {
+            stop.store(true, Ordering::Relaxed);
             return (tally, Some(Found { fault, case, script, mix }));
         }
-        script += 1;
+        script += plan.threads;
     }
     (tally, None)
 }
@@ -150,12 +184,13 @@ impl<'a> Play<'a> {
     fn damage(&mut self, tally: &mut Tally) -> Result<(), Fault> {
         let before = self.runner.words().to_vec();
         let length = self.case.steps.len();
-        for poke in damage(&mut self.random, &before) {
+        let damage = damage(&mut self.random, &before);
+        for poke in damage.pokes {
             self.case.steps.push(poke);
             self.runner.step(poke)?;
         }
         tally.damaged += 1;
-        self.play_on_damaged(&before, tally)?;
+        self.play_on_damaged(damage.event, &before, tally)?;
         if self.random.percent(20) {
             self.ask(tally)?;
         }
@@ -165,11 +200,11 @@ impl<'a> Play<'a> {
     }
 
     /// Up to four events; one where the words no longer read as a ring.
-    fn play_on_damaged(&mut self, before: &[u32], tally: &mut Tally) -> Result<(), Fault> {
+    fn play_on_damaged(&mut self, first: Option<u32>, before: &[u32], tally: &mut Tally) -> Result<(), Fault> {
         let mut reads = false;
-        for _ in 0..4 {
+        for number in 0..4 {
             // Damage may leave any n: the choice is by the words before it.
-            let word = self.script.any(before);
+            let word = first.filter(|_| number == 0).unwrap_or_else(|| self.script.any(before));
             self.case.steps.push(Step::Play(word));
             let answer = self.runner.step(Step::Play(word))?;
             tally.answers[answer as usize] += 1;

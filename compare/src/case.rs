@@ -88,12 +88,27 @@ impl fmt::Display for Fault {
 pub struct Runner<'a> {
     rings: &'a [&'a dyn Ring],
     buffers: Vec<Vec<u32>>,
+    /// How many of them play: only the first, or all.
+    playing: usize,
     pub unbroken: Unbroken,
 }
 
 impl<'a> Runner<'a> {
     pub fn new(rings: &'a [&'a dyn Ring]) -> Runner<'a> {
-        Runner { rings, buffers: vec![vec![0; LENGTH]; rings.len()], unbroken: Unbroken::default() }
+        let buffers = vec![vec![0; LENGTH]; rings.len()];
+        Runner { rings, buffers, playing: rings.len(), unbroken: Unbroken::default() }
+    }
+
+    /// From now on only the first implementation plays.
+    pub fn lead(&mut self) {
+        self.playing = 1;
+    }
+
+    /// All play on from what the first one has.
+    pub fn join(&mut self) {
+        self.playing = self.rings.len();
+        let words = self.buffers[0].clone();
+        self.restore(&words);
     }
 
     /// The words of the first implementation.
@@ -136,7 +151,7 @@ impl<'a> Runner<'a> {
     /// One call on every implementation: the answers and all words have to agree.
     fn call(&mut self, mut call: impl FnMut(&dyn Ring, &mut [u32]) -> Outcome) -> Result<Outcome, Fault> {
         let first = call(self.rings[0], &mut self.buffers[0]);
-        for other in 1..self.rings.len() {
+        for other in 1..self.playing {
             let outcome = call(self.rings[other], &mut self.buffers[other]);
             if outcome != first || self.buffers[other] != self.buffers[0] {
                 return Err(self.difference(other, [first, outcome]));
@@ -165,55 +180,5 @@ impl<'a> Runner<'a> {
             }
         }
         Ok(answer)
-    }
-}
-
-impl Case {
-    /// The first fault of the case and the number of steps up to it. Demand 3 is judged until words are poked.
-    pub fn fault(&self, rings: &[&dyn Ring]) -> Option<(usize, Fault)> {
-        let mut runner = Runner::new(rings);
-        match runner.open(self.leaf, &self.keys) {
-            Err(fault) => return Some((0, fault)),
-            Ok(0) => {}
-            Ok(_) => return None,
-        }
-        let mut watched = true;
-        for (number, &step) in self.steps.iter().enumerate() {
-            watched &= !matches!(step, Step::Poke(..));
-            let outcome = match step {
-                Step::Play(word) if watched => runner.play_watched(word),
-                _ => runner.step(step),
-            };
-            if let Err(fault) = outcome {
-                return Some((number + 1, fault));
-            }
-        }
-        None
-    }
-
-    /// The case cut after its first fault, and without every chunk of steps that isn't needed for a fault of that sort.
-    pub fn shortened(&self, rings: &[&dyn Ring], sort: &Fault) -> Case {
-        let mut best = self.clone();
-        let mut chunk = best.steps.len().div_ceil(2);
-        loop {
-            let mut from = 0;
-            let mut dropped = false;
-            while from < best.steps.len() {
-                let mut trial = best.clone();
-                trial.steps.drain(from..(from + chunk).min(best.steps.len()));
-                match trial.fault(rings) {
-                    Some((length, fault)) if fault.same_sort(sort) => {
-                        trial.steps.truncate(length);
-                        best = trial;
-                        dropped = true;
-                    }
-                    _ => from += chunk,
-                }
-            }
-            if chunk == 1 && !dropped {
-                return best;
-            }
-            chunk = chunk.div_ceil(2);
-        }
     }
 }

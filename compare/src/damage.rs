@@ -1,70 +1,69 @@
-//! Damage to a valid ring: one to three places changed, by a bit or a field, in any region of the words. Some of it
-//! leaves a valid ring, at the edges of what the events reach.
+//! Damage to a valid ring, in any region of the words: single bits flipped, fields changed, often just in or out of
+//! range. Some of it leaves a valid ring that the events alone don't reach.
 
 use crate::case::Step;
 use crate::look;
 use crate::random::Random;
 
-const CLOCK_LIMIT: u32 = 0xFF_FFFF;
+const LIMIT: u32 = 0xFF_FFFF;
 
-/// The pokes of one damage.
-pub fn damage(random: &mut Random, words: &[u32]) -> Vec<Step> {
+/// What is overwritten, and where it matters which event looks at it, that event.
+pub struct Damage {
+    pub pokes: Vec<Step>,
+    pub event: Option<u32>,
+}
+
+/// One damage of the ring in the words.
+pub fn damage(random: &mut Random, words: &[u32]) -> Damage {
+    if random.percent(30) {
+        return scene(random, words);
+    }
     let changes = if random.percent(75) { 1 } else { 2 + random.below(2) };
-    let mut pokes = Vec::new();
-    for _ in 0..changes {
-        change(random, words, &mut pokes);
-    }
-    pokes
+    let pokes = (0..changes).map(|_| change(random, words)).collect();
+    Damage { pokes, event: None }
 }
 
-fn change(random: &mut Random, words: &[u32], pokes: &mut Vec<Step>) {
-    let (n, m) = (look::nodes(words), look::messages(words));
-    let (x, z) = (random.below(n), random.below(n));
-    let message = 8_321 + 5 * random.below(m.max(1));
-    let pair = 129 + 2 * (64 * x + z);
-    match random.below(10) {
-        0 => poke(random, words, pokes, 0, header),
-        1 => poke(random, words, pokes, 1 + 2 * x, |random, words| key(random, words, x)),
-        2 => poke(random, words, pokes, 2 + 2 * x, |random, words| clock(random, words, x, z)),
-        3 if x != z => poke(random, words, pokes, pair, |random, words| link(random, words, x, z)),
-        4 if x != z => poke(random, words, pokes, pair + 1, |random, words| spare(random, words, x, z)),
-        5 if x != z => hold(random, words, pokes, x, z),
-        6 => {
-            let at = 129 + 130 * x + random.below(2);
-            poke(random, words, pokes, at, |random, _| filled(random));
-        }
-        7 if m > 0 => poke(random, words, pokes, message, |random, words| head(random, words, message)),
-        8 if m > 0 => rest_of_message(random, words, pokes, message),
-        _ => {
-            let at = unused(random, n, m);
-            poke(random, words, pokes, at, |random, _| filled(random));
-        }
-    }
+fn pair_at(x: usize, z: usize) -> usize {
+    129 + 2 * (64 * x + z)
 }
 
-/// Overwrites a word: with one bit flipped, or by the region's edit.
-fn poke(
-    random: &mut Random,
-    words: &[u32],
-    pokes: &mut Vec<Step>,
-    at: usize,
-    edit: impl Fn(&mut Random, &[u32]) -> u32,
-) {
-    let value = if random.percent(40) { words[at] ^ 1 << random.below(32) } else { edit(random, words) };
-    pokes.push(Step::Poke(at, value));
+fn message_at(position: usize) -> usize {
+    8_321 + 5 * position
 }
 
-/// The word with the bits from `low`, `width` of them, set to the value.
+/// The word with `width` bits from `low` on set to the value.
 pub fn with(word: u32, low: u32, width: u32, value: u32) -> u32 {
     let field = ((1u64 << width) - 1) as u32;
     word & !(field << low) | (value & field) << low
+}
+
+// Single words.
+
+/// A word of a random region, with one bit flipped or a field changed.
+fn change(random: &mut Random, words: &[u32]) -> Step {
+    let (n, m) = (look::nodes(words), look::messages(words));
+    let (x, z) = (random.below(n), random.below(n));
+    let message = message_at(random.below(m.max(1)));
+    let (at, value) = match random.below(9) {
+        0 => (0, header(random, words)),
+        1 => (1 + 2 * x, key(random, words, x)),
+        2 => (2 + 2 * x, clock(random, words, x, z)),
+        3 if x != z => (pair_at(x, z), link(random, words, x, z)),
+        4 if x != z => (pair_at(x, z) + 1, spare(random, words, x, z)),
+        5 => (pair_at(x, x) + random.below(2), filled(random)),
+        6 if m > 0 => (message, head(random, words, message)),
+        7 if m > 0 => rest(random, words, message),
+        _ => (unused(random, n, m), filled(random)),
+    };
+    let flip = random.percent(40);
+    Step::Poke(at, if flip { words[at] ^ 1 << random.below(32) } else { value })
 }
 
 fn header(random: &mut Random, words: &[u32]) -> u32 {
     let (n, m) = (look::nodes(words) as u32, look::messages(words) as u32);
     match random.below(4) {
         0 => with(words[0], 0, 4, random.below(16) as u32),
-        1 => with(words[0], 4, 7, random.pick(&[0, n.wrapping_sub(1), n + 1, 64, 65, 127])),
+        1 => with(words[0], 4, 7, random.pick(&[0, n - 1, n + 1, 64, 65, 127])),
         2 => with(words[0], 11, 11, random.pick(&[0, m.wrapping_sub(1), m + 1, 1_024, 1_025, 2_047])),
         _ => with(words[0], 22, 10, random.word()),
     }
@@ -74,7 +73,7 @@ fn key(random: &mut Random, words: &[u32], x: usize) -> u32 {
     let other = random.below(look::nodes(words));
     match random.below(4) {
         0 => with(words[1 + 2 * x], 0, 24, look::key(words, other)),
-        1 => with(words[1 + 2 * x], 0, 24, random.pick(&[0, 1, CLOCK_LIMIT])),
+        1 => with(words[1 + 2 * x], 0, 24, random.pick(&[0, 1, LIMIT])),
         2 => words[1 + 2 * x] ^ 1 << 24,
         _ => with(words[1 + 2 * x], 24, 8, random.word()),
     }
@@ -82,19 +81,19 @@ fn key(random: &mut Random, words: &[u32], x: usize) -> u32 {
 
 /// The limit, or round the commit stamp of (x, z).
 fn clock(random: &mut Random, words: &[u32], x: usize, z: usize) -> u32 {
-    let commit = words[129 + 2 * (64 * x + z)] & CLOCK_LIMIT;
-    let values = [CLOCK_LIMIT, CLOCK_LIMIT - 1, commit, commit.wrapping_sub(1), 0, random.word()];
+    let (commit, any) = (words[pair_at(x, z)] & LIMIT, random.word());
+    let values = [LIMIT, LIMIT - 1, commit, commit.wrapping_sub(1), 0, any];
     with(words[2 + 2 * x], 0, 24, random.pick(&values))
 }
 
 fn link(random: &mut Random, words: &[u32], x: usize, z: usize) -> u32 {
-    let (word, clock, any) = (words[129 + 2 * (64 * x + z)], look::clock(words, x), random.word());
+    let (word, clock, any) = (words[pair_at(x, z)], look::clock(words, x), random.word());
     match random.below(5) {
         0 => with(word, 0, 24, random.pick(&[0, 1, clock, clock + 1, any])),
         1 => word ^ 1 << 24,
         2 => word ^ 1 << 25,
         3 => with(word, 0, 25, 1 << 24 | random.pick(&[0, 1, clock, clock + 1])),
-        _ => with(word, 26, 6, random.word()),
+        _ => with(word, 26, 6, any),
     }
 }
 
@@ -104,16 +103,7 @@ fn spare(random: &mut Random, words: &[u32], x: usize, z: usize) -> u32 {
     4 << 28 | random.pick(&[x as u32, z as u32, n - 1, n, 64, 65, 127, any, any % n])
 }
 
-/// The pair held with some commit stamp and spare: mostly a valid ring where x runs.
-fn hold(random: &mut Random, words: &[u32], pokes: &mut Vec<Step>, x: usize, z: usize) {
-    let at = 129 + 2 * (64 * x + z);
-    let clock = look::clock(words, x);
-    let commit = 1 + random.below(clock.max(1) as usize) as u32;
-    let spare = if random.percent(80) { random.below(look::nodes(words)) as u32 } else { 64 };
-    pokes.push(Step::Poke(at, with(words[at], 0, 25, 1 << 24 | commit)));
-    pokes.push(Step::Poke(at + 1, 4 << 28 | spare));
-}
-
+/// The first word of a message.
 fn head(random: &mut Random, words: &[u32], message: usize) -> u32 {
     let (word, n) = (words[message], look::nodes(words) as u32);
     let (sender, receiver) = (word >> 4 & 63, word >> 10 & 63);
@@ -127,50 +117,83 @@ fn head(random: &mut Random, words: &[u32], message: usize) -> u32 {
     }
 }
 
-/// A message's stamp, its view, or its type with the fields that the type uses.
-fn rest_of_message(random: &mut Random, words: &[u32], pokes: &mut Vec<Step>, message: usize) {
-    let (word, n) = (words[message], look::nodes(words));
-    let receiver = (word >> 10 & 63) as usize;
-    let subject = random.below(n) as u32;
-    match random.below(5) {
-        0 => poke(random, words, pokes, message + 1, |random, _| 7 << 28 | random.pick(&[0, 1, CLOCK_LIMIT])),
-        1 => {
-            let s = random.pick(&[receiver, n - 1, n.min(63), subject as usize]);
-            let at = message + 2 + s / 24;
-            pokes.push(Step::Poke(at, words[at] ^ 1 << (s % 24)));
-        }
-        2 => poke(random, words, pokes, message + 4, |random, words| words[message + 4] ^ 1 << (16 + random.below(8))),
-        3 => {
-            pokes.push(Step::Poke(message, with(with(word, 0, 4, 4), 16, 7, 64)));
-            pokes.push(Step::Poke(message + 1, 7 << 28));
-            let at = message + 2 + receiver / 24;
-            pokes.push(Step::Poke(at, with(words[at], 0, 16, random.word()) & !(1 << (receiver % 24))));
-        }
-        _ => {
-            let kind = random.pick(&[9, 10, 11]);
-            let stamp = if kind == 11 { 0 } else { random.pick(&[0, 1, look::clock(words, receiver), CLOCK_LIMIT]) };
-            pokes.push(Step::Poke(message, with(with(word, 0, 4, kind), 16, 7, subject)));
-            pokes.push(Step::Poke(message + 1, 7 << 28 | stamp));
-            (2..5).for_each(|part| pokes.push(Step::Poke(message + part, 8 << 28)));
-        }
+/// The stamp or a view word of a message.
+fn rest(random: &mut Random, words: &[u32], message: usize) -> (usize, u32) {
+    let n = look::nodes(words);
+    let receiver = (words[message] >> 10 & 63) as usize;
+    let any = random.below(64);
+    let s = random.pick(&[receiver, n - 1, n.min(63), any]);
+    match random.below(3) {
+        0 => (message + 1, 7 << 28 | random.pick(&[0, 1, LIMIT])),
+        1 => (message + 2 + s / 24, words[message + 2 + s / 24] ^ 1 << (s % 24)),
+        _ => (message + 4, words[message + 4] ^ 1 << (16 + random.below(8))),
     }
 }
 
-/// A word that belongs to no node, pair or message.
+/// A word that belongs to no node, pair or message, where there is such a one: any, or at the edge of its region.
 fn unused(random: &mut Random, n: usize, m: usize) -> usize {
-    let node = |random: &mut Random| n + random.below((64 - n).max(1));
+    if n < 64 && m < 1_024 && random.percent(20) {
+        return random.pick(&[1 + 2 * n, 128, pair_at(0, n), pair_at(n, 0), 8_320, message_at(m), 13_440]);
+    }
+    let node = n + random.below((64 - n).max(1));
     let at = match random.below(4) {
-        0 if n < 64 => 1 + 2 * node(random),
-        1 if n < 64 => 129 + 2 * (64 * random.below(n) + node(random)),
-        2 if n < 64 => 129 + 2 * (64 * node(random) + random.below(64)),
-        _ if m < 1_024 => 8_321 + 5 * (m + random.below(1_024 - m)) + random.below(4),
-        _ => 129,
+        0 if n < 64 => 1 + 2 * node,
+        1 if n < 64 => pair_at(random.below(n), node),
+        2 if n < 64 => pair_at(node, random.below(64)),
+        _ if m < 1_024 => message_at(m + random.below(1_024 - m)) + random.below(4),
+        _ => pair_at(0, 0),
     };
     at + random.below(2)
 }
 
-/// What may stand wrongly in an unused word: what a used one has, or one bit.
+/// What may be wrongly in an unused word: what a used one has, or one bit.
 fn filled(random: &mut Random) -> u32 {
     let bit = 1 << random.below(32);
     random.pick(&[2 << 28, 5 << 28, 3 << 28, 4 << 28 | 64, 6 << 28, 8 << 28, 0x3100_0001, bit, bit])
+}
+
+// Scenes: several words that belong together, mostly a valid ring, and the event that meets them.
+
+fn scene(random: &mut Random, words: &[u32]) -> Damage {
+    let (n, m) = (look::nodes(words), look::messages(words));
+    let (x, y, z) = (random.below(n), random.below(n), random.below(n));
+    if m == 0 || x == y || random.percent(10) {
+        return last_tick(random, words, x);
+    }
+    let position = if random.percent(80) { 0 } else { random.below(m) };
+    let mut pokes = Vec::new();
+    let kind = 1 + random.below(12) as u32;
+    let awaited = kind == 10 && z != x && z != y;
+    let commit = if awaited { held(random, words, &mut pokes, x, z, y) } else { words[pair_at(x, z)] & LIMIT };
+    let stamps = [commit, commit, commit.saturating_sub(1), (commit + 1).min(LIMIT), 0, LIMIT];
+    let subject = match kind {
+        8..=11 => z as u32,
+        _ => 64,
+    };
+    let stamp = if kind == 9 || kind == 10 { random.pick(&stamps) } else { 0 };
+    let view = if kind == 4 { random.next() & u64::MAX >> (64 - n) & !(1 << x) } else { 0 };
+    let at = message_at(position);
+    pokes.push(Step::Poke(at, 6 << 28 | subject << 16 | (x as u32) << 10 | (y as u32) << 4 | kind));
+    pokes.push(Step::Poke(at + 1, 7 << 28 | stamp));
+    for part in 0..3 {
+        pokes.push(Step::Poke(at + 2 + part, 8 << 28 | (view >> (24 * part)) as u32 & LIMIT));
+    }
+    Damage { pokes, event: Some(14 << 28 | position as u32) }
+}
+
+/// x holds z, with a commit stamp that is the result, and y as spare.
+fn held(random: &mut Random, words: &[u32], pokes: &mut Vec<Step>, x: usize, z: usize, y: usize) -> u32 {
+    let at = pair_at(x, z);
+    let commit = 1 + random.below(look::clock(words, x).max(1) as usize) as u32;
+    pokes.push(Step::Poke(at, with(words[at], 0, 25, 1 << 24 | commit)));
+    pokes.push(Step::Poke(at + 1, 4 << 28 | y as u32));
+    commit
+}
+
+/// The clock of x at its limit or one below, and an event there.
+fn last_tick(random: &mut Random, words: &[u32], x: usize) -> Damage {
+    let clock = LIMIT - random.below(2) as u32;
+    let x_and_kind = random.pick(&[9 << 28, 10 << 28, 13 << 28, 13 << 28 | 1 << 12]) | x as u32;
+    let event = if look::is_running(words, x) { x_and_kind } else { 9 << 28 | x as u32 };
+    Damage { pokes: vec![Step::Poke(2 + 2 * x, 5 << 28 | clock)], event: Some(event) }
 }

@@ -16,9 +16,28 @@ pub mod reference;
 pub mod ring;
 pub mod script;
 pub mod self_test;
+pub mod shorten;
 pub mod speed;
 pub mod unbroken;
 pub mod vectors;
 
+use ring::Ring;
+
 /// "A ring fills 13,441 words of 32 bits."
 pub const LENGTH: usize = 13_441;
+
+/// The library, where it is linked, and the reference.
+pub fn fast_rings() -> Vec<&'static dyn Ring> {
+    vec![
+        #[cfg(feature = "library")]
+        &library::Library,
+        &reference::Reference,
+    ]
+}
+
+/// These and the plain implementation.
+pub fn every_ring() -> Vec<&'static dyn Ring> {
+    let mut rings = fast_rings();
+    rings.push(&plain::Plain { slip: None });
+    rings
+}

@@ -1,18 +1,17 @@
 //! compare [MODE] [NAME=VALUE..]: see README.md.
 
 use compare::agree::{self, Found, Plan};
-use compare::plain::Plain;
-use compare::reference::Reference;
 use compare::ring::Ring;
 use compare::script::Mix;
-use compare::{edges, self_test, speed, vectors};
+use compare::{edges, every_ring, fast_rings, self_test, speed, vectors};
 use std::path::Path;
 use std::process::ExitCode;
 use std::time::Instant;
 
 const USAGE: &str = "compare [all | agree | unbroken | self-test | speed | vectors]
-    [seed=1] [events=5000000] [damaged=1000000] [mixes=gentle,chaos,garbage,replacement]
-    [vectors=FOLDER] [show=SLIP]";
+    [seed=1] [events=5000000] [damaged=1000000] [nodes=64] [threads=CORES]
+    [mixes=gentle,chaos,garbage,replacement]
+    [vectors=FOLDER] [slip=NAME]";
 
 struct Options {
     mode: String,
@@ -20,38 +19,32 @@ struct Options {
     /// The mixes for demand 3.
     steady: Vec<Mix>,
     vectors: Option<String>,
-    show: Option<String>,
+    slip: Option<String>,
 }
 
 fn options() -> Option<Options> {
-    let plan = Plan { seed: 1, events: 5_000_000, damaged: 1_000_000, mixes: Mix::ALL.to_vec() };
+    let threads = std::thread::available_parallelism().map_or(1, |count| count.get() as u64);
+    let plan = Plan { seed: 1, events: 5_000_000, damaged: 1_000_000, mixes: Mix::ALL.to_vec(), nodes: 64, threads };
     let steady = vec![Mix::Gentle, Mix::Replacement];
-    let mut options = Options { mode: "all".to_string(), plan, steady, vectors: None, show: None };
+    let mut options = Options { mode: "all".to_string(), plan, steady, vectors: None, slip: None };
     for word in std::env::args().skip(1) {
         match word.split_once('=') {
             None => options.mode = word,
             Some(("seed", value)) => options.plan.seed = value.parse().ok()?,
             Some(("events", value)) => options.plan.events = value.parse().ok()?,
             Some(("damaged", value)) => options.plan.damaged = value.parse().ok()?,
+            Some(("nodes", value)) => options.plan.nodes = value.parse().ok().filter(|n| (1..=64).contains(n))?,
+            Some(("threads", value)) => options.plan.threads = value.parse().ok().filter(|&count| count > 0)?,
             Some(("mixes", value)) => {
                 options.plan.mixes = value.split(',').map(Mix::named).collect::<Option<_>>()?;
                 options.steady = options.plan.mixes.clone();
             }
             Some(("vectors", value)) => options.vectors = Some(value.to_string()),
-            Some(("show", value)) => options.show = Some(value.to_string()),
+            Some(("slip", value)) => options.slip = Some(value.to_string()),
             Some(_) => return None,
         }
     }
     Some(options)
-}
-
-/// The library, where it is linked, and the reference.
-fn fast_rings() -> Vec<&'static dyn Ring> {
-    vec![
-        #[cfg(feature = "library")]
-        &compare::library::Library,
-        &Reference,
-    ]
 }
 
 fn main() -> ExitCode {
@@ -62,7 +55,7 @@ fn main() -> ExitCode {
     let good = match options.mode.as_str() {
         "agree" => agree_all(&options.plan),
         "unbroken" => unbroken(&options),
-        "self-test" => self_test::run(options.plan.seed, options.show.as_deref()) == 0,
+        "self-test" => self_test::run(&options.plan, options.slip.as_deref()) == 0,
         "speed" => speed_table(),
         "vectors" => stored(&options),
         "all" => {
@@ -106,12 +99,6 @@ fn stored(options: &Options) -> bool {
     good
 }
 
-fn every_ring() -> Vec<&'static dyn Ring> {
-    let mut rings = fast_rings();
-    rings.push(&Plain { slip: None });
-    rings
-}
-
 /// All implementations in step.
 fn agree_all(plan: &Plan) -> bool {
     let rings = every_ring();
@@ -141,10 +128,7 @@ fn nothing(plan: &Plan, rings: &[&dyn Ring], found: Option<Found>) -> bool {
     let Some(Found { fault, case, script, mix }) = found else { return true };
     println!("FOUND by seed {}, script {script}, {}, after {} steps", plan.seed, mix.name(), case.steps.len());
     println!("{fault}");
-    let short = case.shortened(rings, &fault);
-    println!("shortened to {} steps:\n{short}", short.steps.len());
-    if let Some((_, fault)) = short.fault(rings) {
-        println!("{fault}");
-    }
+    let (short, fault) = case.shortened(rings, &fault);
+    println!("shortened to {} steps:\n{short}\n{fault}", short.steps.len());
     false
 }

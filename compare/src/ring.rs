@@ -1,6 +1,6 @@
 //! The calls that every implementation has. An answer is 0, accepted, or the refusal's number of document 01.
 
-pub trait Ring {
+pub trait Ring: Sync {
     fn name(&self) -> &'static str;
 
     /// Writes the initial ring of L and the keys over the words.

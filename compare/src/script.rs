@@ -28,20 +28,36 @@ impl Mix {
     }
 
     /// How often each choice comes, beside the others.
-    fn weights(self) -> [(Choice, usize); 13] {
+    fn weights(self) -> [(Choice, usize); 15] {
         use Choice::*;
-        let of = match self {
-            //                 on off no wr co t0 t1 t2 t3 t4 deliver lose garbage
-            Mix::Gentle =>      [2, 1, 10, 0, 30, 40, 40, 20, 20, 15, 600, 15, 0],
-            Mix::Chaos =>       [30, 12, 15, 20, 80, 30, 30, 30, 30, 30, 350, 60, 0],
-            Mix::Garbage =>     [30, 12, 15, 20, 80, 30, 30, 30, 30, 30, 350, 60, 250],
-            Mix::Replacement => [1, 0, 5, 0, 60, 4, 4, 20, 60, 4, 800, 10, 0],
+        let [on, off, notice, wrong, contact, deliver, lose, anything] = match self {
+            Mix::Gentle => [2, 1, 10, 0, 30, 600, 15, 0],
+            Mix::Chaos => [30, 12, 15, 20, 80, 350, 60, 0],
+            Mix::Garbage => [30, 12, 15, 20, 80, 350, 60, 250],
+            Mix::Replacement => [6, 3, 6, 0, 60, 800, 10, 0],
         };
-        let choices = [
-            On, Off, NoticeOfOff, NoticeOfAny, Contact, Timer(0), Timer(1), Timer(2), Timer(3), Timer(4), Deliver, Lose,
-            Anything,
-        ];
-        std::array::from_fn(|k| (choices[k], of[k]))
+        let [timer_0, timer_1, timer_2, timer_3, timer_4, sweep, restart] = match self {
+            Mix::Gentle => [40, 40, 20, 20, 15, 2, 0],
+            Mix::Chaos | Mix::Garbage => [30, 30, 30, 30, 30, 2, 5],
+            Mix::Replacement => [4, 4, 20, 40, 4, 10, 6],
+        };
+        [
+            (On, on),
+            (Off, off),
+            (NoticeOfOff, notice),
+            (NoticeOfAny, wrong),
+            (Contact, contact),
+            (Deliver, deliver),
+            (Lose, lose),
+            (Anything, anything),
+            (Timer(0), timer_0),
+            (Timer(1), timer_1),
+            (Timer(2), timer_2),
+            (Timer(3), timer_3),
+            (Timer(4), timer_4),
+            (Sweep, sweep),
+            (Restart, restart),
+        ]
     }
 }
 
@@ -56,6 +72,10 @@ enum Choice {
     Deliver,
     Lose,
     Anything,
+    /// Timer 2 or 3 at every node of the circle.
+    Sweep,
+    /// A node goes off and on again at once: it holds nobody, and those that hold it don't know.
+    Restart,
 }
 
 pub struct Script {
@@ -64,8 +84,10 @@ pub struct Script {
     n: usize,
     /// With fewer messages in flight more are sent; with more, mostly deliveries follow.
     crowd: usize,
-    /// Nodes that are to be switched on before anything else.
-    waiting: Vec<usize>,
+    /// How many of 100 contacts are made: with few of them links are few, and each one matters.
+    contacts: usize,
+    /// Words that come before anything else, the last first.
+    waiting: Vec<u32>,
     /// Events are mostly at these nodes: some that link up densely, or all.
     circle: Vec<usize>,
 }
@@ -73,17 +95,22 @@ pub struct Script {
 impl Script {
     pub fn new(mut random: Random, mix: Mix, n: usize) -> Script {
         let crowd = random.pick(&[3, 20, 80, 300, 900, 2_000]);
+        let contacts = random.pick(&[100, 100, 25, 5]);
         let share = random.pick(&[60, 90, 100]);
-        let waiting = (0..n).filter(|_| random.percent(share)).collect();
-        let size = if mix == Mix::Replacement { 4 + random.below(13) } else { n };
+        let waiting = (0..n as u32).filter(|_| random.percent(share)).map(|x| 9 << 28 | x).collect();
+        let size = if mix == Mix::Replacement { 4 + random.below(7) } else { n };
         let first = random.below(n);
         let circle = (0..size.min(n)).map(|k| (first + k) % n).collect();
-        Script { random, mix, n, crowd, waiting, circle }
+        Script { random, mix, n, crowd, contacts, waiting, circle }
     }
 
     /// L, small more often than not so that nodes lie outside leafsets, and n different keys.
     pub fn opening(&mut self) -> (u32, Vec<u32>) {
-        let leaf = if self.random.percent(60) { 1 + self.random.below(2) } else { 1 + self.random.below(8) };
+        let leaf = match (self.mix, self.random.below(100)) {
+            (Mix::Replacement, 0..80) => 1,
+            (_, 0..60) => 1 + self.random.below(2),
+            _ => 1 + self.random.below(8),
+        };
         let style = self.random.below(4);
         let mut keys: Vec<u32> = Vec::new();
         while keys.len() < self.n {
@@ -104,23 +131,29 @@ impl Script {
 
     /// The next event word, chosen by the ring in the words.
     pub fn next(&mut self, words: &[u32]) -> u32 {
-        if let Some(x) = self.waiting.pop() {
-            return 9 << 28 | x as u32;
+        match self.waiting.pop() {
+            Some(word) => word,
+            None => self.any(words),
         }
-        self.any(words)
     }
 
     /// An event word by the mix.
     pub fn any(&mut self, words: &[u32]) -> u32 {
-        let choice = self.choose(look::messages(words));
-        self.word_of(choice, words)
+        let messages = look::messages(words);
+        let choice = match self.choose(messages) {
+            Choice::Contact if !self.random.percent(self.contacts) => self.random.pick(&[Choice::Timer(3), Choice::Deliver]),
+            choice => choice,
+        };
+        let idle = choice == Choice::Deliver && messages == 0 && self.random.percent(90);
+        self.word_of(if idle { Choice::Contact } else { choice }, words)
     }
 
     fn choose(&mut self, messages: usize) -> Choice {
         if messages > self.crowd && self.random.percent(90) {
             return Choice::Deliver;
         }
-        if messages < self.crowd && self.random.percent(20) {
+        let eagerness = if self.crowd < 900 { 20 } else { 60 };
+        if messages < self.crowd && self.random.percent(eagerness) {
             let asking = if self.mix == Mix::Replacement { Choice::Timer(2) } else { Choice::Timer(0) };
             return self.random.pick(&[Choice::Contact, asking, Choice::Timer(3)]);
         }
@@ -128,8 +161,7 @@ impl Script {
         let mut left = self.random.below(weights.iter().map(|&(_, weight)| weight).sum());
         for (choice, weight) in weights {
             if left < weight {
-                let idle = choice == Choice::Deliver && messages == 0 && self.random.percent(90);
-                return if idle { Choice::Contact } else { choice };
+                return choice;
             }
             left -= weight;
         }
@@ -147,6 +179,16 @@ impl Script {
             Choice::Deliver => 14 << 28 | self.position(words),
             Choice::Lose => 15 << 28 | self.position(words),
             Choice::Anything => self.anything(),
+            Choice::Sweep => {
+                let timer = 13 << 28 | (2 + self.random.below(2) as u32) << 12;
+                self.waiting.extend(self.circle.iter().map(|&x| timer | x as u32));
+                timer | self.node(words, true)
+            }
+            Choice::Restart => {
+                let x = self.node(words, true);
+                self.waiting.push(9 << 28 | x);
+                10 << 28 | x
+            }
         }
     }
 

@@ -7,25 +7,25 @@ use crate::ring::Ring;
 use crate::script::Mix;
 
 /// Wrong programs that part nodes: found by demand 3 alone, without another implementation.
-const PARTING: [Slip; 4] =
-    [Slip::ReleaseAtTimer3, Slip::ReleaseWithoutHold, Slip::CommitIgnored, Slip::CommitNotRenewed];
+const PARTING: [Slip; 2] = [Slip::ReleaseAtTimer3, Slip::ReleaseWithoutHold];
 
-/// How many wrong programs were not found.
-pub fn run(seed: u64, show: Option<&str>) -> usize {
-    let agreement = Plan { seed, events: 1_000_000, damaged: 1_000_000, mixes: Mix::ALL.to_vec() };
-    let demand_3 = Plan { seed, events: 10_000_000, damaged: 0, mixes: vec![Mix::Replacement] };
-    let by_difference = Slip::ALL.into_iter().filter(|&slip| {
+/// How many wrong programs were not found. Where one is named, only that, and its case is shown.
+pub fn run(plan: &Plan, only: Option<&str>) -> usize {
+    let wanted = |slip: &Slip| only.is_none_or(|only| only == format!("{slip:?}"));
+    let agreement = Plan { events: 300_000, damaged: 300_000, mixes: Mix::ALL.to_vec(), ..*plan };
+    let demand_3 = Plan { events: 10_000_000, damaged: 0, mixes: vec![Mix::Replacement], nodes: 10, ..*plan };
+    let by_difference = Slip::ALL.into_iter().filter(wanted).filter(|&slip| {
         let wrong = Plain { slip: Some(slip) };
-        !finds(&agreement, &[&Reference, &wrong], slip, show)
+        !finds(&agreement, &[&Reference, &wrong], slip, only.is_some())
     });
-    let by_demand_3 = PARTING.into_iter().filter(|&slip| {
+    let by_demand_3 = PARTING.into_iter().filter(wanted).filter(|&slip| {
         let wrong = Plain { slip: Some(slip) };
-        !finds(&demand_3, &[&wrong], slip, show)
+        !finds(&demand_3, &[&wrong], slip, only.is_some())
     });
     by_difference.count() + by_demand_3.count()
 }
 
-fn finds(plan: &Plan, rings: &[&dyn Ring], slip: Slip, show: Option<&str>) -> bool {
+fn finds(plan: &Plan, rings: &[&dyn Ring], slip: Slip, show: bool) -> bool {
     let (tally, found) = agree::run(plan, rings);
     let name = format!("{slip:?}");
     let way = if rings.len() > 1 { "difference" } else { "demand 3" };
@@ -33,7 +33,7 @@ fn finds(plan: &Plan, rings: &[&dyn Ring], slip: Slip, show: Option<&str>) -> bo
         println!("{name:<20} {way:<11} NOT FOUND in {} events, {} damaged buffers", tally.events, tally.damaged);
         return false;
     };
-    let short = case.shortened(rings, &fault);
+    let (short, fault) = case.shortened(rings, &fault);
     println!(
         "{name:<20} {way:<11} {} after {} events and {} damaged buffers; shortened from {} steps to {}",
         mix.name(),
@@ -42,7 +42,7 @@ fn finds(plan: &Plan, rings: &[&dyn Ring], slip: Slip, show: Option<&str>) -> bo
         case.steps.len(),
         short.steps.len()
     );
-    if show == Some(&name) {
+    if show {
         println!("{fault}\n{short}");
     }
     true

@@ -97,32 +97,38 @@ fn held(words: &[u32]) -> usize {
     words[129..8_321].iter().filter(|&&word| word >> 28 == 3 && word >> 24 & 1 == 1).count()
 }
 
-/// The table: the two main loads, then growth with n and with m.
+/// The tables: two usual loads, growth with n, growth with m.
 pub fn report(rings: &[&dyn Ring]) {
-    print!("{:<28}", "");
-    rings.iter().for_each(|ring| print!("{:>12}", ring.name()));
-    println!("{:>12}   ratios", "plain pass");
+    let names: Vec<&str> = rings.iter().map(|ring| ring.name()).chain(["plain pass"]).collect();
+    print!("{:<44}", "nanoseconds an event");
+    names.iter().for_each(|name| print!("{name:>12}"));
+    for (place, name) in names.iter().enumerate() {
+        names[place + 1..].iter().for_each(|other| print!("  {:>20}", format!("{name}/{other}")));
+    }
+    println!();
+    let builder = rings[rings.len() - 1];
     for (n, leaf, messages) in [(64, 8, 700), (64, 2, 700), (16, 2, 200)] {
-        line(rings, &Load::new(rings[0], n, leaf, messages));
+        line(rings, &Load::new(builder, n, leaf, messages));
     }
+    println!("with n");
     for n in [1, 2, 4, 8, 16, 32, 64] {
-        line(rings, &Load::new(rings[0], n, 2, 100));
+        line(rings, &Load::new(builder, n, 2, 100));
     }
-    for m in [1, 100, 300, 500, 700, 900, 1_000] {
-        line(rings, &Load::new(rings[0], 64, 2, m));
+    println!("with m");
+    for messages in [0, 100, 300, 500, 700, 1_000] {
+        line(rings, &Load::new(builder, 64, 2, messages));
     }
 }
 
 fn line(rings: &[&dyn Ring], load: &Load) {
-    let words = &load.words;
-    let (times, pass) = measure(load, rings);
-    let head = format!(
-        "n={} L={} m={} held={} sp={}",
-        look::nodes(words), look::leaf(words), look::messages(words), held(words), spares(words)
-    );
-    print!("{head:<28}");
+    let (n, leaf, messages) = (look::nodes(&load.words), look::leaf(&load.words), look::messages(&load.words));
+    let head = format!("  n {n}, L {leaf}, m {messages}, {} held, {} spares", held(&load.words), spares(&load.words));
+    print!("{head:<44}");
+    let (mut times, pass) = measure(load, rings);
+    times.push(pass);
     times.iter().for_each(|time| print!("{time:>12.0}"));
-    print!("{pass:>12.0}  ");
-    times.iter().for_each(|time| print!(" {:.2}", time / pass));
+    for (place, time) in times.iter().enumerate() {
+        times[place + 1..].iter().for_each(|other| print!("  {:>20.2}", time / other));
+    }
     println!();
 }
