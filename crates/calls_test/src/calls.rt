@@ -4,9 +4,8 @@ use super::event_word;
 use super::memory;
 use model::answer::Answer;
 use model::values::NodeNumber;
-use ring::open;
+use opening::open;
 use ring::play;
-use ring::questions;
 use ring::replay;
 
 // The answer's number, and the value that comes with it: 0 where none does.
@@ -45,7 +44,7 @@ pub fn node(number: u32) -> NodeNumber {
 
 fn opened(words: &mut [u32], command: Command, list: &[u32]) -> Outcome {
     let n = memory::at_most(command.b, list);
-    Outcome::new(open::open(words, command.a, &list[..n]), 0)
+    Outcome::new(open(words, command.a, &list[..n]), 0)
 }
 
 fn leafset_of(words: &[u32], x: NodeNumber) -> Outcome {

@@ -5,3 +5,4 @@ pub mod Acted
 pub mod Actors
 pub mod Lent
 pub mod Delivery
+pub mod LentBuffer

@@ -10,9 +10,8 @@ ghost use Rattle.model.specs.Events.{wordAnswer};
 ghost use Rattle.ring.specs.Replay.{Replayed};
 ghost use Rattle.mekvalgs.specs.Parts.{nodeOf, numbers, readParts, partsAnswer, writeParts};
 use model::values::NodeNumber;
-use ring::open;
+use opening::open;
 use ring::play;
-use ring::questions;
 use ring::replay;
 
 mod parts;
@@ -22,7 +21,7 @@ mod parts;
 pub extern "C" fn mekvalgs_open(words: &mut [u32], leaf: u32, keys: &[u32]) -> u32
     ensures { λ r. ⌜ (r ≡ numberOf (openBuffer (now (words .entry)) (tableOf leaf (now (keys .entry))) .answer)) × (now (words .exit) ≡ openBuffer (now (words .entry)) (tableOf leaf (now (keys .entry))) .words) ⌝ }
 {
-    open::open(words, leaf, keys).number()
+    open(words, leaf, keys).number()
 }
 
 // Plays an event word.

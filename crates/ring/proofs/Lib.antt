@@ -1,6 +1,2 @@
-pub mod Lent
-pub mod Opened
-pub mod Asked
-pub mod Held
 pub mod Plays
 pub mod Replays

@@ -7,8 +7,8 @@ ghost use Rattle.model.specs.Words.{readsAsRing};
 ghost use Rattle.model.specs.Structs.{tableOf};
 ghost use Rattle.ring.specs.Replay.{PlayedUpTo, Replayed};
 use super::checked;
-use super::open;
 use model::answer::Answer;
+use opening::open;
 
 // Writes the answer's number to place i, if there is one.
 fn note(answers: &mut [u8], i: usize, answer: Answer)
@@ -40,7 +40,7 @@ pub fn replay(
 ) -> Answer
     ensures { λ r. ⌜ Replayed (now (words .entry)) (tableOf leaf (now (keys .entry))) (now (script .entry)) (now (answers .entry)) r (now (words .exit)) (now (answers .exit)) ⌝ }
 {
-    let opened = open::open(words, leaf, keys);
+    let opened = open(words, leaf, keys);
     if opened.number() != 0 {
         return opened;
     }

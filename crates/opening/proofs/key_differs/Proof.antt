@@ -1,0 +1,70 @@
+use mathlib.Core.Path.{_≡_, refl}
+use Prim.Native.Nat.{_-_, _≤_}
+use native.Mathlib.Omega.{arith}
+use mathlib.Core.Bool.{not, _||_}
+use lib.Dec.{eqb}
+use lib.ListN.{length, getD}
+use Rattle.model.specs.Sets.{all}
+use Rattle.valid_nodes.proofs.Gather.{all-more}
+use Rattle.opening.specs.Keys.{keyDiffers}
+use borrow.Author.Needs.{needs}
+use Rattle.opening.proofs.key_differs.Statement.{statement}
+use Rattle.opening.proofs.key_differs.Tie as tie
+
+abbrev Inv-loop : tie.InvT-loop
+Inv-loop keys x ok₀ y₀ y-end ok y = (y ≤ length keys) × (ok ≡ all y (λ k. eqb x k || not (eqb (getD keys x 0) (getD keys k 0))))
+
+abbrev μ-loop : tie.MeasureT-loop
+μ-loop keys x ok₀ y₀ y-end ok y = length keys - y
+
+loop-holds : tie.Need-loop-holds Inv-loop μ-loop
+unfolding all
+loop-holds c = (search needs, refl)
+
+mul-ok : tie.Need-mul-ok Inv-loop μ-loop
+mul-ok c = search needs
+
+shared-slice-read-ok : tie.Need-shared-slice-read-ok Inv-loop μ-loop
+shared-slice-read-ok c = search needs
+
+mul-ok-2 : tie.Need-mul-ok-2 Inv-loop μ-loop
+mul-ok-2 c = search needs
+
+shared-slice-read-ok-2 : tie.Need-shared-slice-read-ok-2 Inv-loop μ-loop
+shared-slice-read-ok-2 c = search needs
+
+add-y : tie.Need-add-y Inv-loop μ-loop
+add-y c = search needs
+
+loop-less : tie.Need-loop-less Inv-loop μ-loop
+loop-less c = search needs
+
+loop-again : tie.Need-loop-again Inv-loop μ-loop
+loop-again c =
+    let l = c .before .before .before .loop in
+    let keys = c .before .before .before .before .args .keys .now in
+    let x = c .before .before .before .before .args .x in
+    (search needs, all-more (λ k. eqb x k || not (eqb (getD keys x 0) (getD keys k 0))) (l .y) _ _ (l .inv .1) refl)
+
+returns : tie.Need-returns Inv-loop μ-loop
+unfolding keyDiffers
+returns c =
+    let l = c .before .loop in
+    let e : l .y ≡ length (c .before .before .args .keys .now) = omega arith in
+    rw e at (l .inv .1)
+
+pub key-differs-spec : {M : Type 1} → statement M
+key-differs-spec =
+    tie.close
+    (tie.spec
+    Inv-loop
+    μ-loop
+    loop-holds
+    mul-ok
+    shared-slice-read-ok
+    mul-ok-2
+    shared-slice-read-ok-2
+    add-y
+    loop-less
+    loop-again
+    returns)

@@ -1,0 +1,140 @@
+-- Laws of the questions: the refusals that they begin with, and what an accepted one knows of the words.
+use mathlib.Core.Path.{_≡_, refl, sym, ap, _∙_}
+use mathlib.Core.Bool.{Bool, true, false, not, _&&_}
+use mathlib.Core.List.{List, [], _∷_, _++_}
+use Prim.Native.Nat.{ℕ, _<_}
+use lib.Dec.{ltb}
+use borrow.Author.Tests.{ltb-true}
+use Rattle.model.specs.Choice.{if_then_else_}
+use Rattle.model.specs.Sets.{toBits}
+use Rattle.model.specs.Leafset.{size, leafset}
+use Rattle.model.specs.Ring.{holds}
+use Rattle.model.specs.Connection.{connected, groups}
+use Rattle.model.specs.Answers.{Refusal, firstOf, isAccepted, numberOf}
+use Rattle.model.specs.Words.{decodeTable, decodeNode, decode, readsAsRing}
+use Rattle.model.specs.WellFormed.{Each, nil, cons}
+use Rattle.model.specs.Buffer.{wrongLength, notARing}
+use Rattle.model.specs.Play.{noNode, nodeOff}
+use Rattle.model.specs.Questions.{leafsetAnswer, leafsetOf, connectionRefusals, connectionAnswer, connectionOf, groupsRefusals, groupsAnswer, groupsOf}
+use Rattle.model.specs.declared.answer.Answer.{Answer}
+use Rattle.model.specs.declared.answer.Answer.the-variants.{Accepted, NodeOff}
+use Rattle.model.proofs.Laws.{not-out-false}
+use Rattle.model.proofs.Lists.{first, rest}
+use Rattle.model.proofs.Answers.{none-applies}
+use Rattle.events.proofs.Answered.{is-accepted, is-refused}
+use Rattle.events.proofs.Refusals.{stays, passes}
+use Rattle.questions.specs.Asked.{nodesRefusals}
+
+-- ---- an answer, by its number
+
+pub number-refuses : {a b : Answer} {k : ℕ} → a ≡ b → k ≡ numberOf a → (k ≡ 0 → ⊥) → isAccepted b ≡ false
+number-refuses {a} e n d = ap isAccepted (sym e) ∙ is-refused a n d
+
+pub number-accepts : {a b : Answer} {k : ℕ} → a ≡ b → k ≡ numberOf a → k ≡ 0 → b ≡ Accepted
+number-accepts {a} e n z = sym e ∙ is-accepted a n z
+
+-- ---- refusals alike from a place on
+
+later : (q : Refusal) (qs rs : List Refusal) → firstOf qs ≡ firstOf rs → firstOf (q ∷ qs) ≡ firstOf (q ∷ rs)
+unfolding firstOf
+later q qs rs e = rw e
+
+again : (q : Refusal) (qs rs : List Refusal) → firstOf qs ≡ firstOf rs → firstOf (q ∷ q ∷ qs) ≡ firstOf (q ∷ rs)
+unfolding firstOf
+again q qs rs e = go (q .applies)
+  where
+    go : (b : Bool) → (if b then q .refusal else (if b then q .refusal else firstOf qs)) ≡ (if b then q .refusal else firstOf rs)
+    go true = refl
+    go false = e
+
+module _ (ws : List ℕ) where
+  -- ---- refusals 1 and 6 come first
+
+  pub groups-refused : isAccepted (groupsAnswer ws) ≡ false → 0 ≡ groupsOf ws
+  unfolding groupsOf
+  groups-refused n = rw n
+
+  module _ (a : groupsAnswer ws ≡ Accepted) where
+    none-of-groups : Each (λ q. q .applies ≡ false) (groupsRefusals ws)
+    unfolding groupsAnswer
+    none-of-groups = none-applies (groupsRefusals ws) (cons refl (cons refl nil)) a
+
+    pub groups-reads : readsAsRing ws ≡ true
+    groups-reads = not-out-false (readsAsRing ws) (first (rest none-of-groups))
+
+    pub groups-given : {v : ℕ} → v ≡ groups (decode ws) → v ≡ groupsOf ws
+    unfolding groupsOf
+    groups-given e = rw (a, e)
+
+  module _ (x y : ℕ) where
+    -- ---- 8 for either of two nodes
+
+    by-marks : (p q : Bool) → firstOf (record { refusal = NodeOff; applies = not p } ∷ record { refusal = NodeOff; applies = not q } ∷ []) ≡ (if p && q then Accepted else NodeOff)
+    unfolding firstOf
+    by-marks true true = refl
+    by-marks true false = refl
+    by-marks false q = refl
+
+    pub one-off : (decodeNode ws x .running && decodeNode ws y .running) ≡ false → firstOf (nodeOff (decode ws) x ∷ nodeOff (decode ws) y ∷ []) ≡ NodeOff
+    unfolding decode
+    one-off e = by-marks (decodeNode ws x .running) (decodeNode ws y .running) ∙ rw e
+
+    pub both-on : (decodeNode ws x .running && decodeNode ws y .running) ≡ true → firstOf (nodeOff (decode ws) x ∷ nodeOff (decode ws) y ∷ []) ≡ Accepted
+    unfolding decode
+    both-on e = by-marks (decodeNode ws x .running) (decodeNode ws y .running) ∙ rw e
+
+    -- ---- the questions about two nodes
+
+    pub refused-words : {a : Answer} → a ≡ groupsAnswer ws → isAccepted (groupsAnswer ws) ≡ false → a ≡ connectionAnswer ws x y
+    unfolding groupsAnswer connectionAnswer
+    refused-words e n = e ∙ sym (stays (groupsRefusals ws) (nodesRefusals (decode ws) x y) n)
+
+    pub after-words : {a : Answer} → groupsAnswer ws ≡ Accepted → a ≡ firstOf (nodesRefusals (decode ws) x y) → a ≡ connectionAnswer ws x y
+    unfolding groupsAnswer connectionAnswer
+    after-words g e = e ∙ sym (passes (groupsRefusals ws) (nodesRefusals (decode ws) x y) (none-of-groups g))
+
+    -- ---- what an accepted question about two nodes knows
+
+    pub connection-refused : isAccepted (connectionAnswer ws x y) ≡ false → false ≡ connectionOf ws x y
+    unfolding connectionOf
+    connection-refused n = rw n
+
+    module _ (a : connectionAnswer ws x y ≡ Accepted) where
+      none-of-connection : Each (λ q. q .applies ≡ false) (connectionRefusals ws x y)
+      unfolding connectionAnswer
+      none-of-connection =
+          none-applies (connectionRefusals ws x y) (cons refl (cons refl (cons refl (cons refl (cons refl (cons refl nil)))))) a
+
+      pub connection-reads : readsAsRing ws ≡ true
+      connection-reads = not-out-false (readsAsRing ws) (first (rest none-of-connection))
+
+      in-table : (z : ℕ) → not (ltb z (size (decodeTable ws))) ≡ false → z < size (decodeTable ws)
+      in-table z e = ltb-true z (size (decodeTable ws)) (not-out-false (ltb z (size (decodeTable ws))) e)
+
+      pub connection-from : x < size (decodeTable ws)
+      unfolding decode
+      connection-from = in-table x (first (rest (rest none-of-connection)))
+
+      pub connection-to : y < size (decodeTable ws)
+      unfolding decode
+      connection-to = in-table y (first (rest (rest (rest none-of-connection))))
+
+      pub connection-given : {v : Bool} → v ≡ connected (decode ws) x y → v ≡ connectionOf ws x y
+      unfolding connectionOf
+      connection-given e = rw (a, e)
+
+  -- ---- a question about one node has the refusals of one about that node twice
+
+  module _ (x : ℕ) where
+    pub node-twice : connectionAnswer ws x x ≡ leafsetAnswer ws x
+    unfolding connectionAnswer leafsetAnswer
+    node-twice = later _ _ _ (later _ _ _ (again _ _ _ (again _ [] [] refl)))
+
+    pub leafset-refused : isAccepted (connectionAnswer ws x x) ≡ false → 0 ≡ leafsetOf ws x
+    unfolding leafsetOf
+    leafset-refused n = rw (← node-twice, n)
+
+    pub leafset-given : connectionAnswer ws x x ≡ Accepted
+        → {v : ℕ} → v ≡ toBits 64 (leafset (decode ws .table) x (holds (decode ws) x)) → v ≡ leafsetOf ws x
+    unfolding leafsetOf
+    leafset-given a e = rw (← node-twice, a, e)
