@@ -1,2 +1,1 @@
 pub mod Far
-pub mod Numbers

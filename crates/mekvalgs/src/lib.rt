@@ -8,13 +8,12 @@ ghost use Rattle.model.specs.Buffer.{openBuffer, playBuffer};
 ghost use Rattle.model.specs.Questions.{leafsetAnswer, leafsetOf, connectionAnswer, connectionOf, groupsAnswer, groupsOf};
 ghost use Rattle.model.specs.Events.{wordAnswer};
 ghost use Rattle.ring.specs.Replay.{Replayed};
-ghost use Rattle.mekvalgs.specs.Parts.{nodeOf, numbers, readParts, partsAnswer, writeParts};
+ghost use Rattle.event_parts.specs.Parts.{numbers, readParts, partsAnswer, writeParts};
+ghost use Rattle.mekvalgs.specs.Nodes.{nodeOf};
 use model::values::NodeNumber;
 use opening::open;
 use ring::play;
 use ring::replay;
-
-mod parts;
 
 // Writes the initial ring of `leaf` and the keys.
 #[no_mangle]
@@ -89,7 +88,7 @@ pub extern "C" fn mekvalgs_read_event(
 ) -> u32
     ensures { λ r. ⌜ (r ≡ numberOf (wordAnswer word)) × (numbers (now (kind .exit)) (now (first .exit)) (now (second .exit)) ≡ readParts word) ⌝ }
 {
-    let read = parts::read(word);
+    let read = event_parts::read(word);
     let p = read.parts;
     *kind = p.kind;
     *first = p.first;
@@ -103,7 +102,7 @@ pub extern "C" fn mekvalgs_read_event(
 pub extern "C" fn mekvalgs_write_event(kind: u32, first: u32, second: u32, word: &mut u32) -> u32
     ensures { λ r. ⌜ (r ≡ numberOf (partsAnswer (numbers kind first second))) × (now (word .exit) ≡ writeParts (numbers kind first second)) ⌝ }
 {
-    let written = parts::write(parts::make(kind, first, second));
+    let written = event_parts::write(event_parts::make(kind, first, second));
     *word = written.word;
     let answer = written.answer;
     answer.number()

@@ -23,6 +23,7 @@ use Rattle.model.proofs.Lists.{first, rest}
 use Rattle.model.proofs.Answers.{none-applies}
 use Rattle.events.proofs.Answered.{is-accepted, is-refused}
 use Rattle.events.proofs.Refusals.{stays, passes}
+use Rattle.events.proofs.LentBuffer.{later, again}
 use Rattle.questions.specs.Asked.{nodesRefusals}
 
 -- ---- an answer, by its number
@@ -32,20 +33,6 @@ number-refuses {a} e n d = ap isAccepted (sym e) ∙ is-refused a n d
 
 pub number-accepts : {a b : Answer} {k : ℕ} → a ≡ b → k ≡ numberOf a → k ≡ 0 → b ≡ Accepted
 number-accepts {a} e n z = sym e ∙ is-accepted a n z
-
--- ---- refusals alike from a place on
-
-later : (q : Refusal) (qs rs : List Refusal) → firstOf qs ≡ firstOf rs → firstOf (q ∷ qs) ≡ firstOf (q ∷ rs)
-unfolding firstOf
-later q qs rs e = rw e
-
-again : (q : Refusal) (qs rs : List Refusal) → firstOf qs ≡ firstOf rs → firstOf (q ∷ q ∷ qs) ≡ firstOf (q ∷ rs)
-unfolding firstOf
-again q qs rs e = go (q .applies)
-  where
-    go : (b : Bool) → (if b then q .refusal else (if b then q .refusal else firstOf qs)) ≡ (if b then q .refusal else firstOf rs)
-    go true = refl
-    go false = e
 
 module _ (ws : List ℕ) where
   -- ---- refusals 1 and 6 come first

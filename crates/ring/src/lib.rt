@@ -1,5 +1,4 @@
 // Playing events on lent words, one or a list. The calls require nothing: on every input the answer, and every lent word
 // afterwards, is the definition's.
-mod checked;
 pub mod play;
 pub mod replay;

@@ -2,7 +2,6 @@
 ghost use mathlib.Core.Path.{_≡_};
 ghost use Rattle.model.specs.Buffer.{playBuffer};
 ghost use Rattle.events.specs.Applied.{written};
-use super::checked;
 use model::answer::Answer;
 use model::event::Reading;
 use words::event;
@@ -21,7 +20,7 @@ pub fn play(words: &mut [u32], word: u32) -> Answer
             if !validity::reads_as_ring(words) {
                 return Answer::NotARing;
             }
-            checked::play_event(words, e)
+            playing::play_event(words, e)
         }
     }
 }

@@ -6,7 +6,6 @@ ghost use Rattle.model.specs.Answers.{numberOf};
 ghost use Rattle.model.specs.Words.{readsAsRing};
 ghost use Rattle.model.specs.Structs.{tableOf};
 ghost use Rattle.ring.specs.Replay.{PlayedUpTo, Replayed};
-use super::checked;
 use model::answer::Answer;
 use opening::open;
 
@@ -25,7 +24,7 @@ fn play_each(words: &mut [u32], script: &[u32], answers: &mut [u8])
     ensures { λ _. ⌜ PlayedUpTo (length (now (script .entry))) (now (words .entry)) (now (script .entry)) (now (answers .entry)) (now (words .exit)) (now (answers .exit)) ⌝ }
 {
     for i in 0..script.len() {
-        let answer = checked::play_word(words, script[i]);
+        let answer = playing::play_word(words, script[i]);
         note(answers, i, answer);
     }
 }

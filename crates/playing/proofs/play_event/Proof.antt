@@ -1,7 +1,7 @@
 use borrow.Author.Needs.{needs}
-use Rattle.ring.proofs.Plays.{of-event}
-use Rattle.ring.proofs.checked.play_event.Statement.{statement}
-use Rattle.ring.proofs.checked.play_event.Tie as tie
+use Rattle.playing.proofs.Plays.{of-event}
+use Rattle.playing.proofs.play_event.Statement.{statement}
+use Rattle.playing.proofs.play_event.Tie as tie
 
 returns : tie.Need-returns
 returns c = of-event (c .before .before .before .before .before .before .before .before .args .words .now) (c .before .before .before .before .before .e .given .1) (search needs)

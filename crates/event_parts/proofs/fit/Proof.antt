@@ -1,9 +1,9 @@
 use mathlib.Core.Path.{sym}
 use mathlib.Core.Logic.{inl, inr}
 use native.Mathlib.Omega.{arith}
-use Rattle.mekvalgs.proofs.Numbers.{of-node, of-nodes, of-timer, of-position, of-none}
-use Rattle.mekvalgs.proofs.parts.fit.Statement.{statement}
-use Rattle.mekvalgs.proofs.parts.fit.Tie as tie
+use Rattle.event_parts.proofs.Numbers.{of-node, of-nodes, of-timer, of-position, of-none}
+use Rattle.event_parts.proofs.fit.Statement.{statement}
+use Rattle.event_parts.proofs.fit.Tie as tie
 
 returns : tie.Need-returns
 returns c =

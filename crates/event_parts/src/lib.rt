@@ -2,7 +2,7 @@
 ghost use mathlib.Core.Path.{_≡_};
 ghost use mathlib.Core.Bool.{true};
 ghost use Rattle.model.specs.Events.{wordAnswer};
-ghost use Rattle.mekvalgs.specs.Parts.{numbers, partsOf, readParts, partsAre, eventOfParts, partsAnswer, writeParts};
+ghost use Rattle.event_parts.specs.Parts.{numbers, partsOf, readParts, partsAre, eventOfParts, partsAnswer, writeParts};
 use model::answer::Answer;
 use model::event::Event;
 use model::event::Reading;

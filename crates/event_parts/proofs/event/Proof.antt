@@ -1,10 +1,10 @@
 use mathlib.Core.Path.{_≡_}
 use Prim.Native.Nat.{ℕ, suc, _≤_}
 use native.Mathlib.Omega.{arith}
-use Rattle.mekvalgs.specs.Parts.{eventOfParts}
-use Rattle.mekvalgs.proofs.Numbers.{kind-low, kind-high, node-low, other-low, timer-low, position-low}
-use Rattle.mekvalgs.proofs.parts.event.Statement.{statement}
-use Rattle.mekvalgs.proofs.parts.event.Tie as tie
+use Rattle.event_parts.specs.Parts.{eventOfParts}
+use Rattle.event_parts.proofs.Numbers.{kind-low, kind-high, node-low, other-low, timer-low, position-low}
+use Rattle.event_parts.proofs.event.Statement.{statement}
+use Rattle.event_parts.proofs.event.Tie as tie
 
 -- what is left after on to deliver
 is-lose : (c : tie.After-struct-known10) → c .before .before .args .p .kind ≡ 15

@@ -1,9 +1,9 @@
 use mathlib.Core.Path.{_∙_}
 use borrow.Author.Needs.{needs}
 use Rattle.events.proofs.Valid.{long}
-use Rattle.ring.proofs.Plays.{not-an-event, an-event}
-use Rattle.ring.proofs.checked.play_word.Statement.{statement}
-use Rattle.ring.proofs.checked.play_word.Tie as tie
+use Rattle.playing.proofs.Plays.{not-an-event, an-event}
+use Rattle.playing.proofs.play_word.Statement.{statement}
+use Rattle.playing.proofs.play_word.Tie as tie
 
 returns : tie.Need-returns
 returns c =

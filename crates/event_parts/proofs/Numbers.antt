@@ -17,8 +17,8 @@ use Rattle.model.specs.declared.event.Event.{Event}
 use Rattle.model.specs.declared.event.Reading.the-variants.{Read, Refused}
 use Rattle.model.proofs.Answers.{accepted-is}
 use Rattle.model.proofs.Laws.{and-left, and-right, between-low, between-high, is-false}
-use Rattle.mekvalgs.specs.Parts.{numbers, partsOf, readParts, eventOfParts, partsAre, partsAnswer, writeParts}
-use Rattle.mekvalgs.specs.declared.parts.Parts.{Parts}
+use Rattle.event_parts.specs.Parts.{numbers, partsOf, readParts, eventOfParts, partsAre, partsAnswer, writeParts}
+use Rattle.event_parts.specs.declared.Parts.{Parts}
 
 -- ---- by the kind
 

@@ -1,8 +1,8 @@
 use mathlib.Core.Path.{sym, _∙_}
-use Rattle.mekvalgs.proofs.Numbers.{read-given, read-refused}
+use Rattle.event_parts.proofs.Numbers.{read-given, read-refused}
 use borrow.Author.Needs.{needs}
-use Rattle.mekvalgs.proofs.parts.read.Statement.{statement}
-use Rattle.mekvalgs.proofs.parts.read.Tie as tie
+use Rattle.event_parts.proofs.read.Statement.{statement}
+use Rattle.event_parts.proofs.read.Tie as tie
 
 read-event-requires : tie.Need-read-event-requires
 read-event-requires c κs = search needs

@@ -1,11 +1,10 @@
--- C's numbers: for a node, and for an event.
+-- An event as three numbers: its kind; its node or position; the other node or the timer, or 0.
 use Prim.Native.Nat.{ℕ, _-_}
 use mathlib.Core.Bool.{Bool, not, _&&_, _||_}
 use mathlib.Core.List.{List, [], _∷_}
-use lib.Dec.{ltb, eqb}
+use lib.Dec.{eqb}
 use lib.ListN.{getD}
 use Rattle.model.specs.Choice.{if_then_else_}
-use Rattle.model.specs.Sets.{noneNode}
 use Rattle.model.specs.Words.{between}
 use Rattle.model.specs.Answers.{Refusal, firstOf, isAccepted}
 use Rattle.model.specs.Events.{wordOf, eventOf, partsFit, sameNode, wordAnswer}
@@ -14,13 +13,7 @@ use Rattle.model.specs.declared.answer.Answer.the-variants.{NotAnEvent, SameNod
 use Rattle.model.specs.declared.event.Event.{Event}
 use Rattle.model.specs.declared.event.Event.the-variants.{On, Off, Notice, Contact, Timer, Deliver, Lose}
 use Rattle.model.specs.declared.values.NodeNumber.{NodeNumber}
-use Rattle.mekvalgs.specs.declared.parts.Parts.{Parts}
-
--- a number that may be too big for a node: then 64, which is no node either
-abbrev pub nodeOf : ℕ → ℕ
-nodeOf x = if ltb x 64 then x else noneNode
-
--- ---- an event as three numbers: its kind; its node or position; the other node or the timer, or 0
+use Rattle.event_parts.specs.declared.Parts.{Parts}
 
 abbrev pub numbers : ℕ → ℕ → ℕ → Parts
 numbers kind first second = record { kind = kind; first = first; second = second }

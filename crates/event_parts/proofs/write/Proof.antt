@@ -1,10 +1,10 @@
 use mathlib.Core.Path.{sym, ap, _∙_}
 use borrow.Author.Tests.{not-true, not-false}
 use Rattle.model.specs.Events.{eventAnswer, writeEvent}
-use Rattle.mekvalgs.proofs.Numbers.{write-refused, write-given}
+use Rattle.event_parts.proofs.Numbers.{write-refused, write-given}
 use borrow.Author.Needs.{needs}
-use Rattle.mekvalgs.proofs.parts.write.Statement.{statement}
-use Rattle.mekvalgs.proofs.parts.write.Tie as tie
+use Rattle.event_parts.proofs.write.Statement.{statement}
+use Rattle.event_parts.proofs.write.Tie as tie
 
 fit-requires : tie.Need-fit-requires
 fit-requires c κs = search needs

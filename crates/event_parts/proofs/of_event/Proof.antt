@@ -1,8 +1,8 @@
 use mathlib.Core.Path.{sym, ap, _∙_}
-use Rattle.mekvalgs.specs.Parts.{partsOf}
+use Rattle.event_parts.specs.Parts.{partsOf}
 use borrow.Author.Needs.{needs}
-use Rattle.mekvalgs.proofs.parts.of_event.Statement.{statement}
-use Rattle.mekvalgs.proofs.parts.of_event.Tie as tie
+use Rattle.event_parts.proofs.of_event.Statement.{statement}
+use Rattle.event_parts.proofs.of_event.Tie as tie
 
 enum-known-e : tie.Need-enum-known-e
 enum-known-e c = search needs
