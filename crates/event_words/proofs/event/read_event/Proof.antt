@@ -6,14 +6,8 @@ use Rattle.model.specs.Answers.{firstOf}
 use Rattle.model.specs.Events.{wordOf, eventOf, partsFit, sameNode, wordAnswer, readEvent}
 use Rattle.model.specs.declared.event.Reading.the-variants.{Read}
 use borrow.Author.Needs.{needs}
-use Rattle.words.proofs.event.read_event.Statement.{statement}
-use Rattle.words.proofs.event.read_event.Tie as tie
-
-event-requires : tie.Need-event-requires
-event-requires c κs = search needs
-
-new-requires : tie.Need-new-requires
-new-requires c κs = search needs
+use Rattle.event_words.proofs.event.read_event.Statement.{statement}
+use Rattle.event_words.proofs.event.read_event.Tie as tie
 
 returns : tie.Need-returns
 unfolding readEvent wordAnswer firstOf
@@ -22,18 +16,12 @@ returns c =
     ne-eqb _ _ (λ e. c .if1 .taken (c .before .before .new .ensures ∙ ap wordOf (c .before .before .before .event .ensures) ∙ sym e)) in
     rw other
 
-parts-fit-requires : tie.Need-parts-fit-requires
-parts-fit-requires c κs = search needs
-
 returns-2 : tie.Need-returns-2
 unfolding readEvent wordAnswer firstOf
 returns-2 c =
     let same : eqb (c .before .before .before .before .before .before .args .word) (wordOf (eventOf (c .before .before .before .before .before .before .args .word))) ≡ true = eq-eqb _ _ (sym (c .before .before .if1 .left) ∙ c .before .before .before .before .new .ensures ∙ ap wordOf (c .before .before .before .before .before .event .ensures)) in
     let parts : partsFit (eventOf (c .before .before .before .before .before .before .args .word)) ≡ false = ap partsFit (sym (c .before .before .before .before .before .event .ensures)) ∙ sym (c .before .parts-fit .ensures) ∙ not-true _ (c .if2 .taken) in
     rw (same, parts)
-
-same-node-requires : tie.Need-same-node-requires
-same-node-requires c κs = search needs
 
 returns-3 : tie.Need-returns-3
 unfolding readEvent wordAnswer firstOf
@@ -55,11 +43,5 @@ pub read-event-spec : {M : Type 1} → statement M
 read-event-spec =
     tie.close
     (tie.spec
-    event-requires
-    new-requires
-    returns
-    parts-fit-requires
-    returns-2
-    same-node-requires
-    returns-3
-    returns-4)
+    (λ c κs. search needs) (λ c κs. search needs) returns (λ c κs. search needs) returns-2
+    (λ c κs. search needs) returns-3 returns-4)

@@ -1,4 +1,4 @@
--- `words::event::EventWord::event` meets its contract.
+-- `event_words::event::EventWord::event` meets its contract.
 use mathlib.Core.Path.{_≡_, refl, sym, ap, _∙_}
 use mathlib.Core.List.{[], _∷_}
 use Prim.Native.Nat.{ℕ, suc, _-_, _/_, _%_, _^_, _<_}
@@ -10,8 +10,8 @@ use borrow.Author.Needs.{needs}
 use Rattle.model.specs.Fields.{bits, kind}
 use Rattle.model.specs.Events.{eventOf}
 use Rattle.model.specs.declared.event.Event.the-variants.{On, Off, Notice, Contact, Timer, Deliver, Lose}
-use Rattle.words.proofs.event.EventWord.event.Statement.{statement}
-use Rattle.words.proofs.event.EventWord.event.Tie as tie
+use Rattle.event_words.proofs.event.EventWord.event.Statement.{statement}
+use Rattle.event_words.proofs.event.EventWord.event.Tie as tie
 
 -- the lowest part is a remainder
 bits-low : (width w : ℕ) → bits 0 width w ≡ w % 2 ^ width
@@ -28,18 +28,6 @@ unfolding eventOf
 event-of-kind w k e h =
     let i : kind w ≡ k = ap (λ (v : ℕ). v % 2 ^ 4) e ∙ mod-eq-of-lt h in
     rw (i, bits-low 6 w, bits-low 10 w)
-
-cast-t8 : tie.Need-cast-t8
-cast-t8 c = search needs
-
-cast-t8-2 : tie.Need-cast-t8-2
-cast-t8-2 c = search needs
-
-cast-timer : tie.Need-cast-timer
-cast-timer c = search needs
-
-cast-position : tie.Need-cast-position
-cast-position c = search needs
 
 returns : tie.Need-returns
 returns c = sym (event-of-kind (c .before .before .before .before .before .before .args .self .0) 10 (search needs) (lit< tt))
@@ -82,14 +70,5 @@ pub event-spec : {M : Type 1} → statement M
 event-spec =
     tie.close
     (tie.spec
-    cast-t8
-    cast-t8-2
-    cast-timer
-    cast-position
-    returns
-    returns-2
-    returns-3
-    returns-4
-    returns-5
-    returns-6
-    returns-7)
+    (λ c. search needs) (λ c. search needs) (λ c. search needs) (λ c. search needs) returns returns-2 returns-3
+    returns-4 returns-5 returns-6 returns-7)

@@ -4,11 +4,8 @@ use borrow.Author.Tests.{not-true, not-false}
 use Rattle.model.specs.Answers.{firstOf}
 use Rattle.model.specs.Events.{partsFit, sameNode, eventAnswer, writeEvent}
 use borrow.Author.Needs.{needs}
-use Rattle.words.proofs.event.write_event.Statement.{statement}
-use Rattle.words.proofs.event.write_event.Tie as tie
-
-parts-fit-requires : tie.Need-parts-fit-requires
-parts-fit-requires c κs = search needs
+use Rattle.event_words.proofs.event.write_event.Statement.{statement}
+use Rattle.event_words.proofs.event.write_event.Tie as tie
 
 returns : tie.Need-returns
 unfolding eventAnswer writeEvent firstOf
@@ -16,18 +13,12 @@ returns c =
     let parts : partsFit (c .before .before .args .e) ≡ false = sym (c .before .parts-fit .ensures) ∙ not-true _ (c .if1 .taken) in
     (rw parts, rw parts)
 
-same-node-requires : tie.Need-same-node-requires
-same-node-requires c κs = search needs
-
 returns-2 : tie.Need-returns-2
 unfolding eventAnswer writeEvent firstOf
 returns-2 c =
     let parts : partsFit (c .before .before .before .before .args .e) ≡ true = sym (c .before .before .before .parts-fit .ensures) ∙ not-false _ (c .before .before .if1 .left) in
     let same : sameNode (c .before .before .before .before .args .e) ≡ true = sym (c .before .same-node .ensures) ∙ c .if2 .taken in
     (rw (parts, same), rw (parts, same))
-
-new-requires : tie.Need-new-requires
-new-requires c κs = search needs
 
 returns-3 : tie.Need-returns-3
 unfolding eventAnswer writeEvent firstOf
@@ -39,4 +30,5 @@ returns-3 c =
 pub write-event-spec : {M : Type 1} → statement M
 write-event-spec =
     tie.close
-    (tie.spec parts-fit-requires returns same-node-requires returns-2 new-requires returns-3)
+    (tie.spec
+    (λ c κs. search needs) returns (λ c κs. search needs) returns-2 (λ c κs. search needs) returns-3)

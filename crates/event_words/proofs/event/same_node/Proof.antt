@@ -1,29 +1,8 @@
 use Rattle.model.specs.Events.{sameNode}
 use mathlib.Core.Path.{sym, ap}
 use borrow.Author.Needs.{needs}
-use Rattle.words.proofs.event.same_node.Statement.{statement}
-use Rattle.words.proofs.event.same_node.Tie as tie
-
-enum-told : tie.Need-enum-told
-enum-told c = search needs
-
-enum-told-2 : tie.Need-enum-told-2
-enum-told-2 c = search needs
-
-enum-known-e : tie.Need-enum-known-e
-enum-known-e c = search needs
-
-enum-known-e-2 : tie.Need-enum-known-e-2
-enum-known-e-2 c = search needs
-
-enum-told-3 : tie.Need-enum-told-3
-enum-told-3 c = search needs
-
-enum-told-4 : tie.Need-enum-told-4
-enum-told-4 c = search needs
-
-enum-told-5 : tie.Need-enum-told-5
-enum-told-5 c = search needs
+use Rattle.event_words.proofs.event.same_node.Statement.{statement}
+use Rattle.event_words.proofs.event.same_node.Tie as tie
 
 returns : tie.Need-returns
 returns c = ap sameNode (sym (c .enum-told .given .1))
@@ -50,17 +29,5 @@ pub same-node-spec : {M : Type 1} → statement M
 same-node-spec =
     tie.close
     (tie.spec
-    enum-told
-    enum-told-2
-    enum-known-e
-    enum-known-e-2
-    enum-told-3
-    enum-told-4
-    enum-told-5
-    returns
-    returns-2
-    returns-3
-    returns-4
-    returns-5
-    returns-6
-    returns-7)
+    (λ c. search needs) (λ c. search needs) (λ c. search needs) (λ c. search needs) (λ c. search needs)
+    (λ c. search needs) (λ c. search needs) returns returns-2 returns-3 returns-4 returns-5 returns-6 returns-7)
