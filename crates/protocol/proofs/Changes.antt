@@ -22,10 +22,6 @@ use Rattle.sets.specs.Within.{Within}
 use Rattle.sets.proofs.Bits.{of-none}
 use Rattle.protocol.specs.Effects.{OwnFits, Owns}
 
--- no bits, nobody
-pub nobody : ofBits 0 ≡ empty
-nobody = fun-ext of-none
-
 -- an element of a list, whatever is read beyond it
 pub getD-any : {A : Type 0} (l : List A) (i : ℕ) (d e : A) → i < length l → getD l i d ≡ getD l i e
 getD-any [] i d e h = absurd (not-suc-le-zero h)
@@ -45,23 +41,6 @@ module _ {A : Type 0} (f : A → ℕ) (l : List A) (z : ℕ) (v d : A) (h : z < 
   set-below : (m : ℕ) → f v < m → ((y : ℕ) → f (getD l y d) < m) → (y : ℕ) → f (getD (set l z v) y d) < m
   set-below m p q y =
       rw (ap (λ (g : ℕ → ℕ). g y) set-put) (put-law (λ (k : ℕ). k < m) (λ (k : ℕ). f (getD l k d)) z (f v) y (λ e. p) (λ e. q y))
-
--- ---- sets of nodes of a table
-
-module _ (n S r : ℕ) (low : Within n S) where
-  pub within-with : (y : ℕ) → ofBits r ≡ with (ofBits S) y → y < n → Within n r
-  within-with y e h z m =
-      or-case (ofBits S z) (eqb z y) (sym (ap (λ (R : Set). R z) e) ∙ m) (low z) (λ q. rw (eqb-true z y q) h)
-
-  pub within-union : (R : ℕ) → ofBits r ≡ union (ofBits S) (ofBits R) → Within n R → Within n r
-  within-union R e g z m = or-case (ofBits S z) (ofBits R z) (sym (ap (λ (Q : Set). Q z) e) ∙ m) (low z) (g z)
-
--- a part of a set
-pub within-part : (n r : ℕ) (S R : Set) → ((y : ℕ) → S y ≡ true → y < n) → ofBits r ≡ (λ (y : ℕ). S y && R y) → Within n r
-within-part n r S R low e z m = low z (and-left (S z) (R z) (sym (ap (λ (Q : Set). Q z) e) ∙ m))
-
-pub nobody-within : (n : ℕ) → Within n 0
-nobody-within n y e = clash e (of-none y)
 
 -- ---- the parts of a record, one after the other
 

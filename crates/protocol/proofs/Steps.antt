@@ -21,11 +21,10 @@ use Rattle.leafset.specs.Table.{InTable}
 use Rattle.sets.proofs.Members.{lowest-first, lowest-none, members-to}
 use Rattle.leafset.proofs.Leaves.{leafset-back}
 use Rattle.leafset.proofs.Choices.{successor-low}
-use Rattle.sets.proofs.Bits.{or-union}
+use Rattle.sets.proofs.Bits.{or-union, and-both, zero-none, within-with, within-union, within-part}
 use Rattle.protocol.specs.declared.reply.Reply.{Reply}
 use Rattle.protocol.specs.Effects.{requestsEffect, Owns, Replies, CallsEach}
-use Rattle.protocol.proofs.Changes.{getD-any, within-with, within-union, within-part}
-use Rattle.protocol.proofs.Bits.{and-both, zero-none}
+use Rattle.protocol.proofs.Changes.{getD-any}
 
 -- a message of one type to each node of a set
 pub calls : {n : ℕ} {q : NodeRecord} {o : Own} (me tag to : ℕ) (S : Set) → n ≤ 64 → Owns n q o → tag < 2 ^ 4 → ofBits to ≡ S → Within n to
@@ -74,7 +73,7 @@ module _ (leaf : ℕ) {keys : List ℕ} {x held : ℕ} (q : InTable keys x held)
   -- held plus y: whether y lies in the leafset
   module _ (y more : ℕ) (e : ofBits more ≡ with (ofBits held) y) (h : y < length keys) where
     pub with-table : InTable keys x more
-    with-table = record { few = q .few; node = q .node; within = within-with (length keys) held more (q .within) y e h }
+    with-table = record { few = q .few; node = q .node; within = within-with (length keys) held y more e h (q .within) }
 
     pub near-test : (near : ℕ) → near ≡ toBits 64 (leafset (tableOf leaf keys) x (ofBits more)) → ofBits near y ≡ leafset (tableOf leaf keys) x (with (ofBits held) y) y
     near-test near is = ap (λ (S : Set). S y) (leafset-back leaf with-table is ∙ ap (leafset (tableOf leaf keys) x) e)
@@ -89,7 +88,7 @@ module _ (leaf : ℕ) {keys : List ℕ} {x held : ℕ} (q : InTable keys x held)
   -- "each candidate not held that is in my leafset of candidates and held together"
   module _ (candidates : ℕ) (low : Within (length keys) candidates) where
     pub union-table : InTable keys x (bitOr candidates held)
-    union-table = record { few = q .few; node = q .node; within = within-union (length keys) candidates (bitOr candidates held) low held (or-union candidates held) (q .within) }
+    union-table = record { few = q .few; node = q .node; within = within-union (length keys) candidates held (bitOr candidates held) (or-union candidates held) (q .within) low }
 
     abbrev invited : Set
     invited y = ofBits candidates y && not (ofBits held y) && leafset (tableOf leaf keys) x (union (ofBits candidates) (ofBits held)) y

@@ -5,7 +5,7 @@ use mathlib.Core.List.{[], _∷_, map}
 use Prim.Native.Nat.{ℕ, _≤_, _<_, _^_}
 use Rattle.model.specs.Choice.{if_then_else_}
 use Rattle.model.specs.Sets.{ofBits, members}
-use Rattle.model.specs.Ring.{Own, Message}
+use Rattle.model.specs.Ring.{Own}
 use Rattle.model.specs.Steps.{Effect, plain, stamped, pingReplace}
 use Rattle.model.specs.Structs.{ownOf, messageOf, spareAt, RoomNode, RoomMessage}
 use Rattle.model.specs.declared.node.NodeRecord.{NodeRecord}
@@ -47,14 +47,10 @@ pub record RequestsEach (me time : ℕ) (q : NodeRecord) (to : ℕ) (e : Effect)
   pub effect : requestsEffect me time q to ≡ e
   pub spare-low : (z : ℕ) → ofBits to z ≡ true → spareAt q z < 64
 
--- a record that stands for o, and a message by value that stands for x
+-- a record that stands for o
 pub record Owns (n : ℕ) (q : NodeRecord) (o : Own) : Type 0 where
   pub own : ownOf q ≡ o
   pub fits : OwnFits n q
-
-pub record Says (m : MessageRecord) (x : Message) : Type 0 where
-  pub message : messageOf m ≡ x
-  pub room : RoomMessage m
 
 -- a message to a node of a table of n: types 9, 10 and 11 name a node
 pub record Delivered (n : ℕ) (m : MessageRecord) : Type 0 where

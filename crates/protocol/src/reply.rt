@@ -2,8 +2,9 @@
 ghost use mathlib.Core.List.{[], _∷_};
 ghost use Prim.Native.Nat.{ℕ};
 ghost use Rattle.model.specs.Ring.{Own, Message};
-ghost use Rattle.protocol.specs.Effects.{Owns, Says, Replies};
-use super::make::plain;
+ghost use Rattle.message_records.specs.Says.{Says};
+ghost use Rattle.protocol.specs.Effects.{Owns, Replies};
+use message_records::plain;
 use model::message::MessageRecord;
 use model::node::NodeRecord;
 use model::values::NodeNumber;

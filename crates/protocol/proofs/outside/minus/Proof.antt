@@ -1,5 +1,5 @@
 -- `protocol::outside::minus` meets its contract.
-use Rattle.protocol.proofs.Bits.{xor-minus}
+use Rattle.sets.proofs.Bits.{xor-minus}
 use Rattle.protocol.proofs.outside.minus.Statement.{statement}
 use Rattle.protocol.proofs.outside.minus.Tie as tie
 

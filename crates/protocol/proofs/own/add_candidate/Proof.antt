@@ -1,6 +1,6 @@
 -- `protocol::own::add_candidate` meets its contract.
 use borrow.Author.Needs.{needs}
-use Rattle.protocol.proofs.Changes.{within-with}
+use Rattle.sets.proofs.Bits.{within-with}
 use Rattle.protocol.proofs.own.add_candidate.Statement.{statement}
 use Rattle.protocol.proofs.own.add_candidate.Tie as tie
 
@@ -11,7 +11,7 @@ set-candidates-requires : tie.Need-set-candidates-requires
 set-candidates-requires c κs = search needs
 
 returns : tie.Need-returns
-returns c = let a = c .before .before .args in λ n fits low. rw (c .before .with .ensures) at (c .set-candidates .ensures n fits (within-with n (a .own .candidates) _ (fits .candidates-within) (a .y .0) (c .before .with .ensures) low))
+returns c = let a = c .before .before .args in λ n fits low. rw (c .before .with .ensures) at (c .set-candidates .ensures n fits (within-with n (a .own .candidates) (a .y .0) _ (c .before .with .ensures) low (fits .candidates-within)))
 
 pub add-candidate-spec : {M : Type 1} → statement M
 add-candidate-spec = tie.close (tie.spec with-requires set-candidates-requires returns)

@@ -1,7 +1,6 @@
 -- `protocol::own::add_candidates` meets its contract.
 use borrow.Author.Needs.{needs}
-use Rattle.sets.proofs.Bits.{or-union}
-use Rattle.protocol.proofs.Changes.{within-union}
+use Rattle.sets.proofs.Bits.{or-union, within-union}
 use Rattle.protocol.proofs.own.add_candidates.Statement.{statement}
 use Rattle.protocol.proofs.own.add_candidates.Tie as tie
 
@@ -9,7 +8,7 @@ set-candidates-requires : tie.Need-set-candidates-requires
 set-candidates-requires c κs = search needs
 
 returns : tie.Need-returns
-returns c = let a = c .before .before .args in λ n fits low. rw (or-union (a .own .candidates) (a .set)) at (c .set-candidates .ensures n fits (within-union n (a .own .candidates) _ (fits .candidates-within) (a .set) (or-union (a .own .candidates) (a .set)) low))
+returns c = let a = c .before .before .args in λ n fits low. rw (or-union (a .own .candidates) (a .set)) at (c .set-candidates .ensures n fits (within-union n (a .own .candidates) (a .set) _ (or-union (a .own .candidates) (a .set)) low (fits .candidates-within)))
 
 pub add-candidates-spec : {M : Type 1} → statement M
 add-candidates-spec = tie.close (tie.spec set-candidates-requires returns)

@@ -2,7 +2,8 @@
 use mathlib.Core.Path.{sym, _∙_}
 use borrow.Author.Needs.{needs}
 use Rattle.model.specs.Steps as steps
-use Rattle.protocol.proofs.Changes.{unchanged, within-with}
+use Rattle.sets.proofs.Bits.{within-with}
+use Rattle.protocol.proofs.Changes.{unchanged}
 use Rattle.protocol.proofs.own.hold.Statement.{statement}
 use Rattle.protocol.proofs.own.hold.Tie as tie
 
@@ -25,7 +26,7 @@ returns-2 c =
     let a = c .before .before .before .before .args in
     λ n fits low.
     rw (sym (c .before .before .before .has .ensures) ∙ c .before .before .if1 .left)
-    (rw (c .before .with .ensures) at (c .set-held .ensures n fits (within-with n (a .own .held) _ (fits .held-within) (a .y .0) (c .before .with .ensures) low)))
+    (rw (c .before .with .ensures) at (c .set-held .ensures n fits (within-with n (a .own .held) (a .y .0) _ (c .before .with .ensures) low (fits .held-within))))
 
 pub hold-spec : {M : Type 1} → statement M
 hold-spec = tie.close (tie.spec has-requires returns with-requires set-held-requires returns-2)

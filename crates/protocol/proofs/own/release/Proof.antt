@@ -1,10 +1,8 @@
 -- `protocol::own::release` meets its contract.
-use mathlib.Core.Bool.{not}
-use lib.Dec.{eqb}
 use borrow.Author.Needs.{needs}
 use Rattle.model.specs.Sets.{ofBits}
 use Rattle.model.specs.Steps as steps
-use Rattle.protocol.proofs.Changes.{within-part}
+use Rattle.sets.proofs.Bits.{within-without}
 use Rattle.protocol.proofs.own.release.Statement.{statement}
 use Rattle.protocol.proofs.own.release.Tie as tie
 
@@ -18,7 +16,7 @@ returns : tie.Need-returns
 unfolding steps.release
 returns c =
     let a = c .before .before .args in
-    λ n fits. rw (c .before .without .ensures) at (c .set-held .ensures n fits (within-part n _ (ofBits (a .own .held)) (λ y. not (eqb y (a .z .0))) (fits .held-within) (c .before .without .ensures)))
+    λ n fits. rw (c .before .without .ensures) at (c .set-held .ensures n fits (within-without n (a .own .held) (a .z .0) _ (c .before .without .ensures) (fits .held-within)))
 
 pub release-spec : {M : Type 1} → statement M
 release-spec = tie.close (tie.spec without-requires set-held-requires returns)

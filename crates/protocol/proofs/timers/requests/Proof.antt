@@ -9,7 +9,7 @@ use Rattle.model.specs.Sets.{Set, ofBits}
 use Rattle.model.specs.Steps as steps
 use Rattle.model.specs.Structs.{spareAt}
 use Rattle.model.proofs.Laws.{and-right, not-out}
-use Rattle.protocol.proofs.Changes.{within-part}
+use Rattle.sets.proofs.Bits.{within-part}
 use Rattle.protocol.proofs.Steps.{requested}
 use Rattle.protocol.proofs.timers.requests.Statement.{statement}
 use Rattle.protocol.proofs.timers.requests.Tie as tie

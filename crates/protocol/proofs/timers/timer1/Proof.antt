@@ -2,7 +2,7 @@
 use lib.Dec.{lit<}
 use borrow.Author.Needs.{needs}
 use Rattle.model.specs.Steps as steps
-use Rattle.protocol.proofs.Changes.{nobody, nobody-within}
+use Rattle.sets.proofs.Bits.{nobody, within-none}
 use Rattle.protocol.proofs.Steps.{calls, union-table, invited-set, invited-low}
 use Rattle.protocol.proofs.timers.timer1.Statement.{statement}
 use Rattle.protocol.proofs.timers.timer1.Tie as tie
@@ -27,7 +27,7 @@ returns c =
     let fits = start .pre .1 in
     λ time.
     calls (a .me .0) 5 _ _ (start .pre .0 .few)
-    (rw nobody at (c .set-candidates .ensures _ fits (nobody-within _)))
+    (rw nobody at (c .set-candidates .ensures _ fits (within-none _)))
     (lit< tt)
     (invited-set (a .leaf) (start .pre .0) (a .own .candidates) (fits .candidates-within) _ _ (c .before .minus .ensures) (c .before .before .leafset .ensures))
     (invited-low (a .leaf) (start .pre .0) (a .own .candidates) (fits .candidates-within) _ _ (c .before .minus .ensures) (c .before .before .leafset .ensures))

@@ -3,7 +3,8 @@ use lib.Dec.{lit<}
 use borrow.Author.Needs.{needs}
 use Rattle.model.specs.Sets.{ofBits}
 use Rattle.model.specs.Steps as steps
-use Rattle.protocol.proofs.Changes.{unchanged, within-part}
+use Rattle.sets.proofs.Bits.{within-part}
+use Rattle.protocol.proofs.Changes.{unchanged}
 use Rattle.protocol.proofs.Steps.{calls}
 use Rattle.protocol.proofs.timers.timer2.Statement.{statement}
 use Rattle.protocol.proofs.timers.timer2.Tie as tie

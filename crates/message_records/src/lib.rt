@@ -1,8 +1,8 @@
-// Messages by value.
+// Messages by value, by the fields that their type uses.
 ghost use Prim.Native.Nat.{_<_, _^_};
 ghost use Rattle.model.specs.Sets.{ofBits};
 ghost use Rattle.model.specs.Steps as steps;
-ghost use Rattle.protocol.specs.Effects.{Says};
+ghost use Rattle.message_records.specs.Says.{Says};
 use model::message::MessageRecord;
 use model::values::NodeNumber;
 use model::values::Stamp;
