@@ -20,7 +20,7 @@ use Rattle.sets.specs.Within.{Within}
 use Rattle.leafset.specs.Table.{InTable}
 use Rattle.sets.proofs.Members.{lowest-first, lowest-none, members-to}
 use Rattle.leafset.proofs.Leaves.{leafset-back}
-use Rattle.leafset.proofs.Choices.{successor-low}
+use Rattle.choices.proofs.Choices.{successor-low}
 use Rattle.sets.proofs.Bits.{or-union, and-both, zero-none, within-with, within-union, within-part}
 use Rattle.protocol.specs.declared.reply.Reply.{Reply}
 use Rattle.protocol.specs.Effects.{requestsEffect, Owns, Replies, CallsEach}

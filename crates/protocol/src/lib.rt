@@ -2,7 +2,6 @@
 pub mod contact;
 pub mod deliver;
 pub mod handlers;
-mod outside;
 mod own;
 pub mod reply;
 pub mod timers;

@@ -11,14 +11,13 @@ ghost use Rattle.model.specs.Structs.{tableOf, ownOf, spareAt, RoomNode};
 ghost use Rattle.sets.specs.Within.{Within};
 ghost use Rattle.leafset.specs.Table.{InTable};
 ghost use Rattle.protocol.specs.Effects.{OwnFits, Replies, CallsEach, RequestsEach};
-use super::outside::minus;
-use super::outside::outside;
 use super::own::set_candidates;
 use super::reply::Calls;
 use super::reply::Reply;
+use choices::passes_zero;
+use choices::successor;
 use leafset::leafset::leafset;
-use leafset::nearest::passes_zero;
-use leafset::nearest::successor;
+use leafset::outside::outside;
 use message_records::naming;
 use model::node::NodeRecord;
 use model::values::NodeNumber;
@@ -41,7 +40,7 @@ pub fn timer1(keys: &[u32], leaf: u32, me: NodeNumber, own: NodeRecord) -> Calls
     ensures { λ r. ⌜ ((time : ℕ) → CallsEach (length (now (keys .entry))) (me .0) r (steps.timer1 (tableOf leaf (now (keys .entry))) (me .0) time (ownOf own))) ⌝ }
 {
     let near = leafset(keys, leaf, me, own.candidates | own.held);
-    let to = minus(own.candidates, own.held) & near;
+    let to = sets::minus(own.candidates, own.held) & near;
     Calls {
         own: set_candidates(own, 0),
         tag: MessageWord::PING_INVITE,

@@ -7,7 +7,7 @@ use lib.ListN.{length}
 use borrow.Author.Tests.{lt-ltb, le-ltb}
 use borrow.Author.Needs.{needs}
 use Rattle.model.specs.Sets.{ofBits}
-use Rattle.leafset.specs.Span.{spanTo}
+use Rattle.nearness.specs.Span.{spanTo}
 use Rattle.sets.proofs.Bits.{Rising, rising-first, rising-below, rising-rest, rising-set, of-none, none-left}
 use Rattle.sets.proofs.Collect.{Collected, collected-none, collected-kept, collected-passed, collected-end}
 use Rattle.leafset.proofs.leafset.below.Statement.{statement}

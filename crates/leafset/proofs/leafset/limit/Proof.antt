@@ -6,8 +6,8 @@ use lib.ListN.{getD}
 use borrow.Author.Needs.{needs}
 use Rattle.model.specs.Sets.{ofBits, without}
 use Rattle.model.proofs.Bits.{bit-below}
-use Rattle.leafset.specs.Span.{spanTo}
-use Rattle.leafset.proofs.Spans.{span<}
+use Rattle.nearness.specs.Span.{spanTo}
+use Rattle.nearness.proofs.Spans.{span<}
 use Rattle.leafset.proofs.Limit.{Taken, taken-none, taken-least, taken-more, taken-limit}
 use Rattle.leafset.proofs.leafset.limit.Statement.{statement}
 use Rattle.leafset.proofs.leafset.limit.Tie as tie

@@ -1,7 +1,7 @@
 -- `leafset::leafset::near` meets its contract.
 use borrow.Author.Needs.{needs}
 use Rattle.model.specs.Sets.{ofBits}
-use Rattle.leafset.specs.Span.{spanTo}
+use Rattle.nearness.specs.Span.{spanTo}
 use Rattle.leafset.proofs.Limit.{limit-near}
 use Rattle.leafset.proofs.leafset.near.Statement.{statement}
 use Rattle.leafset.proofs.leafset.near.Tie as tie
