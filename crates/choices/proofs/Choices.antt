@@ -2,7 +2,7 @@
 use mathlib.Core.Path.{_≡_, refl, sym, ap, _∙_, fun-ext}
 use mathlib.Core.Bool.{true, false, not, _&&_}
 use mathlib.Core.List.{List}
-use Prim.Native.Nat.{ℕ, _≤_, _<_}
+use Prim.Native.Nat.{ℕ, _^_, _≤_, _<_}
 use native.Mathlib.Nat.{le-trans, lt-irrefl}
 use native.Mathlib.Omega.{arith}
 use native.Mathlib.Decide.{decLt}
@@ -12,13 +12,13 @@ use borrow.Author.Tests.{eq-eqb, eqb-true, lt-ltb, ltb-true}
 use Rattle.model.specs.Key.{clockwise, distance}
 use Rattle.model.specs.Sets.{Set, without, noneNode, count, some, lowest, toBits, ofBits}
 use Rattle.model.specs.Leafset.{Table, leafset, nearest, closest, successor, passesZero}
-use Rattle.model.proofs.Laws.{clash, is-false, and-in, and-left, and-right, not-in, not-out, some-in, some-out, count-none, count-more}
+use Rattle.model.proofs.Laws.{clash, decide, is-false, and-in, and-left, and-right, not-in, not-out, some-in, some-none, some-out, count-none, count-more}
 use Rattle.sets.specs.Within.{Within}
 use Rattle.leafset.specs.Table.{InTable}
 use Rattle.model.specs.Structs.{tableOf}
 use Rattle.nearness.specs.Span.{spanTo, Least, Found, nobody, found}
 use Rattle.nearness.specs.declared.Way.the-variants.{Clockwise, Either}
-use Rattle.sets.proofs.Members.{lowest-is, lowest-none}
+use Rattle.sets.proofs.Members.{lowest-is, lowest-first, lowest-none}
 use Rattle.nearness.proofs.Spans.{beyond, span<, beats-rank, rank-nearer}
 use Rattle.nearness.proofs.Pick.{picked, found-least}
 use Rattle.leafset.proofs.Leaves.{leafset-low, leafset-back}
@@ -143,3 +143,23 @@ module _ (leaf : ℕ) {keys : List ℕ} {x held : ℕ} (q : InTable keys x held)
     closest-none h =
         closest-is (nobody (λ y. is-false (enough y) (λ q.
         lt-irrefl (far y) (le-trans (ltb-true (far y) (far x) (and-right (ofBits others y) (ltb (far y) (far x)) q)) (le-trans h (first-far y (and-left (ofBits others y) (ltb (far y) (far x)) q)))))))
+
+module _ (leaf : ℕ) {keys : List ℕ} {x held : ℕ} (q : InTable keys x held) where
+  -- the successor of a node that holds somebody, as one that passes zero does
+  pub some-successor : some (length keys) (ofBits held) ≡ true → successor (tableOf leaf keys) x (ofBits held) < length keys
+  some-successor e = let p = some-out (length keys) (ofBits held) e in successor-low leaf keys x (ofBits held) (q .within) (p .0) (p .2)
+
+  pub passes-some : passesZero (tableOf leaf keys) x (ofBits held) ≡ true → some (length keys) (ofBits held) ≡ true
+  unfolding passesZero
+  passes-some e = and-left (some (length keys) (ofBits held)) _ e
+
+-- a spare has room in its bits
+lowest-room : (n : ℕ) (S : Set) → n ≤ 64 → lowest n S < 2 ^ 7
+lowest-room n S few =
+    decide (some n S)
+    (λ e. let f = lowest-first n S e in omega (arith, f .below))
+    (λ e. let f = lowest-none n S (some-none n S e) in omega arith)
+
+pub closest-room : (leaf : ℕ) (keys : List ℕ) (x : ℕ) (held : Set) (a : ℕ) → length keys ≤ 64 → closest (tableOf leaf keys) x held a < 2 ^ 7
+unfolding closest nearest
+closest-room leaf keys x held a few = lowest-room (length keys) _ few

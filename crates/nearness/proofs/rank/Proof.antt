@@ -6,21 +6,6 @@ use Rattle.nearness.proofs.Spans.{rank-on, rank-back}
 use Rattle.nearness.proofs.rank.Statement.{statement}
 use Rattle.nearness.proofs.rank.Tie as tie
 
-clockwise-requires : tie.Need-clockwise-requires
-clockwise-requires c κs = search needs
-
-clockwise-requires-2 : tie.Need-clockwise-requires-2
-clockwise-requires-2 c κs = search needs
-
-mul-result : tie.Need-mul-result
-mul-result c = search needs
-
-mul-result-2 : tie.Need-mul-result-2
-mul-result-2 c = search needs
-
-add-result : tie.Need-add-result
-add-result c = search needs
-
 returns : tie.Need-returns
 returns c = sym (rank-on _ _ (c .if1 .taken)) ∙ ap₂ rank (c .before .before .clockwise .ensures) (c .before .clockwise2 .ensures)
 
@@ -31,10 +16,5 @@ pub rank-spec : {M : Type 1} → statement M
 rank-spec =
     tie.close
     (tie.spec
-    clockwise-requires
-    clockwise-requires-2
-    mul-result
-    mul-result-2
-    add-result
-    returns
-    returns-2)
+    (λ c κs. search needs) (λ c κs. search needs) (λ c. search needs) (λ c. search needs) (λ c. search needs)
+    returns returns-2)

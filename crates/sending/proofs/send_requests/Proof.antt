@@ -5,7 +5,7 @@ use lib.Dec.{lit<}
 use borrow.Author.Needs.{needs}
 use Rattle.model.specs.Steps.{stamped, pingReplace}
 use Rattle.model.specs.Structs.{spareAt}
-use Rattle.buffer.proofs.Arrays.{spare-read}
+use Rattle.sets.proofs.Arrays.{spare-read}
 use Rattle.sending.proofs.Sends.{Sending, send-none, send-more, send-all, sent-below, sent-member, sent-room}
 use Rattle.sending.proofs.send_requests.Statement.{statement}
 use Rattle.sending.proofs.send_requests.Tie as tie

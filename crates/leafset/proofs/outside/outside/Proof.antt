@@ -7,12 +7,6 @@ use Rattle.leafset.proofs.Leaves.{leafset-back}
 use Rattle.leafset.proofs.outside.outside.Statement.{statement}
 use Rattle.leafset.proofs.outside.outside.Tie as tie
 
-leafset-requires : tie.Need-leafset-requires
-leafset-requires c κs = search needs
-
-minus-requires : tie.Need-minus-requires
-minus-requires c κs = search needs
-
 returns : tie.Need-returns
 returns c =
     let start = c .before .before .before in
@@ -20,4 +14,4 @@ returns c =
     c .minus .ensures ∙ ap {B = Set} (λ (S : Set). λ z. ofBits (a .held) z && not (S z)) (leafset-back (a .leaf) (start .pre .0) (c .before .leafset .ensures))
 
 pub outside-spec : {M : Type 1} → statement M
-outside-spec = tie.close (tie.spec leafset-requires minus-requires returns)
+outside-spec = tie.close (tie.spec (λ c κs. search needs) (λ c κs. search needs) returns)
