@@ -1,29 +1,13 @@
--- Arrays of 64: read at a place, and filled from below.
+-- Arrays of 64, filled from below.
 use mathlib.Core.Path.{_≡_, refl, sym, ap, _∙_}
-use mathlib.Core.List.{List, [], _∷_}
+use mathlib.Core.List.{List}
 use Prim.Native.Nat.{ℕ, zero, suc, _+_, _<_, _≤_}
 use native.Mathlib.Omega.{arith}
 use native.Mathlib.Decide.{decLt}
 use lib.ListN.{length, getD, take, set, length-set, replicate}
 use lib.Seq.{ext-getD, getD-take, length-take-le, getD-set-same, getD-set-other}
-use Rattle.model.specs.Sets.{noneNode}
 use Rattle.model.specs.Leafset.{size, key}
 use Rattle.model.specs.Words.{decodeTable}
-use Rattle.model.specs.Structs.{spareAt, RoomNode}
-use Rattle.model.specs.declared.values.NodeNumber.{NodeNumber}
-use Rattle.model.specs.declared.node.NodeRecord.{NodeRecord}
-
--- inside a list the default does not matter
-getD-any : {A : Type 0} (l : List A) (i : ℕ) (d e : A) → i < length l → getD l i d ≡ getD l i e
-getD-any [] i d e h = absurd (omega arith)
-getD-any (x ∷ l) zero d e h = refl
-getD-any (x ∷ l) (suc i) d e h = getD-any l i d e (omega arith)
-
--- a spare as the code reads it
-pub spare-read : (q : NodeRecord) (z : ℕ) → RoomNode q → z < 64 → getD (q .spare) z (record { 0 = 0 }) .0 ≡ spareAt q z
-spare-read q z r h = ap (λ (y : NodeNumber). y .0) (getD-any (q .spare) z (record { 0 = 0 }) (record { 0 = noneNode }) (omega (arith, r .spare-long)))
-
--- ---- an array that is filled from below
 
 -- f k at each k below z, and d from there on
 pub record Filled {A : Type 0} (value : A → ℕ) (l : List A) (d : A) (f : ℕ → ℕ) (z : ℕ) : Type 0 where

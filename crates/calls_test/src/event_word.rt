@@ -2,11 +2,11 @@
 use super::calls;
 use super::calls::Outcome;
 use super::command::Command;
+use event_words::event;
+use event_words::event::EventWord;
 use model::answer::Answer;
 use model::event::Event;
 use model::event::Reading;
-use words::event;
-use words::event::EventWord;
 
 // The value has the event's kind and its two parts, four decimal digits each.
 pub fn read(word: u32) -> Outcome {

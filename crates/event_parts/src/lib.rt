@@ -3,14 +3,14 @@ ghost use mathlib.Core.Path.{_≡_};
 ghost use mathlib.Core.Bool.{true};
 ghost use Rattle.model.specs.Events.{wordAnswer};
 ghost use Rattle.event_parts.specs.Parts.{numbers, partsOf, readParts, partsAre, eventOfParts, partsAnswer, writeParts};
+use event_words::event::EventWord;
+use event_words::event::read_event;
+use event_words::event::write_event;
 use model::answer::Answer;
 use model::event::Event;
 use model::event::Reading;
 use model::event::Writing;
 use model::values::NodeNumber;
-use words::event::EventWord;
-use words::event::read_event;
-use words::event::write_event;
 
 // The kind; the node or the position; the other node or the timer, 0 where the event has neither.
 pub struct Parts {

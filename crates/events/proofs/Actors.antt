@@ -19,8 +19,8 @@ use Rattle.model.proofs.Answers.{none-applies}
 use Rattle.model.proofs.Decoded.{reads-well}
 use Rattle.model.proofs.Lists.{first, rest}
 use Rattle.pairs.specs.Pairs.{LoadedNode}
-use Rattle.protocol.specs.Effects.{OwnFits}
-use Rattle.protocol.proofs.WellFormed as protocol
+use Rattle.effects.specs.Effects.{OwnFits}
+use Rattle.effects.proofs.WellFormed as protocol
 use Rattle.events.specs.Acting.{mayAct, mayMeet}
 use Rattle.events.proofs.Valid.{few, clock-high}
 

@@ -20,9 +20,9 @@ use Rattle.model.specs.declared.message.MessageRecord.{MessageRecord}
 use Rattle.model.proofs.Laws.{if-law}
 use Rattle.messages.specs.Loaded.{LoadedMessage}
 use Rattle.buffer.proofs.ReadRing.{read-message}
-use Rattle.protocol.specs.Effects.{replyEffect, Delivered}
-use Rattle.protocol.specs.declared.reply.Reply.{Reply}
-use Rattle.protocol.proofs.WellFormed.{delivered}
+use Rattle.effects.specs.Effects.{replyEffect, Delivered}
+use Rattle.effects.specs.declared.reply.Reply.{Reply}
+use Rattle.effects.proofs.WellFormed.{delivered}
 use Rattle.events.specs.Applied.{acted}
 use Rattle.events.proofs.Valid.{few, message-well}
 

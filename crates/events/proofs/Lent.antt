@@ -15,7 +15,7 @@ use Rattle.model.specs.declared.answer.Answer.{Answer}
 use Rattle.leafset.specs.Table.{InTable}
 use Rattle.buffer.specs.Parts.{Is}
 use Rattle.buffer.proofs.ReadRing.{read-is}
-use Rattle.protocol.specs.Effects.{OwnFits}
+use Rattle.effects.specs.Effects.{OwnFits}
 use Rattle.events.specs.Acting.{IsActor}
 use Rattle.events.specs.Applied.{written, acted, applied}
 use Rattle.events.specs.declared.acting.Actor.{Actor}

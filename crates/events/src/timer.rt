@@ -10,10 +10,9 @@ use super::acting;
 use super::acting::Actor;
 use super::apply;
 use buffer::head;
+use effects::reply::Reply;
 use model::answer::Answer;
 use model::values::NodeNumber;
-use protocol::reply::Reply;
-use protocol::timers;
 
 // Timer k at node x. Above 4 no timer has a step: only the clock rises.
 pub fn timer(words: &mut [u32], x: NodeNumber, k: u8) -> Answer

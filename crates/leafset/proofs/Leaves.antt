@@ -15,9 +15,10 @@ use Rattle.model.proofs.Bits.{bits-back}
 use Rattle.model.specs.Leafset as model
 use Rattle.leafset.specs.Table.{InTable}
 use Rattle.model.specs.Structs.{tableOf}
-use Rattle.leafset.specs.Span.{spanOf, spanTo, isNear}
-use Rattle.leafset.specs.declared.span.Way.{Way}
-use Rattle.leafset.specs.declared.span.Way.the-variants.{Clockwise, CounterClockwise}
+use Rattle.nearness.specs.Span.{spanOf, spanTo}
+use Rattle.leafset.specs.Near.{isNear}
+use Rattle.nearness.specs.declared.Way.{Way}
+use Rattle.nearness.specs.declared.Way.the-variants.{Clockwise, CounterClockwise}
 use Rattle.sets.proofs.Members.{count-to}
 use Rattle.sets.proofs.Bits.{toBits-ofBits}
 

@@ -9,7 +9,8 @@ use lib.Dec.{eqb, ltb}
 use borrow.Author.Tests.{ltb-true, ltb-false, lt-ltb, le-ltb}
 use Rattle.model.specs.Sets.{Set, without, count}
 use Rattle.model.proofs.Laws.{clash, is-false, decide, and-in, and-left, and-right, not-in, not-out, count-none, count-mono, count-more}
-use Rattle.leafset.specs.Span.{Least, Found, nobody, found, isNear, IsLimit}
+use Rattle.nearness.specs.Span.{Least, Found, nobody, found}
+use Rattle.leafset.specs.Near.{isNear, IsLimit}
 use Rattle.sets.proofs.Members.{without-here, without-else, count-split, count-without}
 
 -- ---- the nearest, taken out one after another

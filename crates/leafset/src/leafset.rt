@@ -9,11 +9,11 @@ ghost use Rattle.model.specs.Leafset as model;
 ghost use Rattle.sets.specs.Within.{Within};
 ghost use Rattle.leafset.specs.Table.{InTable};
 ghost use Rattle.model.specs.Structs.{tableOf};
-ghost use Rattle.leafset.specs.Span.{spanTo, isNear, IsLimit};
-use super::span;
-use super::span::Way;
+ghost use Rattle.nearness.specs.Span.{spanTo};
+ghost use Rattle.leafset.specs.Near.{isNear, IsLimit};
 use model::values::Key;
 use model::values::NodeNumber;
+use nearness::Way;
 
 // The limit below which the spans of the `leaf` nearest members lie.
 fn limit(keys: &[u32], leaf: u32, way: Way, from: Key, set: u64) -> u32
@@ -24,9 +24,9 @@ fn limit(keys: &[u32], leaf: u32, way: Way, from: Key, set: u64) -> u32
     let mut left = set;
     let mut taken = 0;
     while taken < leaf {
-        let y = span::nearest(keys, way, from, left);
+        let y = nearness::nearest(keys, way, from, left);
         let at = y.0 as usize;
-        limit = span::span(way, from, Key(keys[at])) + 1;
+        limit = nearness::span(way, from, Key(keys[at])) + 1;
         left = sets::without(left, y);
         taken += 1;
     }
@@ -44,7 +44,7 @@ fn below(keys: &[u32], limit: u32, way: Way, from: Key, set: u64) -> u64
         let y = sets::lowest(rest);
         let at = y.0 as usize;
         let more = sets::with(out, y);
-        if span::span(way, from, Key(keys[at])) < limit {
+        if nearness::span(way, from, Key(keys[at])) < limit {
             out = more;
         }
         rest = sets::rest(rest);

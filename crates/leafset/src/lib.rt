@@ -1,4 +1,3 @@
-// What a node computes from the table of keys and a set of nodes: its leafset, its successor, the choice of a spare.
+// What a node computes from the table of keys and a set of nodes: its leafset, and who lies outside.
 pub mod leafset;
-pub mod nearest;
-mod span;
+pub mod outside;

@@ -4,6 +4,7 @@ ghost use mathlib.Core.Bool.{true};
 ghost use Rattle.model.specs.Words.{readsAsRing};
 ghost use Rattle.model.specs.Buffer.{playBuffer};
 ghost use Rattle.events.specs.Applied.{written, eventOn};
+use event_words::event;
 use events::contact;
 use events::deliver;
 use events::state;
@@ -11,7 +12,6 @@ use events::timer;
 use model::answer::Answer;
 use model::event::Event;
 use model::event::Reading;
-use words::event;
 
 // The event, by its function: 7 to 11.
 pub fn play_event(words: &mut [u32], e: Event) -> Answer

@@ -1,12 +1,11 @@
 // The step of a delivered message.
-ghost use Prim.Native.Nat.{ℕ, _<_, _≤_, _^_};
+ghost use Prim.Native.Nat.{_<_, _≤_, _^_};
 ghost use lib.ListN.{length};
 ghost use Rattle.model.specs.Steps as steps;
 ghost use Rattle.model.specs.Structs.{tableOf, ownOf, messageOf};
 ghost use Rattle.leafset.specs.Table.{InTable};
-ghost use Rattle.protocol.specs.Effects.{OwnFits, Replies, Delivered};
-use super::handlers;
-use super::reply::Reply;
+ghost use Rattle.effects.specs.Effects.{OwnFits, Replies, Delivered};
+use effects::reply::Reply;
 use model::message::MessageRecord;
 use model::node::NodeRecord;
 use model::values::NodeNumber;
@@ -27,18 +26,18 @@ pub fn deliver(
 {
     let tag = message.tag;
     match tag {
-        MessageWord::PING_CONTACT => handlers::on_ping_contact(me, own, message),
-        MessageWord::PONG_CONTACT => handlers::on_pong_contact(time, own, message),
-        MessageWord::PING_ASK_INV => handlers::on_ping_ask_inv(keys, leaf, me, own, message),
-        MessageWord::PONG_ASK_INV => handlers::on_pong_ask_inv(own, message),
-        MessageWord::PING_INVITE => handlers::on_ping_invite(me, own, message),
-        MessageWord::PONG_INVITE => handlers::on_pong_invite(keys, leaf, me, time, own, message),
-        MessageWord::PING_ASK_REPL => handlers::on_ping_ask_repl(keys, leaf, me, own, message),
-        MessageWord::PONG_ASK_REPL => handlers::on_pong_ask_repl(own, message),
-        MessageWord::PING_REPLACE => handlers::on_ping_replace(me, time, own, message),
-        MessageWord::PONG_REPLACE => handlers::on_pong_replace(keys, leaf, me, time, own, message),
-        MessageWord::PING_DELOOPY => handlers::on_ping_deloopy(keys, me, own, message),
-        MessageWord::PONG_DELOOPY => handlers::on_pong_deloopy(own, message),
+        MessageWord::PING_CONTACT => joining::on_ping_contact(me, own, message),
+        MessageWord::PONG_CONTACT => joining::on_pong_contact(time, own, message),
+        MessageWord::PING_ASK_INV => joining::on_ping_ask_inv(keys, leaf, me, own, message),
+        MessageWord::PONG_ASK_INV => joining::on_pong_ask_inv(own, message),
+        MessageWord::PING_INVITE => joining::on_ping_invite(me, own, message),
+        MessageWord::PONG_INVITE => joining::on_pong_invite(keys, leaf, me, time, own, message),
+        MessageWord::PING_ASK_REPL => replacing::on_ping_ask_repl(keys, leaf, me, own, message),
+        MessageWord::PONG_ASK_REPL => replacing::on_pong_ask_repl(own, message),
+        MessageWord::PING_REPLACE => replacing::on_ping_replace(me, time, own, message),
+        MessageWord::PONG_REPLACE => replacing::on_pong_replace(keys, leaf, me, time, own, message),
+        MessageWord::PING_DELOOPY => joining::on_ping_deloopy(keys, me, own, message),
+        MessageWord::PONG_DELOOPY => joining::on_pong_deloopy(own, message),
         _ => Reply::quiet(own),
     }
 }

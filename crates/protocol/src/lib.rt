@@ -1,9 +1,3 @@
-// The steps of the protocol on a node's own record by value.
+// The steps of contacts, notices and delivered messages on a node's own record by value.
 pub mod contact;
 pub mod deliver;
-pub mod handlers;
-mod make;
-mod outside;
-mod own;
-pub mod reply;
-pub mod timers;

@@ -2,9 +2,9 @@
 ghost use mathlib.Core.Path.{_≡_};
 ghost use Rattle.model.specs.Buffer.{playBuffer};
 ghost use Rattle.events.specs.Applied.{written};
+use event_words::event;
 use model::answer::Answer;
 use model::event::Reading;
-use words::event;
 
 // 1; 4 and 5 of the word; 6; then those of the event.
 pub fn play(words: &mut [u32], word: u32) -> Answer

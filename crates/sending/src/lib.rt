@@ -9,28 +9,14 @@ ghost use Rattle.model.specs.Ring.{Ring};
 ghost use Rattle.model.specs.Words.{ringLength};
 ghost use Rattle.model.specs.Steps as steps;
 ghost use Rattle.model.specs.Play.{setMessages};
-ghost use Rattle.model.specs.Structs.{messageOf, spareAt, RoomNode, RoomMessage};
+ghost use Rattle.model.specs.Structs.{spareAt, RoomNode};
 ghost use Rattle.buffer.specs.Parts.{Is};
-use model::message::MessageRecord;
+use message_records::plain;
+use message_records::stamped;
 use model::node::NodeRecord;
 use model::values::NodeNumber;
 use model::values::Stamp;
 use words::ring::MessageWord;
-
-// A message of a type that uses nothing.
-fn plain(tag: u8, sender: NodeNumber, receiver: NodeNumber) -> MessageRecord
-    requires { ⌜ (tag < 2 ^ 4) × (sender .0 < 2 ^ 6) × (receiver .0 < 2 ^ 6) ⌝ }
-    ensures { λ r. ⌜ (messageOf r ≡ steps.plain tag (sender .0) (receiver .0)) × RoomMessage r ⌝ }
-{
-    MessageRecord {
-        tag,
-        sender,
-        receiver,
-        subject: NodeNumber::NONE,
-        stamp: Stamp(0),
-        view: 0,
-    }
-}
 
 // Sends a message of a type that uses nothing to each of the set, after the m messages. How many there are then.
 pub fn send_each(words: &mut [u32], m: usize, tag: u8, me: NodeNumber, to: u64) -> usize
@@ -46,21 +32,6 @@ pub fn send_each(words: &mut [u32], m: usize, tag: u8, me: NodeNumber, to: u64) 
         sent += 1;
     }
     sent
-}
-
-// A request to a spare: replace z for me. Its stamp is my clock.
-fn request(me: NodeNumber, spare: NodeNumber, z: NodeNumber, time: Stamp) -> MessageRecord
-    requires { ⌜ (me .0 < 2 ^ 6) × (spare .0 < 2 ^ 6) × (z .0 < 2 ^ 7) × (time .0 < 2 ^ 24) ⌝ }
-    ensures { λ r. ⌜ (messageOf r ≡ steps.stamped steps.pingReplace (me .0) (spare .0) (z .0) (time .0)) × RoomMessage r ⌝ }
-{
-    MessageRecord {
-        tag: MessageWord::PING_REPLACE,
-        sender: me,
-        receiver: spare,
-        subject: z,
-        stamp: time,
-        view: 0,
-    }
 }
 
 // Sends a request for each z of the set to its spare, after the m messages. How many there are then.
@@ -81,7 +52,11 @@ pub fn send_requests(
     while rest != 0 {
         let z = sets::lowest(rest);
         let at = z.0 as usize;
-        messages::append(words, sent, request(me, own.spare[at], z, time));
+        messages::append(
+            words,
+            sent,
+            stamped(MessageWord::PING_REPLACE, me, own.spare[at], z, time),
+        );
         rest = sets::rest(rest);
         sent += 1;
     }

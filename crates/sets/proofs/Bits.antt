@@ -10,17 +10,18 @@ use native.Mathlib.Omega.{arith}
 use lib.Dec.{eqb, eqb·zero-suc, eqb·suc-zero, eqb·suc-suc}
 use lib.Arith.{digits-div, digits-mod}
 use lib.Pow.{pow-pos, pow-lt, split, shr-shr, mod-pow-add}
-use lib.Bits.{bitAnd, bitOr, and-block, and-mask, and-zero-r, and-le-l, and-le-r, and-self, and-step, or-shr, or-mod}
+use lib.Bits.{bitAnd, bitOr, bitXor, and-block, and-mask, and-zero-r, and-le-l, and-le-r, and-self, and-step, and-shr, and-mod, or-shr, or-mod, xor-shr, xor-mod}
 use lib.Count.{ones, ones-cat, trailingZeros, trailing-le, under}
-use borrow.Author.Tests.{eqb-true}
+use native.Mathlib.Decide.{ℕ-discrete}
+use borrow.Author.Tests.{eqb-true, eq-eqb, ne-eqb}
 use Rattle.model.specs.Choice.{if_then_else_}
-use Rattle.model.specs.Sets.{Set, with, without, union, count, some, members, lowest, toBits, ofBits}
+use Rattle.model.specs.Sets.{Set, empty, with, without, union, count, some, members, lowest, toBits, ofBits}
 use Rattle.model.specs.Fields.{bit}
-use Rattle.model.proofs.Laws.{clash, and-left, or-case, decide, some-none}
+use Rattle.model.proofs.Laws.{clash, is-false, and-left, or-case, decide, some-none, some-out}
 use Rattle.model.proofs.Bits.{is-bit, toBits<}
 use Rattle.sets.specs.Rest.{IsRest}
 use Rattle.sets.specs.Within.{Within}
-use Rattle.sets.proofs.Members.{First, members-none, members-next, lowest-is, lowest-none, lowest-first, toBits-to}
+use Rattle.sets.proofs.Members.{First, members-none, members-next, lowest-is, lowest-none, lowest-first, toBits-to, some-to}
 
 -- ---- one bit
 
@@ -87,21 +88,50 @@ ones-count B h = ap ones (sym (toBits-ofBits 64 B h)) ∙ ones-toBits 64 (ofBits
 pub shift-one : (x : ℕ) → x < 64 → (1 * 2 ^ x) % 2 ^ 64 ≡ 2 ^ x
 shift-one x h = ap (λ (w : ℕ). w % 2 ^ 64) (one-mul (2 ^ x)) ∙ mod-eq-of-lt (pow-lt h)
 
-or-bit : (a b : Bool) → bitOr (bit a) (bit b) ≡ bit (a || b)
-or-bit true true = refl
-or-bit true false = refl
-or-bit false true = refl
-or-bit false false = refl
+-- an operation on numbers that goes bit by bit
+module _ (op : ℕ → ℕ → ℕ) (test : Bool → Bool → Bool)
+    (shift : (a b k : ℕ) → op a b / 2 ^ k ≡ op (a / 2 ^ k) (b / 2 ^ k))
+    (low : (a b k : ℕ) → op a b % 2 ^ k ≡ op (a % 2 ^ k) (b % 2 ^ k))
+    (one : (a b : Bool) → op (bit a) (bit b) ≡ bit (test a b)) where
+  bitwise : (A B y : ℕ) → ofBits (op A B) y ≡ test (ofBits A y) (ofBits B y)
+  bitwise A B y =
+      ap (λ (d : ℕ). eqb d 1)
+      (ap (λ (w : ℕ). w % 2) (shift A B y) ∙ low (A / 2 ^ y) (B / 2 ^ y) 1
+      ∙ ap₂ op (sym (bit-digit A y)) (sym (bit-digit B y)) ∙ one (ofBits A y) (ofBits B y))
+      ∙ is-bit (test (ofBits A y) (ofBits B y))
 
 pub ofBits-or : (A B y : ℕ) → ofBits (bitOr A B) y ≡ (ofBits A y || ofBits B y)
-ofBits-or A B y =
-    ap (λ (d : ℕ). eqb d 1)
-    (ap (λ (w : ℕ). w % 2) (or-shr A B y) ∙ or-mod (A / 2 ^ y) (B / 2 ^ y) 1
-    ∙ ap₂ bitOr (sym (bit-digit A y)) (sym (bit-digit B y)) ∙ or-bit (ofBits A y) (ofBits B y))
-    ∙ is-bit (ofBits A y || ofBits B y)
+ofBits-or = bitwise bitOr _||_ or-shr or-mod one
+  where
+    one : (a b : Bool) → bitOr (bit a) (bit b) ≡ bit (a || b)
+    one true true = refl
+    one true false = refl
+    one false true = refl
+    one false false = refl
 
 pub or-union : (A B : ℕ) → ofBits (bitOr A B) ≡ union (ofBits A) (ofBits B)
 or-union A B = fun-ext (ofBits-or A B)
+
+pub and-both : (A B : ℕ) → ofBits (bitAnd A B) ≡ (λ (y : ℕ). ofBits A y && ofBits B y)
+and-both A B = fun-ext (bitwise bitAnd _&&_ and-shr and-mod one A B)
+  where
+    one : (a b : Bool) → bitAnd (bit a) (bit b) ≡ bit (a && b)
+    one true true = refl
+    one true false = refl
+    one false true = refl
+    one false false = refl
+
+pub xor-minus : (A B : ℕ) → ofBits (bitXor A (bitAnd A B)) ≡ (λ (y : ℕ). ofBits A y && not (ofBits B y))
+xor-minus A B =
+    fun-ext (bitwise (λ a b. bitXor a (bitAnd a b)) (λ a b. a && not b)
+    (λ a b k. xor-shr a (bitAnd a b) k ∙ ap (bitXor (a / 2 ^ k)) (and-shr a b k))
+    (λ a b k. xor-mod a (bitAnd a b) k ∙ ap (bitXor (a % 2 ^ k)) (and-mod a b k)) one A B)
+  where
+    one : (a b : Bool) → bitXor (bit a) (bitAnd (bit a) (bit b)) ≡ bit (a && not b)
+    one true true = refl
+    one true false = refl
+    one false true = refl
+    one false false = refl
 
 -- a set of one
 of-zero : (B : ℕ) → ofBits B 0 ≡ eqb (B % 2) 1
@@ -112,6 +142,10 @@ of-suc B y = ap (λ (d : ℕ). eqb d 1) (digit-suc B y)
 
 pub of-none : (y : ℕ) → ofBits 0 y ≡ false
 of-none y = ap (λ (w : ℕ). eqb (w % 2) 1) (zero-div (2 ^ y))
+
+-- no bits, nobody
+pub nobody : ofBits 0 ≡ empty
+nobody = fun-ext of-none
 
 of-pow : (x y : ℕ) → ofBits (2 ^ x) y ≡ eqb y x
 of-pow zero zero = refl
@@ -259,8 +293,18 @@ pub within-with : (n set x r : ℕ) → ofBits r ≡ with (ofBits set) x → x <
 within-with n set x r e h w y t =
     or-case (ofBits set y) (eqb y x) (sym (ap (λ (S : Set). S y) e) ∙ t) (w y) (λ q. rw (eqb-true y x q) h)
 
+pub within-union : (n set other r : ℕ) → ofBits r ≡ union (ofBits set) (ofBits other) → Within n other → Within n set → Within n r
+within-union n set other r e h w y t = or-case (ofBits set y) (ofBits other y) (sym (ap (λ (S : Set). S y) e) ∙ t) (w y) (h y)
+
+pub within-none : (n : ℕ) → Within n 0
+within-none n y e = clash e (of-none y)
+
+-- a part of a set
+pub within-part : (n r : ℕ) (S R : Set) → ((y : ℕ) → S y ≡ true → y < n) → ofBits r ≡ (λ (y : ℕ). S y && R y) → Within n r
+within-part n r S R low e y t = low y (and-left (S y) (R y) (sym (ap (λ (Q : Set). Q y) e) ∙ t))
+
 pub within-without : (n set x r : ℕ) → ofBits r ≡ without (ofBits set) x → Within n set → Within n r
-within-without n set x r e w y t = w y (and-left (ofBits set y) (not (eqb y x)) (sym (ap (λ (S : Set). S y) e) ∙ t))
+within-without n set x r e w = within-part n r (ofBits set) (λ y. not (eqb y x)) w e
 
 pub within-less : (n set : ℕ) → n ≤ 64 → set < 2 ^ 64 → Within n set → set < 2 ^ n
 within-less n set h b w = rw (sym (toBits-ofBits 64 set b) ∙ sym (toBits-to (ofBits set) n w 64 h)) (toBits< n (ofBits set))
@@ -294,6 +338,14 @@ module _ {n rest : ℕ} (i : Rising n rest) where
 
 pub none-left : {rest : ℕ} → rest ≡ 0 → (y : ℕ) → ofBits rest y ≡ false
 none-left e y = ap (λ (w : ℕ). ofBits w y) e ∙ of-none y
+
+-- a number is 0 where its set has no member
+pub zero-none : (n set : ℕ) → n ≤ 64 → set < 2 ^ 64 → Within n set → eqb set 0 ≡ not (some n (ofBits set))
+zero-none n set few fits low =
+    elim (ℕ-discrete set 0) [
+      | yes e ↦ eq-eqb set 0 e ∙ sym (ap not (is-false (some n (ofBits set)) (λ s. let p = some-out n (ofBits set) s in clash (p .2) (none-left e (p .0)))))
+      | no d ↦ ne-eqb set 0 d ∙ sym (ap not (some-to (ofBits set) n low 64 few ∙ some-bit set fits (omega arith)))
+    ]
 
 pub members-end : {rest : ℕ} → rest ≡ 0 → members 64 (ofBits rest) ≡ []
 members-end {rest} e = members-none 64 (ofBits rest) (λ y h. none-left e y)

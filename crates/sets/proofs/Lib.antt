@@ -1,3 +1,4 @@
 pub mod Members
 pub mod Bits
 pub mod Collect
+pub mod Arrays

@@ -1,6 +1,7 @@
 // A set of nodes is a u64, "bit s for stand s".
 ghost use mathlib.Core.Path.{_≡_};
-ghost use Prim.Native.Nat.{_<_};
+ghost use mathlib.Core.Bool.{not, _&&_};
+ghost use Prim.Native.Nat.{ℕ, _<_};
 ghost use Rattle.model.specs.Sets.{ofBits, count};
 ghost use Rattle.model.specs.Sets as model;
 ghost use Rattle.sets.specs.Rest.{IsRest};
@@ -28,6 +29,13 @@ pub fn without(set: u64, x: NodeNumber) -> u64
     ensures { λ r. ⌜ ofBits r ≡ model.without (ofBits set) (x .0) ⌝ }
 {
     set - (set & (1 << x.0))
+}
+
+// The members of a that are not in b.
+pub fn minus(a: u64, b: u64) -> u64
+    ensures { λ r. ⌜ ofBits r ≡ (λ (y : ℕ). ofBits a y && not (ofBits b y)) ⌝ }
+{
+    a ^ (a & b)
 }
 
 // How many members the set has.

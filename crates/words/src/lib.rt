@@ -1,3 +1,2 @@
-// The words of document 01 as types: kinds and message types, constructors and readers.
-pub mod event;
+// The words of a ring as types: kinds and message types, constructors and readers.
 pub mod ring;

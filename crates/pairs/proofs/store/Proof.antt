@@ -6,7 +6,7 @@ use borrow.Author.Needs.{needs}
 use Rattle.model.specs.Words.{spareWord}
 use Rattle.model.specs.Structs.{ownOf}
 use Rattle.pairs.specs.Pairs.{Stored}
-use Rattle.buffer.proofs.Arrays.{spare-read}
+use Rattle.sets.proofs.Arrays.{spare-read}
 use Rattle.pairs.proofs.Stores.{stored-none, stored-more}
 use Rattle.pairs.proofs.store.Statement.{statement}
 use Rattle.pairs.proofs.store.Tie as tie

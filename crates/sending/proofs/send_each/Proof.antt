@@ -16,13 +16,13 @@ loop-holds c = send-none _ _ _ _ (c .before .pre .0) (search needs) (c .before .
 
 plain-requires : tie.Need-plain-requires Inv-loop μ-loop
 plain-requires c κs =
-    let p = c .before .before .before .before .before .pre in
-    (p .1, p .2, sent-below _ _ _ _ _ _ _ (c .before .before .before .loop .inv) (c .before .before .loop-test .taken) _ (c .before .lowest .ensures))
+    let h = sent-below _ _ _ _ _ _ _ (c .before .before .before .loop .inv) (c .before .before .loop-test .taken) _ (c .before .lowest .ensures) in
+    search needs
 
 append-requires : tie.Need-append-requires Inv-loop μ-loop
 append-requires c κs =
     let s = c .before .before .before .before .loop .inv in
-    (s .long, sent-room _ _ _ _ _ _ _ s (c .before .before .before .loop-test .taken) _ (c .before .before .lowest .ensures), c .plain .ensures .1)
+    (s .long, sent-room _ _ _ _ _ _ _ s (c .before .before .before .loop-test .taken) _ (c .before .before .lowest .ensures), c .plain .ensures .room)
 
 add-sent : tie.Need-add-sent Inv-loop μ-loop
 add-sent c =
@@ -36,7 +36,7 @@ loop-again : tie.Need-loop-again Inv-loop μ-loop
 loop-again c =
     let s = c .before .before .before .before .before .before .before .before .loop .inv in
     send-more _ _ _ _ _ _ _ s (c .before .before .before .before .before .before .before .loop-test .taken) _ (c .before .before .before .before .before .before .lowest .ensures) _ (c .rest .ensures) _ _
-    (search needs) (c .before .before .before .before .plain .ensures .0) (c .before .before .before .append .ensures)
+    (search needs) (c .before .before .before .before .plain .ensures .message) (c .before .before .before .append .ensures)
 
 same-length : tie.Need-same-length Inv-loop μ-loop
 same-length c = c .before .loop .inv .long ∙ sym (c .before .before .before .pre .0)

@@ -8,14 +8,8 @@ use Rattle.sets.proofs.Bits.{or-with, shift-one}
 use Rattle.sets.proofs.with.Statement.{statement}
 use Rattle.sets.proofs.with.Tie as tie
 
-cast-result : tie.Need-cast-result
-cast-result c = search needs
-
-shl-result : tie.Need-shl-result
-shl-result c = search needs
-
 returns : tie.Need-returns
 returns c = let a = c .before .args in ap (λ (w : ℕ). ofBits (bitOr (a .set) w)) (shift-one (a .x .0) (c .before .pre)) ∙ or-with (a .set) (a .x .0)
 
 pub with-spec : {M : Type 1} → statement M
-with-spec = tie.close (tie.spec cast-result shl-result returns)
+with-spec = tie.close (tie.spec (λ c. search needs) (λ c. search needs) returns)

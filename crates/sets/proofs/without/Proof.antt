@@ -8,12 +8,6 @@ use Rattle.sets.proofs.Bits.{sub-without, shift-one}
 use Rattle.sets.proofs.without.Statement.{statement}
 use Rattle.sets.proofs.without.Tie as tie
 
-cast-result : tie.Need-cast-result
-cast-result c = search needs
-
-shl-result : tie.Need-shl-result
-shl-result c = search needs
-
 sub-result : tie.Need-sub-result
 sub-result c = and-le-l _ _
 
@@ -21,4 +15,4 @@ returns : tie.Need-returns
 returns c = let a = c .before .args in ap (λ (w : ℕ). ofBits (a .set - bitAnd (a .set) w)) (shift-one (a .x .0) (c .before .pre)) ∙ sub-without (a .set) (a .x .0)
 
 pub without-spec : {M : Type 1} → statement M
-without-spec = tie.close (tie.spec cast-result shl-result sub-result returns)
+without-spec = tie.close (tie.spec (λ c. search needs) (λ c. search needs) sub-result returns)

@@ -4,7 +4,7 @@ use Prim.Native.Nat.{ℕ, _+_, _≤_}
 use native.Mathlib.Omega.{arith}
 use lib.ListN.{length-append}
 use borrow.Author.Tests.{not-true, not-false}
-use Rattle.protocol.specs.Effects.{replyEffect}
+use Rattle.effects.specs.Effects.{replyEffect}
 use Rattle.events.specs.Applied.{acted}
 use Rattle.events.proofs.Answered.{applied-room, applied-full}
 use Rattle.events.proofs.Acted.{acted-silent, acted-reply}

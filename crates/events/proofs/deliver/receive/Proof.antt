@@ -8,7 +8,7 @@ use Rattle.model.specs.Words.{ringLength, decode}
 use Rattle.model.specs.Play.{removeMessage}
 use Rattle.model.specs.Structs.{messageOf}
 use Rattle.buffer.proofs.ReadRing.{read-is}
-use Rattle.protocol.specs.Effects.{replyEffect}
+use Rattle.effects.specs.Effects.{replyEffect}
 use Rattle.events.specs.Applied.{acted}
 use Rattle.events.proofs.Valid.{long, leaf-high}
 use Rattle.events.proofs.Answered.{applied-over}

@@ -7,7 +7,7 @@ use lib.ListN.{length}
 use borrow.Author.Tests.{lt-ltb, le-ltb}
 use borrow.Author.Needs.{needs}
 use Rattle.model.specs.Sets.{ofBits}
-use Rattle.leafset.specs.Span.{spanTo}
+use Rattle.nearness.specs.Span.{spanTo}
 use Rattle.sets.proofs.Bits.{Rising, rising-first, rising-below, rising-rest, rising-set, of-none, none-left}
 use Rattle.sets.proofs.Collect.{Collected, collected-none, collected-kept, collected-passed, collected-end}
 use Rattle.leafset.proofs.leafset.below.Statement.{statement}
@@ -23,31 +23,13 @@ abbrev μ-loop : tie.MeasureT-loop
 loop-holds : tie.Need-loop-holds Inv-loop μ-loop
 loop-holds c = (record { fits = c .before .fits .set .fits; low = c .before .pre }, collected-none _ _ of-none)
 
-lowest-requires : tie.Need-lowest-requires Inv-loop μ-loop
-lowest-requires c κs = search needs
-
-cast-at : tie.Need-cast-at Inv-loop μ-loop
-cast-at c = search needs
-
 with-requires : tie.Need-with-requires Inv-loop μ-loop
 with-requires c κs = rising-first (c .before .before .before .loop .inv .0) (c .before .before .loop-test .taken) _ (c .before .lowest .ensures) .below
-
-mul-t13 : tie.Need-mul-t13 Inv-loop μ-loop
-mul-t13 c = search needs
 
 shared-slice-read-t15 : tie.Need-shared-slice-read-t15 Inv-loop μ-loop
 shared-slice-read-t15 c =
     let l = c .before .before .before .before .before .loop in
     rising-below (l .inv .0) (c .before .before .before .before .loop-test .taken) _ (c .before .before .before .lowest .ensures)
-
-span-requires : tie.Need-span-requires Inv-loop μ-loop
-span-requires c κs = search needs
-
-rest-requires : tie.Need-rest-requires Inv-loop μ-loop
-rest-requires c κs = search needs
-
-loop-less : tie.Need-loop-less Inv-loop μ-loop
-loop-less c = search needs
 
 loop-again : tie.Need-loop-again Inv-loop μ-loop
 loop-again c =
@@ -74,16 +56,5 @@ pub below-spec : {M : Type 1} → statement M
 below-spec =
     tie.close
     (tie.spec
-    Inv-loop
-    μ-loop
-    loop-holds
-    lowest-requires
-    cast-at
-    with-requires
-    mul-t13
-    shared-slice-read-t15
-    span-requires
-    rest-requires
-    loop-less
-    loop-again
-    returns)
+    Inv-loop μ-loop loop-holds (λ c κs. search needs) (λ c. search needs) with-requires (λ c. search needs)
+    shared-slice-read-t15 (λ c κs. search needs) (λ c κs. search needs) (λ c. search needs) loop-again returns)

@@ -6,8 +6,8 @@ use lib.ListN.{getD}
 use borrow.Author.Needs.{needs}
 use Rattle.model.specs.Sets.{ofBits, without}
 use Rattle.model.proofs.Bits.{bit-below}
-use Rattle.leafset.specs.Span.{spanTo}
-use Rattle.leafset.proofs.Spans.{span<}
+use Rattle.nearness.specs.Span.{spanTo}
+use Rattle.nearness.proofs.Spans.{span<}
 use Rattle.leafset.proofs.Limit.{Taken, taken-none, taken-least, taken-more, taken-limit}
 use Rattle.leafset.proofs.leafset.limit.Statement.{statement}
 use Rattle.leafset.proofs.leafset.limit.Tie as tie
@@ -25,19 +25,10 @@ loop-holds c = (omega arith, taken-none (ofBits (c .before .args .set)) _ (λ y 
 nearest-requires : tie.Need-nearest-requires Inv-loop μ-loop
 nearest-requires c κs = λ y e. c .before .before .before .pre .0 y (c .before .loop .inv .1 .part y e)
 
-cast-at : tie.Need-cast-at Inv-loop μ-loop
-cast-at c = search needs
-
-mul-t13 : tie.Need-mul-t13 Inv-loop μ-loop
-mul-t13 c = search needs
-
 shared-slice-read-t15 : tie.Need-shared-slice-read-t15 Inv-loop μ-loop
 shared-slice-read-t15 c =
     let t = c .before .before .before .before .loop .inv .1 in
     c .before .before .before .before .before .before .pre .0 _ (t .part _ (taken-least t (omega arith) (c .before .before .nearest .ensures) .member))
-
-span-requires : tie.Need-span-requires Inv-loop μ-loop
-span-requires c κs = search needs
 
 add-limit : tie.Need-add-limit Inv-loop μ-loop
 add-limit c =
@@ -48,12 +39,6 @@ without-requires : tie.Need-without-requires Inv-loop μ-loop
 without-requires c κs =
     let t = c .before .before .before .before .before .loop .inv .1 in
     t .low _ (t .part _ (taken-least t (omega arith) (c .before .before .before .nearest .ensures) .member))
-
-add-taken : tie.Need-add-taken Inv-loop μ-loop
-add-taken c = search needs
-
-loop-less : tie.Need-loop-less Inv-loop μ-loop
-loop-less c = search needs
 
 loop-again : tie.Need-loop-again Inv-loop μ-loop
 loop-again c =
@@ -69,17 +54,6 @@ pub limit-spec : {M : Type 1} → statement M
 limit-spec =
     tie.close
     (tie.spec
-    Inv-loop
-    μ-loop
-    loop-holds
-    nearest-requires
-    cast-at
-    mul-t13
-    shared-slice-read-t15
-    span-requires
-    add-limit
-    without-requires
-    add-taken
-    loop-less
-    loop-again
+    Inv-loop μ-loop loop-holds nearest-requires (λ c. search needs) (λ c. search needs) shared-slice-read-t15
+    (λ c κs. search needs) add-limit without-requires (λ c. search needs) (λ c. search needs) loop-again
     returns)

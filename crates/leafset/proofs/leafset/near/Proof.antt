@@ -1,16 +1,10 @@
 -- `leafset::leafset::near` meets its contract.
 use borrow.Author.Needs.{needs}
 use Rattle.model.specs.Sets.{ofBits}
-use Rattle.leafset.specs.Span.{spanTo}
+use Rattle.nearness.specs.Span.{spanTo}
 use Rattle.leafset.proofs.Limit.{limit-near}
 use Rattle.leafset.proofs.leafset.near.Statement.{statement}
 use Rattle.leafset.proofs.leafset.near.Tie as tie
-
-limit-requires : tie.Need-limit-requires
-limit-requires c κs = search needs
-
-below-requires : tie.Need-below-requires
-below-requires c κs = search needs
 
 returns : tie.Need-returns
 returns c =
@@ -18,4 +12,4 @@ returns c =
     limit-near (a .leaf) (ofBits (a .set)) (spanTo (a .way) (a .from .0) (a .keys .now)) (c .before .limit .result) (c .before .limit .ensures) (ofBits (c .below .result)) (c .below .ensures)
 
 pub near-spec : {M : Type 1} → statement M
-near-spec = tie.close (tie.spec limit-requires below-requires returns)
+near-spec = tie.close (tie.spec (λ c κs. search needs) (λ c κs. search needs) returns)

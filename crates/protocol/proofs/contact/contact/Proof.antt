@@ -1,19 +1,13 @@
 -- `protocol::contact::contact` meets its contract.
 use borrow.Author.Needs.{needs}
 use Rattle.model.specs.Steps as steps
-use Rattle.protocol.proofs.Changes.{unchanged}
+use Rattle.effects.proofs.Changes.{unchanged}
 use Rattle.protocol.proofs.contact.contact.Statement.{statement}
 use Rattle.protocol.proofs.contact.contact.Tie as tie
-
-plain-requires : tie.Need-plain-requires
-plain-requires c κs = search needs
-
-sending-requires : tie.Need-sending-requires
-sending-requires c κs = search needs
 
 returns : tie.Need-returns
 unfolding steps.contact
 returns c = λ t time n fits. c .sending .ensures n _ _ (unchanged fits) (c .before .plain .ensures)
 
 pub contact-spec : {M : Type 1} → statement M
-contact-spec = tie.close (tie.spec plain-requires sending-requires returns)
+contact-spec = tie.close (tie.spec (λ c κs. search needs) (λ c κs. search needs) returns)

@@ -3,25 +3,13 @@ use mathlib.Core.Path.{sym, _∙_}
 use borrow.Author.Tests.{not-true, not-false}
 use borrow.Author.Needs.{needs}
 use Rattle.model.specs.Steps as steps
-use Rattle.protocol.proofs.Changes.{unchanged}
+use Rattle.effects.proofs.Changes.{unchanged}
 use Rattle.protocol.proofs.contact.notice.Statement.{statement}
 use Rattle.protocol.proofs.contact.notice.Tie as tie
-
-has-requires : tie.Need-has-requires
-has-requires c κs = search needs
-
-quiet-requires : tie.Need-quiet-requires
-quiet-requires c κs = search needs
 
 returns : tie.Need-returns
 unfolding steps.notice
 returns c = λ t me time n fits. rw (sym (c .before .before .has .ensures) ∙ not-true _ (c .before .if1 .taken)) (c .quiet .ensures n _ (unchanged fits))
-
-release-requires : tie.Need-release-requires
-release-requires c κs = search needs
-
-quiet-requires-2 : tie.Need-quiet-requires-2
-quiet-requires-2 c κs = search needs
 
 returns-2 : tie.Need-returns-2
 unfolding steps.notice
@@ -30,4 +18,6 @@ returns-2 c = λ t me time n fits. rw (sym (c .before .before .before .has .ensu
 pub notice-spec : {M : Type 1} → statement M
 notice-spec =
     tie.close
-    (tie.spec has-requires quiet-requires returns release-requires quiet-requires-2 returns-2)
+    (tie.spec
+    (λ c κs. search needs) (λ c κs. search needs) returns (λ c κs. search needs) (λ c κs. search needs)
+    returns-2)

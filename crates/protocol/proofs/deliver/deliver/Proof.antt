@@ -3,34 +3,10 @@ use mathlib.Core.Path.{_≡_}
 use Prim.Native.Nat.{ℕ, suc, _<_}
 use native.Mathlib.Omega.{arith}
 use borrow.Author.Needs.{needs}
-use Rattle.protocol.proofs.Changes.{unchanged}
+use Rattle.effects.proofs.Changes.{unchanged}
 use Rattle.protocol.proofs.Steps.{by-type, by-no-type}
 use Rattle.protocol.proofs.deliver.deliver.Statement.{statement}
 use Rattle.protocol.proofs.deliver.deliver.Tie as tie
-
-on-ping-contact-requires : tie.Need-on-ping-contact-requires
-on-ping-contact-requires c κs = search needs
-
-on-pong-contact-requires : tie.Need-on-pong-contact-requires
-on-pong-contact-requires c κs = search needs
-
-on-ping-ask-inv-requires : tie.Need-on-ping-ask-inv-requires
-on-ping-ask-inv-requires c κs = search needs
-
-on-pong-ask-inv-requires : tie.Need-on-pong-ask-inv-requires
-on-pong-ask-inv-requires c κs = search needs
-
-on-ping-invite-requires : tie.Need-on-ping-invite-requires
-on-ping-invite-requires c κs = search needs
-
-on-pong-invite-requires : tie.Need-on-pong-invite-requires
-on-pong-invite-requires c κs = search needs
-
-on-ping-ask-repl-requires : tie.Need-on-ping-ask-repl-requires
-on-ping-ask-repl-requires c κs = search needs
-
-on-pong-ask-repl-requires : tie.Need-on-pong-ask-repl-requires
-on-pong-ask-repl-requires c κs = search needs
 
 on-ping-replace-requires : tie.Need-on-ping-replace-requires
 on-ping-replace-requires c κs = let low = c .before .before .pre .4 .subject-low (search needs) (search needs) in search needs
@@ -40,12 +16,6 @@ on-pong-replace-requires c κs = let low = c .before .before .pre .4 .subject-lo
 
 on-ping-deloopy-requires : tie.Need-on-ping-deloopy-requires
 on-ping-deloopy-requires c κs = let low = c .before .before .pre .4 .subject-low (search needs) (search needs) in search needs
-
-on-pong-deloopy-requires : tie.Need-on-pong-deloopy-requires
-on-pong-deloopy-requires c κs = search needs
-
-quiet-requires : tie.Need-quiet-requires
-quiet-requires c κs = search needs
 
 returns : tie.Need-returns
 returns c = by-type _ _ _ _ _ 1 (search needs) (c .on-ping-contact .ensures _ _ _ (c .before .before .before .pre .1))
@@ -101,29 +71,8 @@ pub deliver-spec : {M : Type 1} → statement M
 deliver-spec =
     tie.close
     (tie.spec
-    on-ping-contact-requires
-    on-pong-contact-requires
-    on-ping-ask-inv-requires
-    on-pong-ask-inv-requires
-    on-ping-invite-requires
-    on-pong-invite-requires
-    on-ping-ask-repl-requires
-    on-pong-ask-repl-requires
-    on-ping-replace-requires
-    on-pong-replace-requires
-    on-ping-deloopy-requires
-    on-pong-deloopy-requires
-    quiet-requires
-    returns
-    returns-2
-    returns-3
-    returns-4
-    returns-5
-    returns-6
-    returns-7
-    returns-8
-    returns-9
-    returns-10
-    returns-11
-    returns-12
-    returns-13)
+    (λ c κs. search needs) (λ c κs. search needs) (λ c κs. search needs) (λ c κs. search needs)
+    (λ c κs. search needs) (λ c κs. search needs) (λ c κs. search needs) (λ c κs. search needs)
+    on-ping-replace-requires on-pong-replace-requires on-ping-deloopy-requires (λ c κs. search needs)
+    (λ c κs. search needs) returns returns-2 returns-3 returns-4 returns-5 returns-6 returns-7 returns-8
+    returns-9 returns-10 returns-11 returns-12 returns-13)

@@ -1,0 +1,14 @@
+-- The nearest of a set.
+use mathlib.Core.Path.{_≡_}
+use mathlib.Core.Bool.{true, _&&_}
+use Prim.Native.Nat.{ℕ}
+use lib.Dec.{ltb}
+use Rattle.model.specs.Sets.{Set, count}
+
+-- y is one of the `leaf` nearest of S: fewer than `leaf` are nearer
+abbrev pub isNear : ℕ → Set → (ℕ → ℕ) → Set
+isNear leaf S m y = ltb (count 64 (λ z. S z && ltb (m z) (m y))) leaf
+
+-- those of S whose m is below the limit are the `leaf` nearest
+abbrev pub IsLimit : ℕ → Set → (ℕ → ℕ) → ℕ → Type 0
+IsLimit leaf S m limit = (y : ℕ) → S y ≡ true → ltb (m y) limit ≡ isNear leaf S m y
