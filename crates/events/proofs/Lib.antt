@@ -1,8 +1,1 @@
-pub mod Valid
-pub mod Refusals
-pub mod Answered
-pub mod Acted
-pub mod Actors
-pub mod Lent
-pub mod Delivery
-pub mod LentBuffer
+pub mod Plays

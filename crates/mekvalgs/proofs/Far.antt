@@ -16,9 +16,9 @@ use Rattle.model.specs.Play.{noNode}
 use Rattle.model.specs.Questions.{leafsetAnswer, leafsetOf, connectionAnswer, connectionOf}
 use Rattle.model.proofs.Laws.{decide, is-false}
 use Rattle.model.proofs.Answers.{accepted-is}
-use Rattle.events.proofs.Valid.{few}
-use Rattle.events.proofs.Refusals.{here, out-of-table}
-use Rattle.events.proofs.LentBuffer.{later, no-ring}
+use Rattle.answers.proofs.Valid.{few}
+use Rattle.answers.proofs.Refusals.{here, out-of-table}
+use Rattle.answers.proofs.LentBuffer.{later, no-ring}
 use Rattle.questions.proofs.Asked
 use Rattle.mekvalgs.specs.Nodes.{nodeOf}
 

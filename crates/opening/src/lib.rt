@@ -5,7 +5,7 @@ ghost use lib.ListN.{length};
 ghost use Rattle.model.specs.Words.{keysDiffer, inRange};
 ghost use Rattle.model.specs.Structs.{tableOf};
 ghost use Rattle.model.specs.Buffer.{openBuffer};
-ghost use Rattle.events.specs.Applied.{written};
+ghost use Rattle.answers.specs.Applied.{written};
 ghost use Rattle.opening.specs.Keys.{keyDiffers, keysFit};
 use model::answer::Answer;
 

@@ -21,9 +21,9 @@ use Rattle.model.specs.declared.answer.Answer.the-variants.{Accepted, NodeOff}
 use Rattle.model.proofs.Laws.{not-out-false}
 use Rattle.model.proofs.Lists.{first, rest}
 use Rattle.model.proofs.Answers.{none-applies}
-use Rattle.events.proofs.Answered.{is-accepted, is-refused}
-use Rattle.events.proofs.Refusals.{stays, passes}
-use Rattle.events.proofs.LentBuffer.{later, again}
+use Rattle.answers.proofs.Answered.{is-accepted, is-refused}
+use Rattle.answers.proofs.Refusals.{stays, passes}
+use Rattle.answers.proofs.LentBuffer.{later, again}
 use Rattle.questions.specs.Asked.{nodesRefusals}
 
 -- ---- an answer, by its number

@@ -13,7 +13,7 @@ use Rattle.model.proofs.Decoded.{reads-well}
 use Rattle.leafset.specs.Table.{InTable}
 use Rattle.pairs.specs.Pairs.{LoadedNode}
 use Rattle.buffer.proofs.ReadRing.{read-sizes}
-use Rattle.events.proofs.Valid.{few}
+use Rattle.answers.proofs.Valid.{few}
 
 module _ (ws : List ℕ) (reads : readsAsRing ws ≡ true) where
   pub leaf-high : {leaf : ℕ} → leaf ≡ decodeTable ws .leaf → leaf ≤ 8

@@ -19,8 +19,8 @@ use Rattle.model.specs.declared.answer.Answer.the-variants.{Accepted, WrongLeng
 use Rattle.model.proofs.Laws.{clash}
 use Rattle.model.proofs.Answers.{accepted-is}
 use Rattle.model.proofs.Theorems.{opening-reads, playing-reads, refused-opening, connectivity-preserved}
-use Rattle.events.specs.Applied.{written}
-use Rattle.events.proofs.Answered.{refuses, accepts}
+use Rattle.answers.specs.Applied.{written}
+use Rattle.answers.proofs.Answered.{refuses, accepts}
 use Rattle.ring.specs.Replay.{replayBuffer, Replayed, PlayedUpTo}
 
 -- an answer's number fits a byte

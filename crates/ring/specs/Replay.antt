@@ -11,7 +11,7 @@ use Rattle.model.specs.Buffer.{Written, writes, openBuffer, playBuffer, playBuf
 use Rattle.model.specs.ConnectivityPreserved.{wordsAt, Unbroken}
 use Rattle.model.specs.declared.answer.Answer.{Answer}
 use Rattle.model.specs.declared.answer.Answer.the-variants.{Accepted}
-use Rattle.events.specs.Applied.{written}
+use Rattle.answers.specs.Applied.{written}
 
 -- the opening's answer, and the words that the script leaves; "nothing is written" where the opening is refused
 unfoldable pub replayBuffer : List ℕ → Table → List ℕ → Written

@@ -1,7 +1,7 @@
 // Playing an event word on lent words.
 ghost use mathlib.Core.Path.{_≡_};
 ghost use Rattle.model.specs.Buffer.{playBuffer};
-ghost use Rattle.events.specs.Applied.{written};
+ghost use Rattle.answers.specs.Applied.{written};
 use event_words::event;
 use model::answer::Answer;
 use model::event::Reading;
@@ -20,7 +20,7 @@ pub fn play(words: &mut [u32], word: u32) -> Answer
             if !validity::reads_as_ring(words) {
                 return Answer::NotARing;
             }
-            playing::play_event(words, e)
+            events::play_event(words, e)
         }
     }
 }

@@ -2,7 +2,7 @@ use mathlib.Core.Path.{refl, sym, ap₂, _∙_}
 use mathlib.Core.Bool.{_&&_}
 use borrow.Author.Tests.{not-true, not-false}
 use Rattle.model.specs.Buffer.{openBuffer}
-use Rattle.events.proofs.Answered.{refuses, accepts}
+use Rattle.answers.proofs.Answered.{refuses, accepts}
 use Rattle.opening.proofs.Opened.{refused-length, refused-range, refused-key, opened, leaf-room, few-keys, key-room}
 use borrow.Author.Needs.{needs}
 use Rattle.opening.proofs.open.Statement.{statement}

@@ -3,7 +3,7 @@ use mathlib.Core.List.{List}
 use Prim.Native.Nat.{ℕ}
 use native.Mathlib.Omega.{arith}
 use lib.ListN.{length-take}
-use Rattle.events.proofs.Valid.{long, few}
+use Rattle.answers.proofs.Valid.{long, few}
 use Rattle.questions.proofs.Held.{leaf-high, held-in-table, held-leafset}
 use Rattle.questions.proofs.held_leafset.Statement.{statement}
 use Rattle.questions.proofs.held_leafset.Tie as tie

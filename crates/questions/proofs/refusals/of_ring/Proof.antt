@@ -5,8 +5,8 @@ use Prim.Native.Nat.{ℕ}
 use native.Mathlib.Omega.{arith}
 use borrow.Author.Needs.{needs}
 use borrow.Author.Tests.{not-true, not-false}
-use Rattle.events.proofs.Valid.{long}
-use Rattle.events.proofs.Refusals.{here, next, in-table, out-of-table}
+use Rattle.answers.proofs.Valid.{long}
+use Rattle.answers.proofs.Refusals.{here, next, in-table, out-of-table}
 use Rattle.questions.proofs.Asked.{one-off, both-on}
 use Rattle.questions.proofs.refusals.of_ring.Statement.{statement}
 use Rattle.questions.proofs.refusals.of_ring.Tie as tie

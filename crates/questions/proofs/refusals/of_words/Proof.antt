@@ -3,8 +3,8 @@ use mathlib.Core.List.{List}
 use Prim.Native.Nat.{ℕ}
 use borrow.Author.Tests.{not-true, not-false}
 use Rattle.model.specs.Questions.{groupsAnswer}
-use Rattle.events.proofs.Refusals
-use Rattle.events.proofs.LentBuffer.{wrong-length, right-length, no-ring, a-ring}
+use Rattle.answers.proofs.Refusals
+use Rattle.answers.proofs.LentBuffer.{wrong-length, right-length, no-ring, a-ring}
 use borrow.Author.Needs.{needs}
 use Rattle.questions.proofs.refusals.of_words.Statement.{statement}
 use Rattle.questions.proofs.refusals.of_words.Tie as tie

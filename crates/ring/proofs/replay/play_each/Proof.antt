@@ -3,7 +3,7 @@ use Prim.Native.Nat.{_-_, _≤_}
 use native.Mathlib.Omega.{arith}
 use lib.ListN.{length}
 use borrow.Author.Needs.{needs}
-use Rattle.events.proofs.Valid.{long}
+use Rattle.answers.proofs.Valid.{long}
 use Rattle.ring.specs.Replay.{PlayedUpTo}
 use Rattle.ring.proofs.Replays.{none-played, one-more}
 use Rattle.ring.proofs.replay.play_each.Statement.{statement}

@@ -1,0 +1,49 @@
+use native.Mathlib.Omega.{arith}
+use Rattle.model.specs.Structs.{ownOf}
+use Rattle.applying.proofs.Acted.{each-full, each-room}
+use borrow.Author.Needs.{needs}
+use Rattle.applying.proofs.requests.Statement.{statement}
+use Rattle.applying.proofs.requests.Tie as tie
+
+size-requires : tie.Need-size-requires
+size-requires c κs = search needs
+
+cast-more : tie.Need-cast-more
+cast-more c = search needs
+
+add-if1 : tie.Need-add-if1
+add-if1 c = search needs
+
+returns : tie.Need-returns
+returns c =
+    let a = c .before .before .before .args in
+    λ ρ is now. each-full (a .words .now) is (a .x .0) (ownOf (a .own)) _ (a .to) (omega (arith, c .if1 .taken, c .before .size .ensures))
+
+store-requires : tie.Need-store-requires
+store-requires c κs = search needs
+
+send-requests-requires : tie.Need-send-requests-requires
+send-requests-requires c κs = search needs
+
+same-length : tie.Need-same-length
+same-length c = search needs
+
+returns-2 : tie.Need-returns-2
+returns-2 c =
+    let a = c .before .before .before .before .before .before .before .before .before .before .before .args in
+    λ ρ is now.
+    each-room (a .words .now) is (a .x .0) (ownOf (a .own)) _ (a .to) (c .before .before .send-requests .ensures _ _ (c .before .before .before .before .before .before .store .ensures ρ _ is)) now
+    (omega (arith, c .before .before .before .before .before .before .before .before .if1 .left, c .before .before .before .before .before .before .before .before .before .size .ensures))
+
+pub requests-spec : {M : Type 1} → statement M
+requests-spec =
+    tie.close
+    (tie.spec
+    size-requires
+    cast-more
+    add-if1
+    returns
+    store-requires
+    send-requests-requires
+    same-length
+    returns-2)

@@ -1,0 +1,74 @@
+// The event deliver, with its refusals from the state.
+ghost use mathlib.Core.Path.{_≡_};
+ghost use mathlib.Core.Bool.{true};
+ghost use Prim.Native.Nat.{_<_};
+ghost use lib.ListN.{length};
+ghost use Rattle.model.specs.Answers.{firstOf};
+ghost use Rattle.model.specs.Words.{decode, readsAsRing};
+ghost use Rattle.model.specs.Steps as steps;
+ghost use Rattle.model.specs.Play.{after};
+ghost use Rattle.model.specs.Structs.{ownOf, messageOf};
+ghost use Rattle.model.specs.declared.answer.Answer.the-variants.{Accepted};
+ghost use Rattle.model.specs.declared.event.Event.the-variants.{Deliver};
+ghost use Rattle.messages.specs.Loaded.{LoadedMessage};
+ghost use Rattle.effects.specs.Effects.{Replies, Delivered};
+ghost use Rattle.acting.specs.Acting.{mayAct, IsActor};
+ghost use Rattle.answers.specs.Applied.{written, eventOn, applied};
+use acting::Actor;
+use buffer::head;
+use effects::reply::Reply;
+use model::answer::Answer;
+use model::message::MessageRecord;
+
+// "Delivery takes the message out first; to a stand that is off, nothing else happens."
+pub fn deliver(words: &mut [u32], position: u16) -> Answer
+    requires { ⌜ readsAsRing (now words) ≡ true ⌝ }
+    ensures { λ r. ⌜ written r (now (words .exit)) ≡ eventOn (now (words .entry)) (Deliver position) ⌝ }
+{
+    let m = head::messages(words);
+    let k = position as usize;
+    if m <= k {
+        return Answer::OutOfTable;
+    }
+    let message = messages::load(words, k);
+    let y = message.receiver;
+    if !nodes::is_running(words, y) {
+        messages::remove(words, m, k);
+        return Answer::Accepted;
+    }
+    let answer = acting::may_act(words, y);
+    if answer.number() != 0 {
+        return answer;
+    }
+    receive(words, k, message)
+}
+
+// The message at position k, at its receiver, which may act.
+fn receive(words: &mut [u32], k: usize, message: MessageRecord) -> Answer
+    requires { ⌜ (readsAsRing (now words) ≡ true) × (k < length (decode (now words) .messages)) × LoadedMessage (now words) k message × (firstOf (mayAct (decode (now words)) (message .receiver .0)) ≡ Accepted) ⌝ }
+    ensures { λ r. ⌜ written r (now (words .exit)) ≡ applied (now (words .entry)) (after (decode (now (words .entry))) (Deliver k)) ⌝ }
+{
+    let y = message.receiver;
+    let actor = acting::load(words, y);
+    let reply = step(words, actor, message);
+    messages::remove(words, actor.m, k);
+    applying::reply(words, actor.n, actor.m - 1, y, actor.time, reply)
+}
+
+// The step of the message, by its receiver.
+fn step(words: &[u32], actor: Actor, message: MessageRecord) -> Reply
+    requires { ⌜ (readsAsRing (now words) ≡ true) × IsActor (now words) (message .receiver .0) actor × Delivered (actor .n) message ⌝ }
+    ensures { λ r. ⌜ Replies (actor .n) r (steps.deliver (decode (now (words .entry)) .table) (message .receiver .0) (actor .time .0) (ownOf (actor .own)) (messageOf message)) ⌝ }
+{
+    let n = actor.n;
+    let leaf = head::leaf(words);
+    let keys = head::keys(words, n);
+    protocol::deliver::deliver(
+        &keys[..n],
+        leaf,
+        message.receiver,
+        actor.time,
+        actor.own,
+        message,
+    )
+}

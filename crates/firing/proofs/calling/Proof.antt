@@ -1,0 +1,29 @@
+use Rattle.effects.specs.Effects.{CallsEach}
+use Rattle.firing.proofs.Fired.{by-number}
+use native.Mathlib.Omega.{arith}
+use borrow.Author.Needs.{needs}
+use Rattle.firing.proofs.calling.Statement.{statement}
+use Rattle.firing.proofs.calling.Tie as tie
+
+timer0-requires : tie.Need-timer0-requires
+timer0-requires c κs = search needs
+
+timer1-requires : tie.Need-timer1-requires
+timer1-requires c κs = search needs
+
+timer2-requires : tie.Need-timer2-requires
+timer2-requires c κs = search needs
+
+returns : tie.Need-returns
+returns c = λ time. by-number _ _ _ _ _ (CallsEach _ _ _) 0 (search needs) (c .timer0 .ensures _ _ time (c .before .before .before .pre .0 .few) (c .before .before .before .pre .1))
+
+returns-2 : tie.Need-returns-2
+returns-2 c = λ time. by-number _ _ _ _ _ (CallsEach _ _ _) 1 (search needs) (c .timer1 .ensures time)
+
+returns-3 : tie.Need-returns-3
+returns-3 c = λ time. by-number _ _ _ _ _ (CallsEach _ _ _) 2 (omega arith) (c .timer2 .ensures time)
+
+pub calling-spec : {M : Type 1} → statement M
+calling-spec =
+    tie.close
+    (tie.spec timer0-requires timer1-requires timer2-requires returns returns-2 returns-3)

@@ -1,0 +1,49 @@
+// The events of two nodes: a contact and a notice.
+ghost use mathlib.Core.Path.{_≡_};
+ghost use mathlib.Core.Bool.{true};
+ghost use Rattle.model.specs.Answers.{firstOf};
+ghost use Rattle.model.specs.Words.{decode, readsAsRing};
+ghost use Rattle.model.specs.declared.event.Event.the-variants.{Notice, Contact};
+ghost use Rattle.answers.specs.Applied.{written, eventOn};
+ghost use Rattle.meeting.specs.Meeting.{mayMeet};
+use buffer::head;
+use model::answer::Answer;
+use model::values::NodeNumber;
+use protocol::contact as step;
+
+// Whether x may act on y: y is in the table too.
+fn may_meet(words: &[u32], x: NodeNumber, y: NodeNumber) -> Answer
+    requires { ⌜ readsAsRing (now words) ≡ true ⌝ }
+    ensures { λ r. ⌜ r ≡ firstOf (mayMeet (decode (now (words .entry))) (x .0) (y .0)) ⌝ }
+{
+    if head::nodes(words) <= y.0 as usize {
+        return Answer::OutOfTable;
+    }
+    acting::may_act(words, x)
+}
+
+pub fn contact(words: &mut [u32], x: NodeNumber, y: NodeNumber) -> Answer
+    requires { ⌜ readsAsRing (now words) ≡ true ⌝ }
+    ensures { λ r. ⌜ written r (now (words .exit)) ≡ eventOn (now (words .entry)) (Contact x y) ⌝ }
+{
+    let answer = may_meet(words, x, y);
+    if answer.number() != 0 {
+        return answer;
+    }
+    let a = acting::load(words, x);
+    let reply = step::contact(x, a.own, y);
+    applying::reply(words, a.n, a.m, x, a.time, reply)
+}
+
+pub fn notice(words: &mut [u32], x: NodeNumber, z: NodeNumber) -> Answer
+    requires { ⌜ readsAsRing (now words) ≡ true ⌝ }
+    ensures { λ r. ⌜ written r (now (words .exit)) ≡ eventOn (now (words .entry)) (Notice x z) ⌝ }
+{
+    let answer = may_meet(words, x, z);
+    if answer.number() != 0 {
+        return answer;
+    }
+    let a = acting::load(words, x);
+    let reply = step::notice(a.own, z);
+    applying::reply(words, a.n, a.m, x, a.time, reply)
+}

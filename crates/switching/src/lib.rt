@@ -1,0 +1,57 @@
+// The events that change no record but by the whole: on, off and lose, each with its refusals from the state.
+ghost use mathlib.Core.Path.{_≡_};
+ghost use mathlib.Core.Bool.{true};
+ghost use Rattle.model.specs.Words.{readsAsRing};
+ghost use Rattle.model.specs.declared.event.Event.the-variants.{On, Off, Lose};
+ghost use Rattle.answers.specs.Applied.{written, eventOn};
+use answers::LAST;
+use buffer::head;
+use model::answer::Answer;
+use model::values::NodeNumber;
+use model::values::Stamp;
+
+pub fn on(words: &mut [u32], x: NodeNumber) -> Answer
+    requires { ⌜ readsAsRing (now words) ≡ true ⌝ }
+    ensures { λ r. ⌜ written r (now (words .exit)) ≡ eventOn (now (words .entry)) (On x) ⌝ }
+{
+    if head::nodes(words) <= x.0 as usize {
+        return Answer::OutOfTable;
+    }
+    if nodes::is_running(words, x) {
+        return Answer::AlreadyRunning;
+    }
+    let clock = nodes::clock(words, x).0;
+    if clock == LAST {
+        return Answer::ClockSpent;
+    }
+    nodes::start(words, x, Stamp(clock + 1));
+    Answer::Accepted
+}
+
+pub fn off(words: &mut [u32], x: NodeNumber) -> Answer
+    requires { ⌜ readsAsRing (now words) ≡ true ⌝ }
+    ensures { λ r. ⌜ written r (now (words .exit)) ≡ eventOn (now (words .entry)) (Off x) ⌝ }
+{
+    let n = head::nodes(words);
+    if n <= x.0 as usize {
+        return Answer::OutOfTable;
+    }
+    if !nodes::is_running(words, x) {
+        return Answer::NodeOff;
+    }
+    nodes::stop(words, n, x);
+    Answer::Accepted
+}
+
+pub fn lose(words: &mut [u32], position: u16) -> Answer
+    requires { ⌜ readsAsRing (now words) ≡ true ⌝ }
+    ensures { λ r. ⌜ written r (now (words .exit)) ≡ eventOn (now (words .entry)) (Lose position) ⌝ }
+{
+    let m = head::messages(words);
+    let k = position as usize;
+    if m <= k {
+        return Answer::OutOfTable;
+    }
+    messages::remove(words, m, k);
+    Answer::Accepted
+}
