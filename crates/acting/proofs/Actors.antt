@@ -9,7 +9,7 @@ use Rattle.model.specs.Leafset.{size}
 use Rattle.model.specs.Ring.{Own}
 use Rattle.model.specs.WellFormed.{Each, nil, cons, WellFormedOwn}
 use Rattle.model.specs.Answers.{Refusal, firstOf}
-use Rattle.model.specs.Words.{decodeTable, decodeNode, decodeOwn, decode, readsAsRing}
+use Rattle.model.specs.Words.{decodeTable, decodeNode, decode, readsAsRing}
 use Rattle.model.specs.Structs.{ownOf, spareAt}
 use Rattle.model.specs.declared.answer.Answer.the-variants.{Accepted}
 use Rattle.model.specs.declared.node.NodeRecord.{NodeRecord}

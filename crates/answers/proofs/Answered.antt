@@ -1,11 +1,10 @@
 -- Laws of the answers of the calls: what is written where one refuses, and where none does.
 use mathlib.Core.Path.{_≡_, refl, sym, ap, _∙_}
-use mathlib.Core.Bool.{true, false}
+use mathlib.Core.Bool.{false}
 use mathlib.Core.List.{List, [], _∷_}
 use Prim.Native.Nat.{ℕ, _≤_, _<_}
 use lib.ListN.{length}
 use borrow.Author.Tests.{lt-ltb, le-ltb, eq-eqb, ne-eqb}
-use Rattle.model.specs.Choice.{if_then_else_}
 use Rattle.model.specs.Ring.{Ring}
 use Rattle.model.specs.WellFormed.{Each, nil, cons}
 use Rattle.model.specs.Answers.{numberOf, isAccepted, firstOf}
@@ -26,8 +25,8 @@ module _ {a b : Answer} (is : a ≡ b) {k : ℕ} (number : k ≡ numberOf a) whe
   pub asked-accepted : k ≡ 0 → b ≡ Accepted
   asked-accepted z = sym is ∙ accepted-is a (eq-eqb (numberOf a) 0 (sym number ∙ z))
 
-  asked-refused : (k ≡ 0 → ⊥) → isAccepted a ≡ false
-  asked-refused d = ne-eqb (numberOf a) 0 (λ z. d (number ∙ z))
+  pub asked-refused : (k ≡ 0 → ⊥) → isAccepted b ≡ false
+  asked-refused d = ap isAccepted (sym is) ∙ ne-eqb (numberOf a) 0 (λ z. d (number ∙ z))
 
 pub refuses : (ws l : List ℕ) (a b : Answer) → isAccepted a ≡ false → b ≡ a → written a ws ≡ writes ws b l
 refuses ws l a b n e = rw (e, n)
@@ -69,7 +68,7 @@ module _ (ws : List ℕ) (e : Event) where
       (stays (refusals (decode ws) e) (poolFull (decode ws) e ∷ []) (ap isAccepted i ∙ r) ∙ i)
 
   pub event-asked : {a : Answer} → a ≡ firstOf (refusals (decode ws) e) → {k : ℕ} → k ≡ numberOf a → (k ≡ 0 → ⊥) → written a ws ≡ eventOn ws e
-  event-asked i number d = event-refused (sym i) (asked-refused i number d)
+  event-asked i number d = event-refused (sym i) (ap isAccepted i ∙ asked-refused i number d)
 
   pub event-passed : firstOf (refusals (decode ws) e) ≡ Accepted → applied ws (after (decode ws) e) ≡ eventOn ws e
   event-passed a =

@@ -1,4 +1,3 @@
 pub mod Valid
 pub mod Refusals
 pub mod Answered
-pub mod LentBuffer

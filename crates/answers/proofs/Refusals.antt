@@ -1,16 +1,16 @@
--- Which refusals from the state apply, read off what the code asks of the words.
-use mathlib.Core.Path.{_≡_, refl, ap, _∙_}
-use mathlib.Core.Bool.{Bool, true, false, not, _&&_}
+-- Which refusals apply, read off what the code asks of the words.
+use mathlib.Core.Path.{_≡_, refl, ap}
+use mathlib.Core.Bool.{Bool, true, false, not}
 use mathlib.Core.List.{List, [], _∷_, _++_}
 use Prim.Native.Nat.{ℕ, _≤_, _<_}
 use lib.ListN.{length}
-use lib.Dec.{eqb}
 use borrow.Author.Tests.{lt-ltb, le-ltb, eq-eqb, ne-eqb}
 use Rattle.model.specs.Leafset.{size}
 use Rattle.model.specs.Choice.{if_then_else_}
 use Rattle.model.specs.WellFormed.{Each, nil, cons}
 use Rattle.model.specs.Answers.{Refusal, firstOf, isAccepted}
-use Rattle.model.specs.Words.{decodeTable, decodeNode, decode}
+use Rattle.model.specs.Words.{ringLength, decodeTable, decodeNode, decode, readsAsRing}
+use Rattle.model.specs.Buffer.{wrongLength, notARing}
 use Rattle.model.specs.Play.{noNode, noMessage, nodeOff, alreadyRunning, clockSpent}
 use Rattle.model.specs.declared.answer.Answer.the-variants.{Accepted}
 use Rattle.model.proofs.Laws.{clash}
@@ -23,6 +23,19 @@ here q qs e = rw e
 pub next : (q : Refusal) (qs : List Refusal) → q .applies ≡ false → firstOf (q ∷ qs) ≡ firstOf qs
 unfolding firstOf
 next q qs e = rw e
+
+-- refusals alike after a place
+pub later : (q : Refusal) (qs rs : List Refusal) → firstOf qs ≡ firstOf rs → firstOf (q ∷ qs) ≡ firstOf (q ∷ rs)
+unfolding firstOf
+later q qs rs e = rw e
+
+pub again : (q : Refusal) (qs rs : List Refusal) → firstOf qs ≡ firstOf rs → firstOf (q ∷ q ∷ qs) ≡ firstOf (q ∷ rs)
+unfolding firstOf
+again q qs rs e = go (q .applies)
+  where
+    go : (b : Bool) → (if b then q .refusal else (if b then q .refusal else firstOf qs)) ≡ (if b then q .refusal else firstOf rs)
+    go true = refl
+    go false = e
 
 -- refusals before others: where one of them applies, and where none does
 pub stays : (qs after : List Refusal) → isAccepted (firstOf qs) ≡ false → firstOf (qs ++ after) ≡ firstOf qs
@@ -40,6 +53,23 @@ pub passes : (qs after : List Refusal) → Each (λ q. q .applies ≡ false) qs 
 unfolding firstOf
 passes [] after nil = refl
 passes (q ∷ qs) after (cons e es) = rw e (passes qs after es)
+
+-- ---- 1 and 6
+
+module _ (ws : List ℕ) where
+  pub wrong-length : (length ws ≡ ringLength → ⊥) → wrongLength ws .applies ≡ true
+  wrong-length d = ap not (ne-eqb (length ws) ringLength d)
+
+  pub right-length : length ws ≡ ringLength → wrongLength ws .applies ≡ false
+  right-length e = ap not (eq-eqb (length ws) ringLength e)
+
+  pub no-ring : readsAsRing ws ≡ false → notARing ws .applies ≡ true
+  no-ring e = ap not e
+
+  pub a-ring : readsAsRing ws ≡ true → notARing ws .applies ≡ false
+  a-ring e = ap not e
+
+-- ---- those from the state
 
 module _ (ws : List ℕ) (x : ℕ) where
   pub out-of-table : size (decodeTable ws) ≤ x → noNode (decode ws) x .applies ≡ true

@@ -3,7 +3,7 @@ use mathlib.Core.List.{List, [], _∷_, _++_}
 use Prim.Native.Nat.{ℕ, _+_}
 use lib.ListN.{length}
 use lib.Dec.{ltb}
-use Rattle.model.specs.Ring.{Node, Ring}
+use Rattle.model.specs.Ring.{Ring}
 use Rattle.model.specs.Steps.{Effect}
 use Rattle.model.specs.Answers.{Refusal, firstOf}
 use Rattle.model.specs.Words.{encode, decode}

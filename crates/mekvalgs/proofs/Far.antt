@@ -17,8 +17,7 @@ use Rattle.model.specs.Questions.{leafsetAnswer, leafsetOf, connectionAnswer, c
 use Rattle.model.proofs.Laws.{decide, is-false}
 use Rattle.model.proofs.Answers.{accepted-is}
 use Rattle.answers.proofs.Valid.{few}
-use Rattle.answers.proofs.Refusals.{here, out-of-table}
-use Rattle.answers.proofs.LentBuffer.{later, no-ring}
+use Rattle.answers.proofs.Refusals.{here, later, no-ring, out-of-table}
 use Rattle.questions.proofs.Asked
 use Rattle.mekvalgs.specs.Nodes.{nodeOf}
 

@@ -14,9 +14,8 @@ use Rattle.model.specs.Structs.{tableOf}
 use Rattle.model.specs.WellFormed.{WellFormedTable}
 use Rattle.model.specs.declared.answer.Answer.the-variants.{Accepted, WrongLength, OpeningOutOfRange, BadKey}
 use Rattle.model.proofs.WellFormedPlay.{table-well}
-use Rattle.answers.proofs.Refusals.{here, next, no-more}
+use Rattle.answers.proofs.Refusals.{here, next, no-more, wrong-length, right-length}
 use Rattle.opening.specs.Keys.{keysFit}
-use Rattle.answers.proofs.LentBuffer.{wrong-length, right-length}
 
 module _ (ws : List ℕ) (leaf : ℕ) (keys : List ℕ) where
   abbrev t : Table

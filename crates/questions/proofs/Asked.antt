@@ -1,7 +1,7 @@
 -- Laws of the questions: the refusals that they begin with, and what an accepted one knows of the words.
-use mathlib.Core.Path.{_≡_, refl, sym, ap, _∙_}
+use mathlib.Core.Path.{_≡_, refl, sym, _∙_}
 use mathlib.Core.Bool.{Bool, true, false, not, _&&_}
-use mathlib.Core.List.{List, [], _∷_, _++_}
+use mathlib.Core.List.{List, [], _∷_}
 use Prim.Native.Nat.{ℕ, _<_}
 use lib.Dec.{ltb}
 use borrow.Author.Tests.{ltb-true}
@@ -10,7 +10,7 @@ use Rattle.model.specs.Sets.{toBits}
 use Rattle.model.specs.Leafset.{size, leafset}
 use Rattle.model.specs.Ring.{holds}
 use Rattle.model.specs.Connection.{connected, groups}
-use Rattle.model.specs.Answers.{Refusal, firstOf, isAccepted, numberOf}
+use Rattle.model.specs.Answers.{firstOf, isAccepted}
 use Rattle.model.specs.Words.{decodeTable, decodeNode, decode, readsAsRing}
 use Rattle.model.specs.WellFormed.{Each, nil, cons}
 use Rattle.model.specs.Buffer.{wrongLength, notARing}
@@ -21,18 +21,8 @@ use Rattle.model.specs.declared.answer.Answer.the-variants.{Accepted, NodeOff}
 use Rattle.model.proofs.Laws.{not-out-false}
 use Rattle.model.proofs.Lists.{first, rest}
 use Rattle.model.proofs.Answers.{none-applies}
-use Rattle.answers.proofs.Answered.{is-accepted, is-refused}
-use Rattle.answers.proofs.Refusals.{stays, passes}
-use Rattle.answers.proofs.LentBuffer.{later, again}
+use Rattle.answers.proofs.Refusals.{later, again, stays, passes}
 use Rattle.questions.specs.Asked.{nodesRefusals}
-
--- ---- an answer, by its number
-
-pub number-refuses : {a b : Answer} {k : ℕ} → a ≡ b → k ≡ numberOf a → (k ≡ 0 → ⊥) → isAccepted b ≡ false
-number-refuses {a} e n d = ap isAccepted (sym e) ∙ is-refused a n d
-
-pub number-accepts : {a b : Answer} {k : ℕ} → a ≡ b → k ≡ numberOf a → k ≡ 0 → b ≡ Accepted
-number-accepts {a} e n z = sym e ∙ is-accepted a n z
 
 module _ (ws : List ℕ) where
   -- ---- refusals 1 and 6 come first

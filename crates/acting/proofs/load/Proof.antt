@@ -5,7 +5,6 @@ use native.Mathlib.Omega.{arith}
 use Rattle.model.specs.Words.{decodeNode, decode}
 use Rattle.answers.proofs.Valid.{long, few, room, clock-high}
 use Rattle.acting.proofs.Actors.{acts-in-table, acts-below-last, loaded-fits, loaded-spare}
-use borrow.Author.Needs.{needs}
 use Rattle.acting.proofs.load.Statement.{statement}
 use Rattle.acting.proofs.load.Tie as tie
 

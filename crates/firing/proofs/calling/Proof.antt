@@ -1,6 +1,6 @@
+use native.Mathlib.Omega.{arith}
 use Rattle.effects.specs.Effects.{CallsEach}
 use Rattle.firing.proofs.Fired.{by-number}
-use native.Mathlib.Omega.{arith}
 use borrow.Author.Needs.{needs}
 use Rattle.firing.proofs.calling.Statement.{statement}
 use Rattle.firing.proofs.calling.Tie as tie

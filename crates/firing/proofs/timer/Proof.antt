@@ -1,4 +1,4 @@
-use mathlib.Core.Path.{_≡_, sym, _∙_}
+use mathlib.Core.Path.{_∙_}
 use Rattle.model.specs.declared.event.Event.the-variants.{Timer}
 use Rattle.answers.proofs.Answered.{asked-accepted, event-asked, event-passed}
 use borrow.Author.Needs.{needs}

@@ -1,8 +1,8 @@
 use mathlib.Core.Path.{refl}
 use native.Mathlib.Omega.{arith}
+use Rattle.model.specs.Steps as steps
 use Rattle.model.specs.Words.{decode}
 use Rattle.model.specs.Play.{after}
-use Rattle.model.specs.Steps as steps
 use Rattle.model.specs.declared.event.Event.the-variants.{Contact}
 use Rattle.answers.proofs.Answered.{event-asked}
 use Rattle.acting.proofs.Lent.{may-reply}

@@ -1,7 +1,7 @@
 use mathlib.Core.Path.{refl}
+use Rattle.model.specs.Steps as steps
 use Rattle.model.specs.Words.{decode}
 use Rattle.model.specs.Play.{after}
-use Rattle.model.specs.Steps as steps
 use Rattle.model.specs.declared.event.Event.the-variants.{Notice}
 use Rattle.answers.proofs.Answered.{event-asked}
 use Rattle.acting.proofs.Lent.{may-reply}

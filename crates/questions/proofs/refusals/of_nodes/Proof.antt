@@ -1,7 +1,8 @@
 use mathlib.Core.List.{List}
 use Prim.Native.Nat.{ℕ}
 use borrow.Author.Needs.{needs}
-use Rattle.questions.proofs.Asked.{number-refuses, number-accepts, refused-words, groups-reads, after-words}
+use Rattle.answers.proofs.Answered.{asked-refused, asked-accepted}
+use Rattle.questions.proofs.Asked.{refused-words, groups-reads, after-words}
 use Rattle.questions.proofs.refusals.of_nodes.Statement.{statement}
 use Rattle.questions.proofs.refusals.of_nodes.Tie as tie
 
@@ -15,18 +16,18 @@ returns : tie.Need-returns
 returns c =
     let start = c .before .before .before .before in
     refused-words (start .args .words .now) (start .args .a .0) (start .args .b .0) (c .before .before .of-words .ensures)
-    (number-refuses (c .before .before .of-words .ensures) (c .before .number .ensures) (c .if1 .taken))
+    (asked-refused (c .before .before .of-words .ensures) (c .before .number .ensures) (c .if1 .taken))
 
 of-ring-requires : tie.Need-of-ring-requires
 of-ring-requires c κs =
     groups-reads (c .before .before .before .before .args .words .now)
-    (number-accepts (c .before .before .of-words .ensures) (c .before .number .ensures) (c .if1 .left))
+    (asked-accepted (c .before .before .of-words .ensures) (c .before .number .ensures) (c .if1 .left))
 
 returns-2 : tie.Need-returns-2
 returns-2 c =
     let start = c .before .before .before .before .before in
     after-words (start .args .words .now) (start .args .a .0) (start .args .b .0)
-    (number-accepts (c .before .before .before .of-words .ensures) (c .before .before .number .ensures) (c .before .if1 .left)) (c .of-ring .ensures)
+    (asked-accepted (c .before .before .before .of-words .ensures) (c .before .before .number .ensures) (c .before .if1 .left)) (c .of-ring .ensures)
 
 pub of-nodes-spec : {M : Type 1} → statement M
 of-nodes-spec = tie.close (tie.spec of-words-requires number-requires returns of-ring-requires returns-2)

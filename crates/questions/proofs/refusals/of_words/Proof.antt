@@ -3,15 +3,14 @@ use mathlib.Core.List.{List}
 use Prim.Native.Nat.{ℕ}
 use borrow.Author.Tests.{not-true, not-false}
 use Rattle.model.specs.Questions.{groupsAnswer}
-use Rattle.answers.proofs.Refusals
-use Rattle.answers.proofs.LentBuffer.{wrong-length, right-length, no-ring, a-ring}
+use Rattle.answers.proofs.Refusals.{here, next, no-more, wrong-length, right-length, no-ring, a-ring}
 use borrow.Author.Needs.{needs}
 use Rattle.questions.proofs.refusals.of_words.Statement.{statement}
 use Rattle.questions.proofs.refusals.of_words.Tie as tie
 
 returns : tie.Need-returns
 unfolding groupsAnswer
-returns c = sym (Refusals.here _ _ (wrong-length (c .before .before .args .words .now) (c .if1 .taken)))
+returns c = sym (here _ _ (wrong-length (c .before .before .args .words .now) (c .if1 .taken)))
 
 reads-as-ring-requires : tie.Need-reads-as-ring-requires
 reads-as-ring-requires c κs = search needs
@@ -21,17 +20,17 @@ unfolding groupsAnswer
 returns-2 c =
     let ws : List ℕ = c .before .before .before .before .args .words .now in
     sym
-    (Refusals.next _ _ (right-length ws (c .before .before .if1 .left))
-    ∙ Refusals.here _ _ (no-ring ws (sym (c .before .reads-as-ring .ensures) ∙ not-true _ (c .if2 .taken))))
+    (next _ _ (right-length ws (c .before .before .if1 .left))
+    ∙ here _ _ (no-ring ws (sym (c .before .reads-as-ring .ensures) ∙ not-true _ (c .if2 .taken))))
 
 returns-3 : tie.Need-returns-3
 unfolding groupsAnswer
 returns-3 c =
     let ws : List ℕ = c .before .before .before .before .args .words .now in
     sym
-    (Refusals.next _ _ (right-length ws (c .before .before .if1 .left))
-    ∙ Refusals.next _ _ (a-ring ws (sym (c .before .reads-as-ring .ensures) ∙ not-false _ (c .if2 .left)))
-    ∙ Refusals.no-more)
+    (next _ _ (right-length ws (c .before .before .if1 .left))
+    ∙ next _ _ (a-ring ws (sym (c .before .reads-as-ring .ensures) ∙ not-false _ (c .if2 .left)))
+    ∙ no-more)
 
 pub of-words-spec : {M : Type 1} → statement M
 of-words-spec = tie.close (tie.spec returns reads-as-ring-requires returns-2 returns-3)
