@@ -21,9 +21,6 @@ abbrev μ-loop : tie.MeasureT-loop
 loop-holds : tie.Need-loop-holds Inv-loop μ-loop
 loop-holds c = (record { fits = c .before .fits .set .fits; low = λ y e. bit-below 64 (c .before .args .set) y (c .before .fits .set .fits) e }, collected-none _ _ of-none)
 
-lowest-requires : tie.Need-lowest-requires Inv-loop μ-loop
-lowest-requires c κs = search needs
-
 with-requires : tie.Need-with-requires Inv-loop μ-loop
 with-requires c κs = rising-first (c .before .before .loop .inv .0) (c .before .loop-test .taken) _ (c .lowest .ensures) .below
 
@@ -34,12 +31,6 @@ holds-requires c κs =
 holds-requires-2 : tie.Need-holds-requires-2 Inv-loop μ-loop
 holds-requires-2 c κs =
     (search needs, rising-first (c .before .before .before .before .loop .inv .0) (c .before .before .before .loop-test .taken) _ (c .before .before .lowest .ensures) .below, search needs)
-
-rest-requires : tie.Need-rest-requires Inv-loop μ-loop
-rest-requires c κs = search needs
-
-loop-less : tie.Need-loop-less Inv-loop μ-loop
-loop-less c = search needs
 
 loop-again : tie.Need-loop-again Inv-loop μ-loop
 loop-again c =
@@ -63,14 +54,5 @@ pub neighbours-spec : {M : Type 1} → statement M
 neighbours-spec =
     tie.close
     (tie.spec
-    Inv-loop
-    μ-loop
-    loop-holds
-    lowest-requires
-    with-requires
-    holds-requires
-    holds-requires-2
-    rest-requires
-    loop-less
-    loop-again
-    returns)
+    Inv-loop μ-loop loop-holds (λ c κs. search needs) with-requires holds-requires holds-requires-2
+    (λ c κs. search needs) (λ c. search needs) loop-again returns)
