@@ -51,14 +51,14 @@ pub fn set_spare(own: NodeRecord, z: NodeNumber, y: NodeNumber) -> NodeRecord
 }
 
 // The record with another held set, and with a commit stamp and no spare for z.
-fn set_held(own: NodeRecord, held: u64, z: NodeNumber, time: Stamp) -> NodeRecord
-    requires { ⌜ (z .0 < 64) × (time .0 < 2 ^ 24) × RoomNode own ⌝ }
-    ensures { λ r. ⌜ ((n : ℕ) → OwnFits n own → Within n held → Owns n r (record { held = ofBits held; candidates = ofBits (own .candidates); commit = put (stampAt own) (z .0) (time .0); spare = put (spareAt own) (z .0) noneNode })) ⌝ }
+fn set_held(own: NodeRecord, held: u64, z: NodeNumber, commit: Stamp) -> NodeRecord
+    requires { ⌜ (z .0 < 64) × (commit .0 < 2 ^ 24) × RoomNode own ⌝ }
+    ensures { λ r. ⌜ ((n : ℕ) → OwnFits n own → Within n held → Owns n r (record { held = ofBits held; candidates = ofBits (own .candidates); commit = put (stampAt own) (z .0) (commit .0); spare = put (spareAt own) (z .0) noneNode })) ⌝ }
 {
     let at = z.0 as usize;
     let mut next = own;
     next.held = held;
-    next.commit[at] = time;
+    next.commit[at] = commit;
     next.spare[at] = NodeNumber::NONE;
     next
 }

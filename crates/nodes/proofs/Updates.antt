@@ -2,24 +2,21 @@
 use mathlib.Core.Path.{_≡_, refl, sym, ap, _∙_, fun-ext}
 use mathlib.Core.Logic.{_≢_}
 use mathlib.Core.Bool.{Bool, true, false}
-use mathlib.Core.List.{List, [], _∷_}
+use mathlib.Core.List.{List}
 use Prim.Native.Nat.{ℕ, zero, suc, _+_, _^_, _<_, _≤_}
 use native.Mathlib.Omega.{arith}
 use native.Mathlib.Nat.{add-zero}
-use native.Mathlib.Decide.{decLt, ℕ-discrete}
+use native.Mathlib.Decide.{ℕ-discrete}
 use lib.Dec.{eqb, lit<}
-use lib.ListN.{length, getD, set, length-set}
+use lib.ListN.{getD, set, length-set}
 use lib.Seq.{getD-set-same, getD-set-other}
 use borrow.Author.Tests.{lt-ltb, eq-eqb}
-use Rattle.model.specs.Sets.{put, noneNode}
+use Rattle.model.specs.Sets.{put}
 use Rattle.model.specs.Leafset.{size, key}
 use Rattle.model.specs.Ring.{Own, Node, Ring}
 use Rattle.model.specs.Fields.{bits, bit}
-use Rattle.model.specs.Words.{keyWord, clockWord, pairWord, spareWord, nodeWords, pairWords, nodePlace, pairPlace, encode}
+use Rattle.model.specs.Words.{keyWord, clockWord, nodeWords, pairWords, nodePlace, pairPlace, encode}
 use Rattle.model.specs.Play.{setNode}
-use Rattle.model.specs.Structs.{spareAt}
-use Rattle.model.specs.declared.values.NodeNumber.{NodeNumber}
-use Rattle.model.specs.declared.node.NodeRecord.{NodeRecord}
 use Rattle.model.proofs.Fields.{field}
 use Rattle.model.proofs.Words.{node-at, pair-at}
 use Rattle.buffer.specs.Parts.{Is, update, setRunning, setClock, setOwn}

@@ -40,18 +40,12 @@ loop-holds c =
           (λ y. ap (λ (S : Set). S y) (c .before .without .ensures)),
     )
 
-lowest-requires : tie.Need-lowest-requires Inv-loop μ-loop
-lowest-requires c κs = search needs
-
 neighbours-requires : tie.Need-neighbours-requires Inv-loop μ-loop
 neighbours-requires c κs =
     (search needs, next (c .before .before .loop .todo) _ (c .before .before .loop .inv .1) (c .before .loop-test .taken) (c .lowest .ensures) .below)
 
 sub-unseen : tie.Need-sub-unseen Inv-loop μ-loop
 sub-unseen c = found-le (c .before .before .before .before .before .before .before .args .words .now) (c .before .before .before .loop .unseen) (c .neighbours .result) (c .before .lowest .result .0) (c .before .before .before .loop .inv .0) (search needs) (c .neighbours .ensures)
-
-rest-requires : tie.Need-rest-requires Inv-loop μ-loop
-rest-requires c κs = search needs
 
 loop-less : tie.Need-loop-less Inv-loop μ-loop
 loop-less c =
@@ -86,15 +80,5 @@ pub apart-spec : {M : Type 1} → statement M
 apart-spec =
     tie.close
     (tie.spec
-    Inv-loop
-    μ-loop
-    without-requires
-    with-requires
-    loop-holds
-    lowest-requires
-    neighbours-requires
-    sub-unseen
-    rest-requires
-    loop-less
-    loop-again
-    returns)
+    Inv-loop μ-loop without-requires with-requires loop-holds (λ c κs. search needs) neighbours-requires
+    sub-unseen (λ c κs. search needs) loop-less loop-again returns)

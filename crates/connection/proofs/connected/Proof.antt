@@ -9,27 +9,15 @@ use Rattle.connection.proofs.Linked.{running-low, running-closed, off-c
 use Rattle.connection.proofs.connected.Statement.{statement}
 use Rattle.connection.proofs.connected.Tie as tie
 
-running-requires : tie.Need-running-requires
-running-requires c κs = search needs
-
-has-requires : tie.Need-has-requires
-has-requires c κs = search needs
-
 returns : tie.Need-returns
 returns c =
     let q = c .before .before .before .before .args in
     let off = sym (c .before .has .ensures ∙ c .before .before .running .ensures (q .a .0)) ∙ not-true (c .before .has .result) (c .if1 .taken) in
     sym (off-connected (decode (q .words .now)) (q .a .0) (q .b .0) off)
 
-has-requires-2 : tie.Need-has-requires-2
-has-requires-2 c κs = search needs
-
 apart-requires : tie.Need-apart-requires
 apart-requires c κs =
     (search needs, running-closed _ (c .before .before .before .running .ensures), sym (c .before .before .has .ensures) ∙ not-false (c .before .before .has .result) (c .before .if1 .left))
-
-has-requires-3 : tie.Need-has-requires-3
-has-requires-3 c κs = search needs
 
 returns-2 : tie.Need-returns-2
 returns-2 c =
@@ -43,10 +31,5 @@ pub connected-spec : {M : Type 1} → statement M
 connected-spec =
     tie.close
     (tie.spec
-    running-requires
-    has-requires
-    returns
-    has-requires-2
-    apart-requires
-    has-requires-3
-    returns-2)
+    (λ c κs. search needs) (λ c κs. search needs) returns (λ c κs. search needs) apart-requires
+    (λ c κs. search needs) returns-2)

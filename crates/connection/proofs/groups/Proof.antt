@@ -17,16 +17,10 @@ Inv-loop words n groups₀ left₀ groups left = (left < 2 ^ 64) × Counted (dec
 abbrev μ-loop : tie.MeasureT-loop
 μ-loop words n groups₀ left₀ groups left = firsts (decode words) (ofBits left)
 
-running-requires : tie.Need-running-requires Inv-loop μ-loop
-running-requires c κs = search needs
-
 loop-holds : tie.Need-loop-holds Inv-loop μ-loop
 loop-holds c =
     let is = c .running .ensures in
     (search needs, counted-none _ (running-closed _ is) is)
-
-lowest-requires : tie.Need-lowest-requires Inv-loop μ-loop
-lowest-requires c κs = search needs
 
 apart-requires : tie.Need-apart-requires Inv-loop μ-loop
 apart-requires c κs =
@@ -56,13 +50,5 @@ pub groups-spec : {M : Type 1} → statement M
 groups-spec =
     tie.close
     (tie.spec
-    Inv-loop
-    μ-loop
-    running-requires
-    loop-holds
-    lowest-requires
-    apart-requires
-    add-groups
-    loop-less
-    loop-again
-    returns)
+    Inv-loop μ-loop (λ c κs. search needs) loop-holds (λ c κs. search needs) apart-requires add-groups
+    loop-less loop-again returns)

@@ -13,25 +13,10 @@ use Rattle.validity.proofs.Regions.{head-ranges, head-fails, after-head
 use Rattle.validity.proofs.reads_as_ring.Statement.{statement}
 use Rattle.validity.proofs.reads_as_ring.Tie as tie
 
-shared-slice-read-w : tie.Need-shared-slice-read-w
-shared-slice-read-w c = search needs
-
-head-reads-requires : tie.Need-head-reads-requires
-head-reads-requires c κs = search needs
-
 returns : tie.Need-returns
 returns c =
     let ws = now (c .before .before .before .before .args .words) in
     head-fails ws (c .before .before .before .before .pre) (sym (c .before .head-reads .ensures) ∙ not-true (c .before .head-reads .result) (c .if1 .taken))
-
-size-requires : tie.Need-size-requires
-size-requires c κs = search needs
-
-count-requires : tie.Need-count-requires
-count-requires c κs = search needs
-
-cast-nodes-read : tie.Need-cast-nodes-read
-cast-nodes-read c = search needs
 
 nodes-read-requires : tie.Need-nodes-read-requires
 nodes-read-requires c κs =
@@ -39,26 +24,17 @@ nodes-read-requires c κs =
     let e = c .before .size .ensures in
     (c .before .before .before .before .before .before .pre, omega arith)
 
-cast-keys-differ : tie.Need-cast-keys-differ
-cast-keys-differ c = search needs
-
 keys-differ-requires : tie.Need-keys-differ-requires
 keys-differ-requires c κs =
     let h = head-ranges (at (now (c .before .before .before .before .before .before .before .args .words)) 0) (sym (c .before .before .before .before .head-reads .ensures) ∙ not-false (c .before .before .before .before .head-reads .result) (c .before .before .before .if1 .left)) in
     let e = c .before .before .size .ensures in
     (c .before .before .before .before .before .before .before .pre, omega arith, e)
 
-cast-pairs-read : tie.Need-cast-pairs-read
-cast-pairs-read c = search needs
-
 pairs-read-requires : tie.Need-pairs-read-requires
 pairs-read-requires c κs =
     let h = head-ranges (at (now (c .before .before .before .before .before .before .before .before .args .words)) 0) (sym (c .before .before .before .before .before .head-reads .ensures) ∙ not-false (c .before .before .before .before .before .head-reads .result) (c .before .before .before .before .if1 .left)) in
     let e = c .before .before .before .size .ensures in
     (c .before .before .before .before .before .before .before .before .pre, omega arith)
-
-cast-messages-read : tie.Need-cast-messages-read
-cast-messages-read c = search needs
 
 messages-read-requires : tie.Need-messages-read-requires
 messages-read-requires c κs =
@@ -83,17 +59,6 @@ pub reads-as-ring-spec : {M : Type 1} → statement M
 reads-as-ring-spec =
     tie.close
     (tie.spec
-    shared-slice-read-w
-    head-reads-requires
-    returns
-    size-requires
-    count-requires
-    cast-nodes-read
-    nodes-read-requires
-    cast-keys-differ
-    keys-differ-requires
-    cast-pairs-read
-    pairs-read-requires
-    cast-messages-read
-    messages-read-requires
-    returns-2)
+    (λ c. search needs) (λ c κs. search needs) returns (λ c κs. search needs) (λ c κs. search needs)
+    (λ c. search needs) nodes-read-requires (λ c. search needs) keys-differ-requires (λ c. search needs)
+    pairs-read-requires (λ c. search needs) messages-read-requires returns-2)

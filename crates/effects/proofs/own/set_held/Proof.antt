@@ -12,7 +12,7 @@ returns c =
     let a = start .args in
     λ n fits low.
     let held = sets-changed fits (a .held) (a .own .candidates) low (fits .candidates-within) in
-    let commit = commit-changed (held .fits) (a .z .0) (start .pre .0) (a .time) (start .pre .1) in
+    let commit = commit-changed (held .fits) (a .z .0) (start .pre .0) (a .commit) (start .pre .1) in
     then (setSpare (a .z .0) 64) commit (spare-changed (commit .fits) (a .z .0) (start .pre .0) (record { 0 = 64 }) (omega arith))
 
 pub set-held-spec : {M : Type 1} → statement M

@@ -1,35 +1,34 @@
 -- `leafset::leafset::below` meets its contract.
-use mathlib.Core.Path.{sym, ap, _∙_, subst₂}
+use mathlib.Core.Path.{sym, ap, _∙_}
 use mathlib.Core.Logic.{⊎-elim}
 use Prim.Native.Nat.{ℕ}
 use lib.Dec.{ltb}
 use lib.ListN.{length}
 use borrow.Author.Tests.{lt-ltb, le-ltb}
 use borrow.Author.Needs.{needs}
-use Rattle.model.specs.Sets.{ofBits}
 use Rattle.nearness.specs.Span.{spanTo}
-use Rattle.sets.proofs.Bits.{Rising, rising-first, rising-below, rising-rest, rising-set, of-none, none-left}
-use Rattle.sets.proofs.Collect.{Collected, collected-none, collected-kept, collected-passed, collected-end}
+use Rattle.sets.proofs.Bits.{rising-first, rising-below}
+use Rattle.sets.proofs.Collect.{Collecting, collect-none, collect-kept, collect-passed, collect-end}
 use Rattle.leafset.proofs.leafset.below.Statement.{statement}
 use Rattle.leafset.proofs.leafset.below.Tie as tie
 
 abbrev Inv-loop : tie.InvT-loop
 Inv-loop keys limit way from set out₀ rest₀ out rest =
-    Rising (length keys) rest × Collected (ofBits set) (λ y. ltb (spanTo way (from .0) keys y) limit) (ofBits out) (ofBits rest)
+    Collecting (length keys) set (λ y. ltb (spanTo way (from .0) keys y) limit) out rest
 
 abbrev μ-loop : tie.MeasureT-loop
 μ-loop keys limit way from set out₀ rest₀ out rest = rest
 
 loop-holds : tie.Need-loop-holds Inv-loop μ-loop
-loop-holds c = (record { fits = c .before .fits .set .fits; low = c .before .pre }, collected-none _ _ of-none)
+loop-holds c = collect-none (c .before .fits .set .fits) (c .before .pre)
 
 with-requires : tie.Need-with-requires Inv-loop μ-loop
-with-requires c κs = rising-first (c .before .before .before .loop .inv .0) (c .before .before .loop-test .taken) _ (c .before .lowest .ensures) .below
+with-requires c κs = rising-first (c .before .before .before .loop .inv .rising) (c .before .before .loop-test .taken) _ (c .before .lowest .ensures) .below
 
 shared-slice-read-t15 : tie.Need-shared-slice-read-t15 Inv-loop μ-loop
 shared-slice-read-t15 c =
     let l = c .before .before .before .before .before .loop in
-    rising-below (l .inv .0) (c .before .before .before .before .loop-test .taken) _ (c .before .before .before .lowest .ensures)
+    rising-below (l .inv .rising) (c .before .before .before .before .loop-test .taken) _ (c .before .before .before .lowest .ensures)
 
 loop-again : tie.Need-loop-again Inv-loop μ-loop
 loop-again c =
@@ -37,20 +36,15 @@ loop-again c =
     let l = c .before .before .before .before .before .before .before .before .loop in
     let y = c .before .before .before .before .before .before .lowest .result .0 in
     let is = c .before .before .before .before .before .before .lowest .ensures in
-    let first = rising-first (l .inv .0) (c .before .before .before .before .before .before .before .loop-test .taken) y is in
+    let taken = c .before .before .before .before .before .before .before .loop-test .taken in
     let test = ap (λ (far : ℕ). ltb far (a .limit)) (c .before .before .span .ensures) in
-    let rest = sym (rising-set (l .inv .0) (c .rest .ensures) y is) in (
-      rising-rest (l .inv .0) (c .rest .ensures),
-      ⊎-elim
-          (λ w. subst₂ (Collected (ofBits (a .set)) _) (sym (ap ofBits (w .1) ∙ c .before .before .before .before .with .ensures)) rest
-          (collected-kept (l .inv .1) y (first .member) (sym test ∙ lt-ltb _ _ (w .0 .taken))))
-          (λ w. subst₂ (Collected (ofBits (a .set)) _) (sym (ap ofBits (w .1))) rest
-          (collected-passed (l .inv .1) y (sym test ∙ le-ltb _ _ (w .0 .left))))
-          (c .before .if1 .came),
-    )
+    ⊎-elim
+    (λ w. collect-kept (l .inv) taken y is (c .rest .ensures) (c .before .before .before .before .with .ensures) (w .1) (sym test ∙ lt-ltb _ _ (w .0 .taken)))
+    (λ w. collect-passed (l .inv) taken y is (c .rest .ensures) (w .1) (sym test ∙ le-ltb _ _ (w .0 .left)))
+    (c .before .if1 .came)
 
 returns : tie.Need-returns Inv-loop μ-loop
-returns c = collected-end (c .before .loop .inv .1) (none-left (c .loop-test .left))
+returns c = collect-end (c .before .loop .inv) (c .loop-test .left)
 
 pub below-spec : {M : Type 1} → statement M
 below-spec =

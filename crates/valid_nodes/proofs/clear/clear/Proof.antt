@@ -18,18 +18,6 @@ abbrev μ-loop : tie.MeasureT-loop
 loop-holds : tie.Need-loop-holds Inv-loop μ-loop
 loop-holds c = (le-refl _, search needs, sym (clear-none _ _))
 
-mul-met : tie.Need-mul-met Inv-loop μ-loop
-mul-met c = search needs
-
-shared-slice-read-met : tie.Need-shared-slice-read-met Inv-loop μ-loop
-shared-slice-read-met c = search needs
-
-add-i : tie.Need-add-i Inv-loop μ-loop
-add-i c = search needs
-
-loop-less : tie.Need-loop-less Inv-loop μ-loop
-loop-less c = search needs
-
 loop-again : tie.Need-loop-again Inv-loop μ-loop
 loop-again c = let l = c .before .before .loop in (search needs, search needs, clear-more _ _ (l .i) (l .met) (l .inv .0) (l .inv .2))
 
@@ -43,12 +31,5 @@ pub clear-spec : {M : Type 1} → statement M
 clear-spec =
     tie.close
     (tie.spec
-    Inv-loop
-    μ-loop
-    loop-holds
-    mul-met
-    shared-slice-read-met
-    add-i
-    loop-less
-    loop-again
-    returns)
+    Inv-loop μ-loop loop-holds (λ c. search needs) (λ c. search needs) (λ c. search needs) (λ c. search needs)
+    loop-again returns)

@@ -3,14 +3,8 @@ use Rattle.valid_nodes.proofs.Formats.{head-tests}
 use Rattle.valid_nodes.proofs.head.head_reads.Statement.{statement}
 use Rattle.valid_nodes.proofs.head.head_reads.Tie as tie
 
-size-requires : tie.Need-size-requires
-size-requires c κs = search needs
-
-count-requires : tie.Need-count-requires
-count-requires c κs = search needs
-
 returns : tie.Need-returns
 returns c = rw (c .before .size .ensures, c .count .ensures) (head-tests (c .before .before .args .w))
 
 pub head-reads-spec : {M : Type 1} → statement M
-head-reads-spec = tie.close (tie.spec size-requires count-requires returns)
+head-reads-spec = tie.close (tie.spec (λ c κs. search needs) (λ c κs. search needs) returns)

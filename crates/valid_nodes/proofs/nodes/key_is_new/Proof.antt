@@ -20,39 +20,9 @@ Inv-loop words x key ok₀ y₀ ok y = (y ≤ x) × (ok ≡ all y (λ k. not (eq
 abbrev μ-loop : tie.MeasureT-loop
 μ-loop words x key ok₀ y₀ ok y = x - y
 
-mul-key : tie.Need-mul-key Inv-loop μ-loop
-mul-key c = search needs
-
-add-key : tie.Need-add-key Inv-loop μ-loop
-add-key c = search needs
-
-mul-key-2 : tie.Need-mul-key-2 Inv-loop μ-loop
-mul-key-2 c = search needs
-
-shared-slice-read-key : tie.Need-shared-slice-read-key Inv-loop μ-loop
-shared-slice-read-key c = search needs
-
 loop-holds : tie.Need-loop-holds Inv-loop μ-loop
 unfolding all
 loop-holds c = (search needs, refl)
-
-mul-ok : tie.Need-mul-ok Inv-loop μ-loop
-mul-ok c = search needs
-
-add-ok : tie.Need-add-ok Inv-loop μ-loop
-add-ok c = search needs
-
-mul-ok-2 : tie.Need-mul-ok-2 Inv-loop μ-loop
-mul-ok-2 c = search needs
-
-shared-slice-read-ok : tie.Need-shared-slice-read-ok Inv-loop μ-loop
-shared-slice-read-ok c = search needs
-
-add-y : tie.Need-add-y Inv-loop μ-loop
-add-y c = search needs
-
-loop-less : tie.Need-loop-less Inv-loop μ-loop
-loop-less c = search needs
 
 loop-again : tie.Need-loop-again Inv-loop μ-loop
 loop-again c =
@@ -75,18 +45,6 @@ pub key-is-new-spec : {M : Type 1} → statement M
 key-is-new-spec =
     tie.close
     (tie.spec
-    Inv-loop
-    μ-loop
-    mul-key
-    add-key
-    mul-key-2
-    shared-slice-read-key
-    loop-holds
-    mul-ok
-    add-ok
-    mul-ok-2
-    shared-slice-read-ok
-    add-y
-    loop-less
-    loop-again
-    returns)
+    Inv-loop μ-loop (λ c. search needs) (λ c. search needs) (λ c. search needs) (λ c. search needs) loop-holds
+    (λ c. search needs) (λ c. search needs) (λ c. search needs) (λ c. search needs) (λ c. search needs)
+    (λ c. search needs) loop-again returns)

@@ -25,9 +25,6 @@ loop-holds : tie.Need-loop-holds Inv-loop μ-loop
 unfolding all
 loop-holds c = (search needs, refl, refl, λ y h. absurd (not-suc-le-zero h))
 
-mark-requires : tie.Need-mark-requires Inv-loop μ-loop
-mark-requires c κs = search needs
-
 array-read-marked-is-new : tie.Need-array-read-marked-is-new Inv-loop μ-loop
 array-read-marked-is-new c = let e = c .mark .ensures in omega arith
 
@@ -51,12 +48,6 @@ returns c =
 array-write-met : tie.Need-array-write-met Inv-loop μ-loop
 array-write-met c = let e = c .before .before .mark .ensures in omega arith
 
-add-x : tie.Need-add-x Inv-loop μ-loop
-add-x c = search needs
-
-loop-less : tie.Need-loop-less Inv-loop μ-loop
-loop-less c = search needs
-
 loop-again : tie.Need-loop-again Inv-loop μ-loop
 loop-again c =
     let l = c .before .before .before .before .loop in
@@ -78,15 +69,5 @@ pub keys-differ-spec : {M : Type 1} → statement M
 keys-differ-spec =
     tie.close
     (tie.spec
-    Inv-loop
-    μ-loop
-    loop-holds
-    mark-requires
-    array-read-marked-is-new
-    marked-is-new-requires
-    returns
-    array-write-met
-    add-x
-    loop-less
-    loop-again
-    returns-2)
+    Inv-loop μ-loop loop-holds (λ c κs. search needs) array-read-marked-is-new marked-is-new-requires returns
+    array-write-met (λ c. search needs) (λ c. search needs) loop-again returns-2)

@@ -7,11 +7,5 @@ use Rattle.valid_nodes.proofs.nodes.marked_is_new.Tie as tie
 returns : tie.Need-returns
 returns c = sym (c .before .before .pre .2 (not-true (c .before .before .args .met) (c .if1 .taken)))
 
-key-is-new-requires : tie.Need-key-is-new-requires
-key-is-new-requires c κs = search needs
-
-returns-2 : tie.Need-returns-2
-returns-2 c = search needs
-
 pub marked-is-new-spec : {M : Type 1} → statement M
-marked-is-new-spec = tie.close (tie.spec returns key-is-new-requires returns-2)
+marked-is-new-spec = tie.close (tie.spec returns (λ c κs. search needs) (λ c. search needs))

@@ -27,33 +27,6 @@ loop-holds : tie.Need-loop-holds Inv-loop μ-loop
 unfolding all
 loop-holds c = (search needs, refl, refl)
 
-mul-at : tie.Need-mul-at Inv-loop μ-loop
-mul-at c = search needs
-
-add-at : tie.Need-add-at Inv-loop μ-loop
-add-at c = search needs
-
-mul-keys : tie.Need-mul-keys Inv-loop μ-loop
-mul-keys c = search needs
-
-shared-slice-read-keys : tie.Need-shared-slice-read-keys Inv-loop μ-loop
-shared-slice-read-keys c = search needs
-
-add-clocks : tie.Need-add-clocks Inv-loop μ-loop
-add-clocks c = search needs
-
-mul-clocks : tie.Need-mul-clocks Inv-loop μ-loop
-mul-clocks c = search needs
-
-shared-slice-read-clocks : tie.Need-shared-slice-read-clocks Inv-loop μ-loop
-shared-slice-read-clocks c = search needs
-
-add-s : tie.Need-add-s Inv-loop μ-loop
-add-s c = search needs
-
-loop-less : tie.Need-loop-less Inv-loop μ-loop
-loop-less c = search needs
-
 loop-again : tie.Need-loop-again Inv-loop μ-loop
 loop-again c =
     let l = c .before .before .before .loop in
@@ -62,15 +35,6 @@ loop-again c =
       or-more (λ w. w / 2 ^ 25) (above 25) (λ i. eqb (keyAt ws i) (keyWord (bits 0 24 (keyAt ws i)) (flag 24 (keyAt ws i)))) (l .s) (l .keys) _ (l .inv .1) (key-word (keyAt ws (l .s))),
       or-more (λ w. w / 2 ^ 24) (above 24) (λ i. eqb (clockAt ws i) (clockWord (bits 0 24 (clockAt ws i)))) (l .s) (l .clocks) _ (l .inv .2) (clock-word (clockAt ws (l .s))),
     )
-
-mul-clear : tie.Need-mul-clear Inv-loop μ-loop
-mul-clear c = search needs
-
-add-clear : tie.Need-add-clear Inv-loop μ-loop
-add-clear c = search needs
-
-clear-requires : tie.Need-clear-requires Inv-loop μ-loop
-clear-requires c κs = search needs
 
 returns : tie.Need-returns Inv-loop μ-loop
 returns c =
@@ -83,20 +47,6 @@ pub nodes-read-spec : {M : Type 1} → statement M
 nodes-read-spec =
     tie.close
     (tie.spec
-    Inv-loop
-    μ-loop
-    loop-holds
-    mul-at
-    add-at
-    mul-keys
-    shared-slice-read-keys
-    add-clocks
-    mul-clocks
-    shared-slice-read-clocks
-    add-s
-    loop-less
-    loop-again
-    mul-clear
-    add-clear
-    clear-requires
-    returns)
+    Inv-loop μ-loop loop-holds (λ c. search needs) (λ c. search needs) (λ c. search needs) (λ c. search needs)
+    (λ c. search needs) (λ c. search needs) (λ c. search needs) (λ c. search needs) (λ c. search needs)
+    loop-again (λ c. search needs) (λ c. search needs) (λ c κs. search needs) returns)
