@@ -19,7 +19,6 @@ use effects::reply::Reply;
 use model::answer::Answer;
 use model::node::NodeRecord;
 use model::values::NodeNumber;
-use protocol::timers as step;
 
 // Timer k at node x. Above 4 no timer has a step: only the clock rises.
 pub fn timer(words: &mut [u32], x: NodeNumber, k: u8) -> Answer
@@ -50,7 +49,7 @@ fn fire(words: &mut [u32], x: NodeNumber, k: u8, actor: Actor) -> Answer
         return applying::calls(words, n, m, x, time, calling(table, leaf, x, own, k));
     }
     if k == 3 {
-        let to = step::requests(table, leaf, x, own);
+        let to = timers::requests(table, leaf, x, own);
         return applying::requests(words, n, m, x, time, own, to);
     }
     applying::reply(words, n, m, x, time, replying(table, x, own, k))
@@ -62,9 +61,9 @@ fn calling(keys: &[u32], leaf: u32, x: NodeNumber, own: NodeRecord, k: u8) -> Ca
     ensures { λ r. ⌜ ((time : ℕ) → CallsEach (length (now (keys .entry))) (x .0) r (steps.timer (tableOf leaf (now (keys .entry))) (x .0) time (ownOf own) k)) ⌝ }
 {
     match k {
-        0 => step::timer0(own),
-        1 => step::timer1(keys, leaf, x, own),
-        _ => step::timer2(keys, leaf, x, own),
+        0 => timers::timer0(own),
+        1 => timers::timer1(keys, leaf, x, own),
+        _ => timers::timer2(keys, leaf, x, own),
     }
 }
 
@@ -76,5 +75,5 @@ fn replying(keys: &[u32], x: NodeNumber, own: NodeRecord, k: u8) -> Reply
     if k != 4 {
         return Reply::quiet(own);
     }
-    step::timer4(keys, x, own)
+    timers::timer4(keys, x, own)
 }
