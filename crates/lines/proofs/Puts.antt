@@ -1,12 +1,15 @@
 -- Bytes put one after the other.
 use mathlib.Core.Path.{_≡_, refl, sym, ap, _∙_}
-use mathlib.Core.List.{List, [], _∷_, _++_, append-assoc}
+use mathlib.Core.List.{List, [], _∷_, _++_, append-assoc, append-nil}
 use Prim.Native.Nat.{ℕ, suc, _+_, _≤_, _<_}
 use native.Mathlib.Numerals.{add-one}
 use native.Mathlib.Omega.{arith}
 use lib.ListN.{length, getD, take, set, length-append, length-set}
 use lib.Seq.{take-suc-set, take-all, paste, paste-zero, paste-suc, take-paste, length-paste}
 use Rattle.lines.specs.Put.{Put}
+
+pub put-none : (l : List ℕ) (at : ℕ) → Put l l at at []
+put-none l at = record { written = sym (append-nil (take at l)); ends = omega arith; long = refl }
 
 pub put-more : {e m x b c : List ℕ} {at mid end : ℕ} → Put e m at mid b → Put m x mid end c → Put e x at end (b ++ c)
 put-more {e} {m} {x} {b} {c} {at} p q =
