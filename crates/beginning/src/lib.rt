@@ -19,8 +19,9 @@ pub fn open_script(script: &[u32], words: &mut [u32]) -> Answer
     if !head_fits(script) {
         return Answer::OpeningOutOfRange;
     }
-    let leaf = HeadWord(script[0]).leaf();
-    let n = HeadWord(script[0]).nodes() as usize;
+    let head = HeadWord(script[0]);
+    let leaf = head.leaf();
+    let n = head.nodes() as usize;
     if !sizes_fit(leaf, n) {
         return Answer::OpeningOutOfRange;
     }

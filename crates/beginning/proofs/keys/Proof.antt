@@ -1,73 +1,37 @@
+use mathlib.Core.Path.{_≡_, sym, _∙_}
+use Prim.Native.Nat.{_+_, _-_, _<_, _≤_}
+use native.Mathlib.Omega.{arith}
+use borrow.Author.Needs.{needs}
+use lib.ListN.{getD}
+use Rattle.model.specs.Fields.{bits}
+use Rattle.buffer.proofs.Arrays.{Filled, fill-none, fill-more}
+use Rattle.beginning.proofs.Begins.{keys-loaded}
 use Rattle.beginning.proofs.keys.Statement.{statement}
 use Rattle.beginning.proofs.keys.Tie as tie
-use Rattle.beginning.proofs.keys.Reads as reads
-use Rattle.beginning.proofs.keys.Lts as lts
-use Rattle.words.proofs.ring.KeyWord.key.Reads as key-reads
 
 abbrev Inv-loop : tie.InvT-loop
-Inv-loop script n keys₀ s₀ keys s = ?
+Inv-loop script n keys₀ s₀ keys s = (s ≤ n) × Filled (λ k. k) keys 0 (λ k. bits 0 24 (getD script (1 + k) 0)) s
 
 abbrev μ-loop : tie.MeasureT-loop
-μ-loop script n keys₀ s₀ keys s = ?
+μ-loop script n keys₀ s₀ keys s = n - s
 
--- src/lib.rt:78:5
 loop-holds : tie.Need-loop-holds Inv-loop μ-loop
-loop-holds c = ?
+loop-holds c = (search needs, fill-none _ _ _)
 
--- src/lib.rt:79:34
-add-t7 : tie.Need-add-t7 Inv-loop μ-loop
-add-t7 c = ?
-
--- src/lib.rt:79:27
-mul-t8 : tie.Need-mul-t8 Inv-loop μ-loop
-mul-t8 c = ?
-
--- src/lib.rt:79:27
-shared-slice-read-t10 : tie.Need-shared-slice-read-t10 Inv-loop μ-loop
-shared-slice-read-t10 c = ?
-
--- src/lib.rt:79:19
-key-requires : tie.Need-key-requires Inv-loop μ-loop
-key-requires c κs = ?
-
--- src/lib.rt:79:9
-mul-keys : tie.Need-mul-keys Inv-loop μ-loop
-mul-keys c = ?
-
--- src/lib.rt:79:9
-array-write-keys : tie.Need-array-write-keys Inv-loop μ-loop
-array-write-keys c = ?
-
--- src/lib.rt:78:9
-add-s : tie.Need-add-s Inv-loop μ-loop
-add-s c = ?
-
--- src/lib.rt:78:5
-loop-less : tie.Need-loop-less Inv-loop μ-loop
-loop-less c = ?
-
--- src/lib.rt:78:5
 loop-again : tie.Need-loop-again Inv-loop μ-loop
-loop-again c = ?
+loop-again c = (search needs, fill-more _ _ _ _ _ (c .before .before .before .loop .inv .1) _ (search needs) (c .key .ensures))
 
--- src/lib.rt:73:1
 returns : tie.Need-returns Inv-loop μ-loop
-returns c = ?
+returns c =
+    let l = c .before .loop in
+    let p = c .before .before .before .pre in
+    let e : l .s ≡ c .before .before .before .args .n = omega arith in
+    (l .inv .1 .long, keys-loaded (c .before .before .before .args .script .now) _ _ (p .0) (p .1) (rw e at (l .inv .1)))
 
 pub keys-spec : {M : Type 1} → statement M
 keys-spec =
     tie.close
     (tie.spec
-    Inv-loop
-    μ-loop
-    loop-holds
-    add-t7
-    mul-t8
-    shared-slice-read-t10
-    key-requires
-    mul-keys
-    array-write-keys
-    add-s
-    loop-less
-    loop-again
-    returns)
+    Inv-loop μ-loop loop-holds (λ c. search needs) (λ c. search needs) (λ c. search needs) (λ c κs. search needs)
+    (λ c. search needs) (λ c. search needs) (λ c. search needs) (λ c. search needs)
+    loop-again returns)

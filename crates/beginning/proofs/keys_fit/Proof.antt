@@ -1,63 +1,40 @@
+use mathlib.Core.Path.{_≡_, refl}
+use Prim.Native.Nat.{_+_, _-_, _≤_}
+use native.Mathlib.Omega.{arith}
+use borrow.Author.Needs.{needs}
+use lib.ListN.{getD}
+use Rattle.model.specs.Sets.{all}
+use Rattle.valid_nodes.proofs.Gather.{all-more}
+use Rattle.beginning.specs.Beginning.{keyFits, keysFit}
 use Rattle.beginning.proofs.keys_fit.Statement.{statement}
 use Rattle.beginning.proofs.keys_fit.Tie as tie
-use Rattle.beginning.proofs.keys_fit.Reads as reads
-use Rattle.beginning.proofs.keys_fit.Lts as lts
-use Rattle.beginning.proofs.key_fits.Reads as key-fits-reads
 
 abbrev Inv-loop : tie.InvT-loop
-Inv-loop script n ok₀ s₀ ok s = ?
+Inv-loop script n ok₀ s₀ ok s = (s ≤ n) × (ok ≡ all s (λ k. keyFits (getD script (1 + k) 0)))
 
 abbrev μ-loop : tie.MeasureT-loop
-μ-loop script n ok₀ s₀ ok s = ?
+μ-loop script n ok₀ s₀ ok s = n - s
 
--- src/lib.rt:66:5
 loop-holds : tie.Need-loop-holds Inv-loop μ-loop
-loop-holds c = ?
+unfolding all
+loop-holds c = (search needs, refl)
 
--- src/lib.rt:67:35
-add-key-fits : tie.Need-add-key-fits Inv-loop μ-loop
-add-key-fits c = ?
-
--- src/lib.rt:67:28
-mul-key-fits : tie.Need-mul-key-fits Inv-loop μ-loop
-mul-key-fits c = ?
-
--- src/lib.rt:67:28
-shared-slice-read-key-fits : tie.Need-shared-slice-read-key-fits Inv-loop μ-loop
-shared-slice-read-key-fits c = ?
-
--- src/lib.rt:67:19
-key-fits-requires : tie.Need-key-fits-requires Inv-loop μ-loop
-key-fits-requires c κs = ?
-
--- src/lib.rt:66:9
-add-s : tie.Need-add-s Inv-loop μ-loop
-add-s c = ?
-
--- src/lib.rt:66:5
-loop-less : tie.Need-loop-less Inv-loop μ-loop
-loop-less c = ?
-
--- src/lib.rt:66:5
 loop-again : tie.Need-loop-again Inv-loop μ-loop
-loop-again c = ?
+loop-again c =
+    let l = c .before .before .before .loop in
+    let script = c .before .before .before .before .before .args .script .now in
+    (search needs, all-more (λ k. keyFits (getD script (1 + k) 0)) (l .s) _ _ (l .inv .1) (c .key-fits .ensures))
 
--- src/lib.rt:61:1
 returns : tie.Need-returns Inv-loop μ-loop
-returns c = ?
+unfolding keysFit
+returns c =
+    let l = c .before .loop in
+    let e : l .s ≡ c .before .before .before .args .n = omega arith in
+    rw e at (l .inv .1)
 
 pub keys-fit-spec : {M : Type 1} → statement M
 keys-fit-spec =
     tie.close
     (tie.spec
-    Inv-loop
-    μ-loop
-    loop-holds
-    add-key-fits
-    mul-key-fits
-    shared-slice-read-key-fits
-    key-fits-requires
-    add-s
-    loop-less
-    loop-again
-    returns)
+    Inv-loop μ-loop loop-holds (λ c. search needs) (λ c. search needs) (λ c. search needs) (λ c κs. search needs)
+    (λ c. search needs) (λ c. search needs) loop-again returns)
