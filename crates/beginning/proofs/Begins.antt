@@ -12,14 +12,20 @@ use Rattle.model.specs.Choice.{every}
 use Rattle.model.specs.Sets.{all}
 use Rattle.model.specs.Leafset.{Table, size, key}
 use Rattle.model.specs.Fields.{bits}
+use Rattle.model.specs.Ring.{initial}
+use Rattle.model.specs.WellFormed.{WellFormed}
 use Rattle.model.specs.Answers.{Refusal, firstOf, isAccepted}
-use Rattle.model.specs.Words.{ringLength, headWord, keyWord, inRange}
+use Rattle.model.specs.Words.{ringLength, headWord, keyWord, inRange, encode, decode, readsAsRing}
 use Rattle.model.specs.Buffer.{Written, openingRefusals, openAnswer, openBuffer}
 use Rattle.model.specs.Structs.{tableOf}
 use Rattle.model.specs.Bench.{scriptTable, scriptAnswer}
 use Rattle.model.specs.declared.answer.Answer.{Answer}
-use Rattle.model.specs.declared.answer.Answer.the-variants.{OpeningOutOfRange, BadKey}
-use Rattle.model.proofs.Laws.{and-right, same-test, all-in, all-out}
+use Rattle.model.specs.declared.answer.Answer.the-variants.{Accepted, OpeningOutOfRange, BadKey}
+use Rattle.model.proofs.Laws.{clash, decide, and-right, same-test, all-in, all-out}
+use Rattle.model.proofs.Words.{length-encode}
+use Rattle.model.proofs.RoundTrip.{round-trip}
+use Rattle.model.proofs.Fits.{encoded-reads}
+use Rattle.model.proofs.WellFormedPlay.{table-well, initial-well}
 use Rattle.events.specs.Applied.{written}
 use Rattle.buffer.proofs.Arrays.{Filled}
 use Rattle.beginning.specs.Beginning.{headFits, sizesFit, keyFits, keysFit, scriptKeys, openScript}
@@ -139,3 +145,39 @@ pub script-opened : (old ws : List ℕ) {q : Written} {t : Table} → length old
     → t ≡ scriptTable ws → q ≡ openBuffer old t → q ≡ openScript old ws
 unfolding openScript openBuffer openAnswer firstOf
 script-opened old ws long e f h = h ∙ rw (f, eq-eqb (length old) ringLength long, e)
+
+-- ---- an accepted opening
+
+module _ (ws : List ℕ) (ok : scriptAnswer ws ≡ Accepted) where
+  refuted : {P : Type 0} (a : Answer) → isAccepted a ≡ false → scriptAnswer ws ≡ a → P
+  refuted a f e = clash (ap isAccepted (sym e ∙ ok)) f
+
+  head-is : headFits ws ≡ true
+  head-is = decide (headFits ws) (λ h. h) (λ f. refuted _ refl (refused-head ws f))
+
+  sizes-are : sizesFit (leaf ws) (n ws) ≡ true
+  sizes-are = decide (sizesFit (leaf ws) (n ws)) (λ h. h) (λ f. refuted _ refl (refused-sizes ws head-is f))
+
+  keys-fit-is : keysFit ws (n ws) ≡ true
+  keys-fit-is = decide (keysFit ws (n ws)) (λ h. h) (λ f. refuted _ refl (refused-keys ws head-is sizes-are f))
+
+  pub enough-words : 1 + size (scriptTable ws) ≤ length ws
+  unfolding scriptTable
+  enough-words = rw (keys-long ws (n ws) (enough ws head-is)) (enough ws head-is)
+
+  -- the opening itself accepts, over any words of a ring's length
+  abbrev old : List ℕ
+  old = encode (initial (scriptTable ws))
+
+  opened : openAnswer old (scriptTable ws) ≡ Accepted
+  unfolding openAnswer firstOf
+  opened = rw (eq-eqb (length old) ringLength (length-encode (initial (scriptTable ws)))) (sym (passed ws head-is sizes-are keys-fit-is) ∙ ok)
+
+  well : WellFormed (initial (scriptTable ws))
+  well = initial-well (scriptTable ws) (table-well old (scriptTable ws) opened)
+
+  pub initial-reads : readsAsRing (encode (initial (scriptTable ws))) ≡ true
+  initial-reads = encoded-reads (initial (scriptTable ws)) well
+
+  pub initial-back : decode (encode (initial (scriptTable ws))) ≡ initial (scriptTable ws)
+  initial-back = round-trip (initial (scriptTable ws)) well

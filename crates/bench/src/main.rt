@@ -1,4 +1,6 @@
 // The bench program: plays the script on standard input, and prints what came of it.
+ghost use mathlib.Core.Path.{_≡_};
+ghost use lib.ListN.{length};
 use libc::STDIN_FILENO;
 use libc::STDOUT_FILENO;
 use session::Session;
@@ -6,7 +8,10 @@ use session::Session;
 // More chunks than any script has.
 const MOST: u64 = 0x1000_0000_0000;
 
-fn run(words: &mut [u32], bytes: &mut [u8], out: &mut [u8]) {
+// Plays chunk after chunk.
+fn run(words: &mut [u32], bytes: &mut [u8], out: &mut [u8])
+    requires { ⌜ (length (now words) ≡ 13441) × (length (now bytes) ≡ 4096) × (length (now out) ≡ 160000) ⌝ }
+{
     let mut session = Session::new();
     for _ in 0..MOST {
         let n = io::read_full(STDIN_FILENO, bytes);

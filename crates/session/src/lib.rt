@@ -1,16 +1,18 @@
-// A session of the bench: a script comes in chunks of bytes, and what it prints goes out in chunks.
+// A session of the bench: a script comes in by chunks of bytes, and what it prints goes out by chunks.
 ghost use mathlib.Core.Path.{_≡_};
-ghost use mathlib.Core.Bool.{true};
+ghost use mathlib.Core.Bool.{true, false};
 ghost use Prim.Native.Nat.{_+_, _*_, _^_, _<_, _≤_};
 ghost use lib.ListN.{length};
-ghost use Rattle.model.specs.Words.{ringLength, readsAsRing};
-ghost use Rattle.session.specs.Session.{Ready, Stepped, Begun, Played, Tailed};
+ghost use Rattle.lines.specs.Decimal.{linesBytes};
+ghost use Rattle.lines.specs.Put.{Put};
+ghost use Rattle.model.specs.Words.{ringLength, decode, readsAsRing};
+ghost use Rattle.session.specs.Turns.{tailLines, endOf, playedTurn, firstTurn, turn, Stepped};
 use buffer::head;
 use model::answer::Answer;
 use script::loading;
 
-// How a session stands: whether more input is wanted, whether a ring has been opened, how many events have been played,
-// and where the bytes end that the last step put out.
+// How a session stands: whether there is more to come, whether a ring is open, how many events were played, and where
+// the bytes end that the last chunk put out.
 pub struct Session {
     pub more: bool,
     pub opened: bool,
@@ -19,14 +21,16 @@ pub struct Session {
 }
 
 impl Session {
-    // The input in a chunk. One that is shorter is the last.
+    // The bytes of a chunk. A shorter one is the last.
     pub const CHUNK: usize = 4096;
 
-    // Room for the lines of a chunk's events and of the end.
+    // Room for what a chunk prints.
     pub const ROOM: usize = 160_000;
 
     // Before the first chunk.
-    pub fn new() -> Session {
+    pub fn new() -> Session
+        ensures { λ r. ⌜ (r .opened ≡ false) × (r .count ≡ 0) ⌝ }
+    {
         Session {
             more: true,
             opened: false,
@@ -36,8 +40,11 @@ impl Session {
     }
 }
 
-// Takes the next chunk of the script, and puts what it prints at the start of `out`.
+// Plays the next chunk of the script, and puts what it prints at the start of `out`.
 pub fn step(session: Session, bytes: &[u8], words: &mut [u32], out: &mut [u8]) -> Session
+    requires { ⌜ (length (now bytes) ≤ 4096) × (length (now words) ≡ ringLength) × (160000 ≤ length (now out)) ⌝ }
+    requires { ⌜ (session .opened ≡ true → readsAsRing (now words) ≡ true) × (session .count + 1025 < 2 ^ 64) ⌝ }
+    ensures { λ r. ⌜ Stepped (turn (session .opened) (session .count) (decode (now (words .entry))) (now (bytes .entry))) (now (words .exit)) (now (out .entry)) (now (out .exit)) r ⌝ }
 {
     let mut script = [0u32; 1024];
     let n = loading::load(bytes, &mut script);
@@ -47,8 +54,11 @@ pub fn step(session: Session, bytes: &[u8], words: &mut [u32], out: &mut [u8]) -
     begin(&script[..n], bytes.len(), words, out)
 }
 
-// The first chunk: opens the ring, and plays the events after the keys. "A refused opening prints only 0, the refusal, 0."
-fn begin(script: &[u32], size: usize, words: &mut [u32], out: &mut [u8]) -> Session {
+// The first chunk: opens the ring, and plays the events after the keys.
+fn begin(script: &[u32], size: usize, words: &mut [u32], out: &mut [u8]) -> Session
+    requires { ⌜ (length (now script) ≤ 1024) × (length (now words) ≡ ringLength) × (160000 ≤ length (now out)) ⌝ }
+    ensures { λ r. ⌜ Stepped (firstTurn (now (script .entry)) size) (now (words .exit)) (now (out .entry)) (now (out .exit)) r ⌝ }
+{
     let answer = beginning::open_script(script, words);
     let refusal = answer.number();
     if refusal != 0 {
@@ -63,22 +73,29 @@ fn begin(script: &[u32], size: usize, words: &mut [u32], out: &mut [u8]) -> Sess
     play(0, &script[first..], size, words, out)
 }
 
-// Plays the events of a chunk of `size` bytes, and puts the end of the output after the last chunk.
-fn play(count: u64, script: &[u32], size: usize, words: &mut [u32], out: &mut [u8]) -> Session {
-    let played = playing::play_all(words, script, count, out);
-    let whole = count + script.len() as u64;
-    let end = put_tail(words, size, whole, out, played);
+// Plays the events of a chunk of `size` bytes, `count` events having been played before.
+fn play(count: u64, script: &[u32], size: usize, words: &mut [u32], out: &mut [u8]) -> Session
+    requires { ⌜ (length (now script) ≤ 1024) × (readsAsRing (now words) ≡ true) × (160000 ≤ length (now out)) × (count + 1025 < 2 ^ 64) ⌝ }
+    ensures { λ r. ⌜ Stepped (playedTurn count (decode (now (words .entry))) (now (script .entry)) size) (now (words .exit)) (now (out .entry)) (now (out .exit)) r ⌝ }
+{
+    let lines_end = playing::play_all(words, script, count, out);
+    let played = count + script.len() as u64;
+    let tail_end = put_tail(words, size, played, out, lines_end);
     let more = size == Session::CHUNK;
+    let end = put_end(words, more, out, tail_end);
     Session {
         more,
         opened: true,
-        count: whole,
-        end: put_end(words, more, out, end),
+        count: played,
+        end,
     }
 }
 
 // "A tail under 4 bytes is an event answered 4."
-fn put_tail(words: &[u32], size: usize, count: u64, out: &mut [u8], at: usize) -> usize {
+fn put_tail(words: &[u32], size: usize, count: u64, out: &mut [u8], at: usize) -> usize
+    requires { ⌜ (length (now words) ≡ ringLength) × (at + 63 ≤ length (now out)) × (count + 1 < 2 ^ 64) ⌝ }
+    ensures { λ r. ⌜ Put (now (out .entry)) (now (out .exit)) at r (linesBytes (tailLines count (decode (now (words .entry))) size)) × (r ≤ at + 63) ⌝ }
+{
     if size % 4 == 0 {
         return at;
     }
@@ -87,7 +104,10 @@ fn put_tail(words: &[u32], size: usize, count: u64, out: &mut [u8], at: usize) -
 }
 
 // The end of the output, unless there is more to come.
-fn put_end(words: &[u32], more: bool, out: &mut [u8], at: usize) -> usize {
+fn put_end(words: &[u32], more: bool, out: &mut [u8], at: usize) -> usize
+    requires { ⌜ (readsAsRing (now words) ≡ true) × (at + 93000 ≤ length (now out)) ⌝ }
+    ensures { λ r. ⌜ Put (now (out .entry)) (now (out .exit)) at r (endOf more (decode (now (words .entry)))) × (r ≤ at + 93000) ⌝ }
+{
     if more {
         return at;
     }
