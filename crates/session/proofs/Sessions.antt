@@ -29,7 +29,7 @@ use Rattle.beginning.proofs.Begins.{enough-words, initial-reads, initial-back}
 use Rattle.report.specs.Report.{endBytes}
 use Rattle.model.proofs.Words.{reads-out}
 use Rattle.playing.specs.Playing.{AllPlayed}
-use Rattle.session.specs.Turns.{Turn, chunkSize, tailLines, endOf, playedTurn, firstTurn, turn, Stepped}
+use Rattle.session.specs.Turns.{Turn, Ready, chunkSize, tailLines, endOf, playedTurn, firstTurn, turn, Stepped}
 use Rattle.session.specs.declared.Session.{Session}
 
 -- ---- the tail
@@ -154,9 +154,18 @@ few-first : (b : Bool) (p q : Turn) (n : ℕ) → p .events ≤ n → q .events 
 few-first true p q n h i = h
 few-first false p q n h i = i
 
-pub few-events : (already : Bool) (k : ℕ) (r : Ring) (chunk : List ℕ) → length chunk ≤ chunkSize → turn already k r chunk .events ≤ k + 1024
+few-events : (already : Bool) (k : ℕ) (r : Ring) (chunk : List ℕ) → length chunk ≤ chunkSize → turn already k r chunk .events ≤ k + 1024
 unfolding turn firstTurn playedTurn
 few-events already k r chunk h =
     let f : 4 * length (littleEndian chunk) ≤ length chunk = few-words chunk in
     few-first already _ _ (k + 1024) (omega arith)
     (few-first (isAccepted (scriptAnswer (littleEndian chunk))) _ _ (k + 1024) (simp length-drop (omega arith)) (omega arith))
+
+-- a session is ready for the next chunk
+pub still-ready : (already : Bool) (k : ℕ) (r : Ring) (chunk : List ℕ) {ws out out' : List ℕ} {s : Session} → length chunk ≤ chunkSize
+    → Stepped (turn already k r chunk) ws out out' s → (j : ℕ) → k ≤ j → Ready (j + 1024) s ws
+still-ready already k r chunk h p j l =
+    record { long = p .long; reads = λ e. p .reads (sym (p .opened) ∙ e); few = omega (arith, p .count, few-events already k r chunk h) }
+
+pub ready-first : (s : Session) → (s .opened ≡ false) × (s .count ≡ 0) → (ws : List ℕ) → length ws ≡ ringLength → Ready 0 s ws
+ready-first s e ws h = record { long = h; reads = λ o. clash o (e .0); few = omega (arith, e .1) }

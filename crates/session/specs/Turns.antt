@@ -2,7 +2,7 @@
 use mathlib.Core.Path.{_≡_}
 use mathlib.Core.Bool.{Bool, true, false}
 use mathlib.Core.List.{List, [], _∷_, _++_}
-use Prim.Native.Nat.{ℕ, _+_, _%_}
+use Prim.Native.Nat.{ℕ, _+_, _%_, _≤_}
 use lib.Dec.{eqb}
 use lib.ListN.{length, drop}
 use Rattle.lines.specs.Decimal.{lineBytes, linesBytes}
@@ -60,6 +60,12 @@ firstTurn ws bytes =
 unfoldable pub turn : Bool → ℕ → Ring → List ℕ → Turn
 turn already k r chunk =
     if already then playedTurn k r (littleEndian chunk) (length chunk) else firstTurn (littleEndian chunk) (length chunk)
+
+-- what a session needs of the words: those of a ring, once one is open; and it has played at most k events
+pub record Ready (k : ℕ) (s : Session) (ws : List ℕ) : Type 0 where
+  pub long : length ws ≡ ringLength
+  pub reads : s .opened ≡ true → readsAsRing ws ≡ true
+  pub few : s .count ≤ k
 
 -- the session s, the words and the output are what the turn gives
 pub record Stepped (t : Turn) (ws out out' : List ℕ) (s : Session) : Type 0 where

@@ -6,7 +6,7 @@ ghost use lib.ListN.{length};
 ghost use Rattle.lines.specs.Decimal.{linesBytes};
 ghost use Rattle.lines.specs.Put.{Put};
 ghost use Rattle.model.specs.Words.{ringLength, decode, readsAsRing};
-ghost use Rattle.session.specs.Turns.{tailLines, endOf, playedTurn, firstTurn, turn, Stepped};
+ghost use Rattle.session.specs.Turns.{tailLines, endOf, playedTurn, firstTurn, turn, Ready, Stepped};
 use buffer::head;
 use model::answer::Answer;
 use script::loading;
@@ -42,8 +42,7 @@ impl Session {
 
 // Plays the next chunk of the script, and puts what it prints at the start of `out`.
 pub fn step(session: Session, bytes: &[u8], words: &mut [u32], out: &mut [u8]) -> Session
-    requires { ⌜ (length (now bytes) ≤ 4096) × (length (now words) ≡ ringLength) × (160000 ≤ length (now out)) ⌝ }
-    requires { ⌜ (session .opened ≡ true → readsAsRing (now words) ≡ true) × (session .count + 1025 < 2 ^ 64) ⌝ }
+    requires { ⌜ Ready (2 ^ 63) session (now words) × (length (now bytes) ≤ 4096) × (160000 ≤ length (now out)) ⌝ }
     ensures { λ r. ⌜ Stepped (turn (session .opened) (session .count) (decode (now (words .entry))) (now (bytes .entry))) (now (words .exit)) (now (out .entry)) (now (out .exit)) r ⌝ }
 {
     let mut script = [0u32; 1024];

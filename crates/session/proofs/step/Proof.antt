@@ -12,7 +12,7 @@ slice-aggregate-play c = sym (simp length-take (omega (arith, c .before .before 
 play-requires : tie.Need-play-requires
 play-requires c κs =
     let l = c .before .before .before .before .before .load .ensures in
-    (simp length-take (omega (arith, l .long)), c .before .before .before .before .before .before .before .before .before .before .pre .1 .0 (c .before .before .before .if1 .taken), search needs, search needs)
+    (simp length-take (omega (arith, l .long)), c .before .before .before .before .before .before .before .before .before .before .pre .0 .reads (c .before .before .before .if1 .taken), search needs, search needs)
 
 returns : tie.Need-returns
 returns c = turn-more _ _ _ (c .before .before .before .before .before .before .before .before .before .before .load .ensures .loaded) (c .before .before .before .before .before .before .before .before .if1 .taken) (c .before .before .before .before .play .ensures)
