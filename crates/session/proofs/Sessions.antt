@@ -169,3 +169,6 @@ still-ready already k r chunk h p j l =
 
 pub ready-first : (s : Session) → (s .opened ≡ false) × (s .count ≡ 0) → (ws : List ℕ) → length ws ≡ ringLength → Ready 0 s ws
 ready-first s e ws h = record { long = h; reads = λ o. clash o (e .0); few = omega (arith, e .1) }
+
+pub ready-within : {j k : ℕ} {s : Session} {ws : List ℕ} → Ready j s ws → j ≤ k → Ready k s ws
+ready-within r h = record { long = r .long; reads = r .reads; few = omega (arith, r .few) }
