@@ -7,7 +7,7 @@ use native.Mathlib.Numerals.{sub-one}
 use native.Mathlib.Omega.{arith}
 use borrow.Author.Tests.{lt-ltb, le-ltb}
 use Rattle.io.specs.Digits.{digits, Fewest, glyph}
-use Rattle.lines.specs.Decimal.{digit, space, newline, decimalIn, decimal, spaced, lineBytes}
+use Rattle.lines.specs.Decimal.{digit, space, newline, decimalIn, decimal, spaced, lineBytes, linesBytes}
 
 below-pow : (k : ℕ) → k < 10 ^ k
 below-pow zero = omega arith
@@ -73,3 +73,12 @@ spaced-append (n ∷ ns) ms = rw (spaced-append ns ms, append-assoc)
 pub line-of-three : (a b c : ℕ) → ((decimal a ++ spaced (b ∷ [])) ++ spaced (c ∷ [])) ++ newline ∷ [] ≡ lineBytes (a ∷ b ∷ c ∷ [])
 unfolding lineBytes
 line-of-three a b c = rw (spaced-append (b ∷ []) (c ∷ [])) (simp append-assoc)
+
+pub lines-append : (ks ls : List (List ℕ)) → linesBytes (ks ++ ls) ≡ linesBytes ks ++ linesBytes ls
+unfolding linesBytes
+lines-append [] ls = refl
+lines-append (k ∷ ks) ls = rw (lines-append ks ls, append-assoc)
+
+pub one-line : (l : List ℕ) → linesBytes (l ∷ []) ≡ lineBytes l
+unfolding linesBytes
+one-line l = append-nil (lineBytes l)

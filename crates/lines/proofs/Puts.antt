@@ -1,12 +1,15 @@
 -- Bytes put one after the other.
 use mathlib.Core.Path.{_≡_, refl, sym, ap, _∙_}
-use mathlib.Core.List.{List, [], _∷_, _++_, append-assoc}
+use mathlib.Core.List.{List, [], _∷_, _++_, append-assoc, append-nil}
 use Prim.Native.Nat.{ℕ, suc, _+_, _≤_, _<_}
 use native.Mathlib.Numerals.{add-one}
 use native.Mathlib.Omega.{arith}
-use lib.ListN.{length, getD, take, set, length-append, length-set}
+use lib.ListN.{length, getD, take, set, length-append, length-take, length-set}
 use lib.Seq.{take-suc-set, take-all, paste, paste-zero, paste-suc, take-paste, length-paste}
 use Rattle.lines.specs.Put.{Put}
+
+pub put-none : (l : List ℕ) (at : ℕ) → Put l l at at []
+put-none l at = record { written = sym (append-nil (take at l)); ends = omega arith; long = refl }
 
 pub put-more : {e m x b c : List ℕ} {at mid end : ℕ} → Put e m at mid b → Put m x mid end c → Put e x at end (b ++ c)
 put-more {e} {m} {x} {b} {c} {at} p q =
@@ -15,6 +18,10 @@ put-more {e} {m} {x} {b} {c} {at} p q =
       ends = omega (arith, length-append b c);
       long = q .long ∙ p .long;
     }
+
+-- what is put from the start on is within the buffer
+pub put-within : {e x b : List ℕ} {end : ℕ} → Put e x 0 end b → end ≤ length x
+put-within {x = x} {end = end} p = omega (arith, p .ends, simp length-take at (ap length (p .written)))
 
 pub put-as : {e x b c : List ℕ} {at end : ℕ} → Put e x at end b → b ≡ c → Put e x at end c
 put-as {e} {x} {b} {c} {at} p q =

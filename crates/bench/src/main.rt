@@ -1,0 +1,31 @@
+// The bench program: plays the script on standard input, and prints what came of it.
+ghost use mathlib.Core.Path.{_≡_};
+ghost use lib.ListN.{length};
+use libc::STDIN_FILENO;
+use libc::STDOUT_FILENO;
+use session::Session;
+
+// More chunks than any script has.
+const MOST: u64 = 0x1000_0000_0000;
+
+// Plays chunk after chunk, and prints.
+fn run(words: &mut [u32], bytes: &mut [u8], out: &mut [u8])
+    requires { ⌜ (length (now words) ≡ 13441) × (length (now bytes) ≡ 4096) × (length (now out) ≡ 160000) ⌝ }
+{
+    let mut session = Session::new();
+    for _ in 0..MOST {
+        session = chunks::play_next(STDIN_FILENO, session, bytes, words, out);
+        let end = session.end;
+        io::write_all(STDOUT_FILENO, &out[..end]);
+        if !session.more {
+            return;
+        }
+    }
+}
+
+fn main() {
+    let mut words = [0u32; 13441];
+    let mut bytes = [0u8; Session::CHUNK];
+    let mut out = [0u8; Session::ROOM];
+    run(&mut words, &mut bytes, &mut out);
+}

@@ -1,0 +1,17 @@
+use mathlib.Core.Path.{_≡_, sym}
+use Prim.Native.Nat.{_≤_}
+use borrow.Author.Needs.{needs}
+use Rattle.lines.proofs.Puts.{put-as, put-more}
+use Rattle.report.proofs.Reports.{line-of-node}
+use Rattle.report.proofs.put_node.Statement.{statement}
+use Rattle.report.proofs.put_node.Tie as tie
+
+returns : tie.Need-returns
+returns c =
+    let put = put-more (put-more (c .before .before .before .before .before .before .before .before .before .before .put-state .ensures .0) (c .before .before .before .before .before .before .put-held .ensures .0)) (c .before .before .put-byte .ensures) in
+    (put-as put (line-of-node _ _ (c .before .before .before .before .before .before .before .before .before .before .before .before .load .ensures) (search needs)), search needs)
+
+pub put-node-spec : {M : Type 1} → statement M
+put-node-spec =
+    tie.close
+    (tie.spec (λ c κs. search needs) (λ c κs. search needs) (λ c κs. search needs) (λ c κs. search needs) (λ c. search needs) returns)

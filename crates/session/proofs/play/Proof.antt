@@ -1,0 +1,21 @@
+use mathlib.Core.Path.{_≡_, refl}
+use native.Mathlib.Omega.{arith}
+use borrow.Author.Needs.{needs}
+use Rattle.model.proofs.Words.{reads-out}
+use Rattle.session.proofs.Sessions.{turn-played}
+use Rattle.session.proofs.play.Statement.{statement}
+use Rattle.session.proofs.play.Tie as tie
+
+put-tail-requires : tie.Need-put-tail-requires
+put-tail-requires c κs =
+    let p = c .before .before .before .before .before .before .play-all .ensures in
+    (reads-out _ (p .reads) .long, omega (arith, p .room, p .put .long), search needs)
+
+returns : tie.Need-returns
+returns c = turn-played _ (c .before .before .before .before .before .before .before .before .before .before .before .before .before .before .play-all .ensures) (c .before .before .before .before .before .before .before .put-tail .ensures .0) (c .before .before .put-end .ensures .0) refl
+
+pub play-spec : {M : Type 1} → statement M
+play-spec =
+    tie.close
+    (tie.spec
+    (λ c κs. search needs) (λ c. search needs) put-tail-requires (λ c κs. search needs) (λ c. search needs) (λ c. search needs) returns)
