@@ -115,15 +115,15 @@ limited true n a b c h =
           rw (e, part-none n 24 (omega arith), part-none n 48 (omega arith))
           (first (2 ^ n) (pow-pos n) (pow-le-pow-right (lit< tt) g))
       | yes l ↦ elim (decLt 48 n) [
-          | no d ↦ let e : 24 + (n - 24) ≡ n = omega arith in
-              let g : n - 24 ≤ 24 = omega arith in
-              rw (part-full n 0 (omega arith), part-some n 24 l (omega arith), part-none n 48 (omega arith), ap (λ (k : ℕ). 2 ^ k) (sym e) ∙ pow-add 2 24 (n - 24))
-              (second (2 ^ (n - 24)) (pow-pos (n - 24)) (pow-le-pow-right (lit< tt) g))
-          | yes m ↦ let e : 48 + (n - 48) ≡ n = omega arith in
-              let g : n - 48 ≤ 16 = omega arith in
-              rw (part-full n 0 (omega arith), part-full n 24 (omega arith), part-some n 48 m (omega arith), ap (λ (k : ℕ). 2 ^ k) (sym e) ∙ pow-add 2 48 (n - 48))
-              (third (2 ^ (n - 48)) (pow-pos (n - 48)) (pow-le-pow-right (lit< tt) g))
-        ]
+        | no d ↦ let e : 24 + (n - 24) ≡ n = omega arith in
+            let g : n - 24 ≤ 24 = omega arith in
+            rw (part-full n 0 (omega arith), part-some n 24 l (omega arith), part-none n 48 (omega arith), ap (λ (k : ℕ). 2 ^ k) (sym e) ∙ pow-add 2 24 (n - 24))
+            (second (2 ^ (n - 24)) (pow-pos (n - 24)) (pow-le-pow-right (lit< tt) g))
+        | yes m ↦ let e : 48 + (n - 48) ≡ n = omega arith in
+            let g : n - 48 ≤ 16 = omega arith in
+            rw (part-full n 0 (omega arith), part-full n 24 (omega arith), part-some n 48 m (omega arith), ap (λ (k : ℕ). 2 ^ k) (sym e) ∙ pow-add 2 48 (n - 48))
+            (third (2 ^ (n - 48)) (pow-pos (n - 48)) (pow-le-pow-right (lit< tt) g))
+      ]
     ]
   where
     low : (n : ℕ) → n ≤ 24 → part n 0 ≡ n
@@ -171,17 +171,17 @@ without-receiver r a b c h s =
           let m : r % 24 ≡ r = mod-eq-of-lt l in
           rw (q, m, and-zero-r b, and-zero-r c, low-digit a (b + 2 ^ 24 * c) r (s .low) l, bit-test r a) (only (not (ofBits a r)))
       | no d ↦ elim (decLt r 48) [
-          | yes l ↦
-              let q : r / 24 ≡ 1 = omega arith in
-              let x : 24 + (r - 24) ≡ r = omega arith in
-              let m : r % 24 ≡ r - 24 = omega arith in
-              rw (q, m, and-zero-r a, and-zero-r c, bit-test (r - 24) b, ap (ofBits (a + 2 ^ 24 * (b + 2 ^ 24 * c))) (sym x) ∙ high-digit a (b + 2 ^ 24 * c) (r - 24) (s .low) ∙ low-digit b c (r - 24) (s .middle) (omega arith)) (and-true (not (ofBits b (r - 24))))
-          | no f ↦
-              let q : r / 24 ≡ 2 = omega arith in
-              let x : 24 + (24 + (r - 48)) ≡ r = omega arith in
-              let m : r % 24 ≡ r - 48 = omega arith in
-              rw (q, m, and-zero-r a, and-zero-r b, bit-test (r - 48) c, ap (ofBits (a + 2 ^ 24 * (b + 2 ^ 24 * c))) (sym x) ∙ high-digit a (b + 2 ^ 24 * c) (24 + (r - 48)) (s .low) ∙ high-digit b c (r - 48) (s .middle)) refl
-        ]
+        | yes l ↦
+            let q : r / 24 ≡ 1 = omega arith in
+            let x : 24 + (r - 24) ≡ r = omega arith in
+            let m : r % 24 ≡ r - 24 = omega arith in
+            rw (q, m, and-zero-r a, and-zero-r c, bit-test (r - 24) b, ap (ofBits (a + 2 ^ 24 * (b + 2 ^ 24 * c))) (sym x) ∙ high-digit a (b + 2 ^ 24 * c) (r - 24) (s .low) ∙ low-digit b c (r - 24) (s .middle) (omega arith)) (and-true (not (ofBits b (r - 24))))
+        | no f ↦
+            let q : r / 24 ≡ 2 = omega arith in
+            let x : 24 + (24 + (r - 48)) ≡ r = omega arith in
+            let m : r % 24 ≡ r - 48 = omega arith in
+            rw (q, m, and-zero-r a, and-zero-r b, bit-test (r - 48) c, ap (ofBits (a + 2 ^ 24 * (b + 2 ^ 24 * c))) (sym x) ∙ high-digit a (b + 2 ^ 24 * c) (24 + (r - 48)) (s .low) ∙ high-digit b c (r - 48) (s .middle)) refl
+      ]
     ])
   where
     only : (p : Bool) → (p && true && true) ≡ p

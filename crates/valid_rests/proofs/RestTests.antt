@@ -85,11 +85,11 @@ more-filled table s v hs e f =
       bit = λ x i h l.
           elim (ℕ-discrete x s) [
             | yes p ↦ elim (ℕ-discrete i (1 + s / 24)) [
-                | yes q ↦ let j : 4 * x + i ≡ 4 * s + 1 + s / 24 = omega arith in
-                    rw (j, lt-ltb x (s + 1) (omega arith), p, eq-eqb i (1 + s / 24) q) (getD-set-same table (4 * s + 1 + s / 24) v 0 (omega (arith, f .long)) ∙ e)
-                | no q ↦ getD-set-other table (4 * s + 1 + s / 24) (4 * x + i) v 0 (λ j. q (omega arith)) ∙ f .bit x i h l
-                    ∙ rw (p, le-ltb s s (omega arith), lt-ltb s (s + 1) (omega arith), ne-eqb i (1 + s / 24) q) refl
-              ]
+              | yes q ↦ let j : 4 * x + i ≡ 4 * s + 1 + s / 24 = omega arith in
+                  rw (j, lt-ltb x (s + 1) (omega arith), p, eq-eqb i (1 + s / 24) q) (getD-set-same table (4 * s + 1 + s / 24) v 0 (omega (arith, f .long)) ∙ e)
+              | no q ↦ getD-set-other table (4 * s + 1 + s / 24) (4 * x + i) v 0 (λ j. q (omega arith)) ∙ f .bit x i h l
+                  ∙ rw (p, le-ltb s s (omega arith), lt-ltb s (s + 1) (omega arith), ne-eqb i (1 + s / 24) q) refl
+            ]
             | no p ↦ getD-set-other table (4 * s + 1 + s / 24) (4 * x + i) v 0 (λ j. p (omega arith)) ∙ f .bit x i h l ∙ other x (receiverBit x i) p
           ];
     }
@@ -127,10 +127,10 @@ type-entry n type zero h l =
     elim (ℕ-discrete type 9) [
       | yes e ↦ rw e refl
       | no d ↦ elim (ℕ-discrete type 10) [
-          | yes e ↦ rw e refl
-          | no f ↦ let u : usesStamp type ≡ false = is-false (usesStamp type) (λ t. f (omega (arith, d, between-low 9 10 type t, between-high 9 10 type t))) in
-              rw u (unset n (4 * type + 0) (omega arith) (λ e. omega arith) (λ e. omega arith) (λ e. omega arith) (λ e. d (omega arith)) (λ e. f (omega arith)))
-        ]
+        | yes e ↦ rw e refl
+        | no f ↦ let u : usesStamp type ≡ false = is-false (usesStamp type) (λ t. f (omega (arith, d, between-low 9 10 type t, between-high 9 10 type t))) in
+            rw u (unset n (4 * type + 0) (omega arith) (λ e. omega arith) (λ e. omega arith) (λ e. omega arith) (λ e. d (omega arith)) (λ e. f (omega arith)))
+      ]
     ]
 type-entry n type (suc zero) h l = view-entry n type 0 (part n 0) h (omega arith) (λ e. refl)
 type-entry n type (suc (suc zero)) h l = view-entry n type 1 (part n 24) h (omega arith) (λ e. refl)
@@ -236,8 +236,17 @@ as-words : (ws : List ℕ) (t : Table) (k n : ℕ) → size t ≡ n → n ≤ 64
     ≡ restReads ws t k
 unfolding restReads
 as-words ws t k n e few =
-    rw (second-kept ws k, low-kept ws k ∙ kind-test 24 128 (at ws (messagePlace k + 2)) refl, middle-kept ws k ∙ kind-test 24 128 (at ws (messagePlace k + 3)) refl, high-kept ws k ∙ kind-test 16 32768 (at ws (messagePlace k + 4)) refl,
-    view-test ws k t (rw e few), value 24 (at ws (messagePlace k + 2)) refl, value 24 (at ws (messagePlace k + 3)) refl, value 16 (at ws (messagePlace k + 4)) refl, e)
+    rw (
+      second-kept ws k,
+      low-kept ws k ∙ kind-test 24 128 (at ws (messagePlace k + 2)) refl,
+      middle-kept ws k ∙ kind-test 24 128 (at ws (messagePlace k + 3)) refl,
+      high-kept ws k ∙ kind-test 16 32768 (at ws (messagePlace k + 4)) refl,
+      view-test ws k t (rw e few),
+      value 24 (at ws (messagePlace k + 2)) refl,
+      value 24 (at ws (messagePlace k + 3)) refl,
+      value 16 (at ws (messagePlace k + 4)) refl,
+      e,
+    )
     refl
 
 pub rest-test : (ws types receivers : List ℕ) (t : Table) (n k : ℕ) → Tables types receivers n → size t ≡ n → n ≤ 64 → Small ws k → nothingWrong ws types receivers k ≡ restReads ws t k

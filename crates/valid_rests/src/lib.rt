@@ -66,7 +66,14 @@ fn apart(word: u32, empty: u32) -> u32
 }
 
 // What is wrong in word i of the rest of message k.
-fn wrong(words: &[u32], types: &[u32; 64], receivers: &[u32; 256], k: usize, i: usize, empty: u32) -> u32
+fn wrong(
+    words: &[u32],
+    types: &[u32; 64],
+    receivers: &[u32; 256],
+    k: usize,
+    i: usize,
+    empty: u32,
+) -> u32
     requires { ⌜ (length (now words) ≡ 13441) × (k < 1024) × (i < 4) ⌝ }
     ensures { λ r. ⌜ (r ≡ wrongAt (now (words .entry)) (now (types .entry)) (now (receivers .entry)) k i empty) × (beyond (now (words .entry)) k i empty < 2 ^ 32) ⌝ }
 {

@@ -46,11 +46,13 @@ array-write-table-5 c = search needs
 returns : tie.Need-returns
 unfolding ofTypes
 returns c =
-    rw (c .before .before .before .before .before .before .above .ensures ∙ ap above (c .before .before .before .before .before .before .before .part .ensures .0),
-    c .before .before .before .before .above2 .ensures ∙ ap above (c .before .before .before .before .before .part2 .ensures .0),
-    c .before .before .above3 .ensures ∙ ap above (c .before .before .before .part3 .ensures .0),
-    c .before .above4 .ensures,
-    c .above5 .ensures)
+    rw (
+      c .before .before .before .before .before .before .above .ensures ∙ ap above (c .before .before .before .before .before .before .before .part .ensures .0),
+      c .before .before .before .before .above2 .ensures ∙ ap above (c .before .before .before .before .before .part2 .ensures .0),
+      c .before .before .above3 .ensures ∙ ap above (c .before .before .before .part3 .ensures .0),
+      c .before .above4 .ensures,
+      c .above5 .ensures,
+    )
     refl
 
 pub of-types-spec : {M : Type 1} → statement M
