@@ -2,7 +2,7 @@
 use mathlib.Core.Path.{_≡_, refl, sym, ap, ap₂, _∙_}
 use Prim.Native.Nat.{ℕ, zero, suc, _+_, _-_, _*_, _/_, _%_, _^_, _≤_, _<_}
 use native.Mathlib.Omega.{arith}
-use native.Mathlib.Decide.{ℕ-discrete}
+use native.Mathlib.Decide.{decLt, ℕ-discrete}
 use mathlib.Core.Bool.{Bool, true, false, not, _&&_, _||_}
 use mathlib.Core.List.{List, [], _∷_}
 use lib.ListN.{getD, set, replicate, length, length-set, length-replicate, getD-replicate}
@@ -70,35 +70,66 @@ met-joined ws types receivers m a b c d p q r s = (joined, λ k h. record { stam
 
 -- ---- the table of receivers
 
--- the first s receivers have their words
-pub record Filled (table : List ℕ) (s : ℕ) : Type 0 where
-  long : length table ≡ 256
-  bit : (x i : ℕ) → x < 64 → i < 4 → getD table (4 * x + i) 0 ≡ (if ltb x s then receiverBit x i else 0)
+-- the receivers x with x % 24 < b have their words
+pub record Filled (table : List ℕ) (b : ℕ) : Type 0 where
+  long : length table ≡ 288
+  bit : (x i : ℕ) → x < 72 → i < 4 → getD table (4 * x + i) 0 ≡ (if ltb (x % 24) b then receiverBit x i else 0)
 
-pub nothing-filled : Filled (replicate 256 0) 0
-nothing-filled = record { long = length-replicate {A = ℕ} 256 0; bit = λ x i h l. getD-replicate {A = ℕ} 256 (4 * x + i) 0 0 (omega arith) ∙ rw (le-ltb x 0 (omega arith)) refl }
+pub nothing-filled : Filled (replicate 288 0) 0
+nothing-filled = record { long = length-replicate {A = ℕ} 288 0; bit = λ x i h l. getD-replicate {A = ℕ} 288 (4 * x + i) 0 0 (omega arith) ∙ rw (le-ltb (x % 24) 0 (omega arith)) refl }
 
-pub more-filled : (table : List ℕ) (s v : ℕ) → s < 64 → v ≡ 2 ^ (s % 24) → Filled table s → Filled (set table (4 * s + 1 + s / 24) v) (s + 1)
-more-filled table s v hs e f =
-    record {
-      long = simp length-set (f .long);
-      bit = λ x i h l.
-          elim (ℕ-discrete x s) [
-            | yes p ↦ elim (ℕ-discrete i (1 + s / 24)) [
-              | yes q ↦ let j : 4 * x + i ≡ 4 * s + 1 + s / 24 = omega arith in
-                  rw (j, lt-ltb x (s + 1) (omega arith), p, eq-eqb i (1 + s / 24) q) (getD-set-same table (4 * s + 1 + s / 24) v 0 (omega (arith, f .long)) ∙ e)
-              | no q ↦ getD-set-other table (4 * s + 1 + s / 24) (4 * x + i) v 0 (λ j. q (omega arith)) ∙ f .bit x i h l
-                  ∙ rw (p, le-ltb s s (omega arith), lt-ltb s (s + 1) (omega arith), ne-eqb i (1 + s / 24) q) refl
-            ]
-            | no p ↦ getD-set-other table (4 * s + 1 + s / 24) (4 * x + i) v 0 (λ j. p (omega arith)) ∙ f .bit x i h l ∙ other x (receiverBit x i) p
-          ];
-    }
+-- three more: b, 24 + b and 48 + b
+pub more-filled : (table : List ℕ) (b v : ℕ) → b < 24 → v ≡ 2 ^ b → Filled table b → Filled (set (set (set table (4 * b + 1) v) (4 * (24 + b) + 2) v) (4 * (48 + b) + 3) v) (b + 1)
+more-filled table b v hb e f = record { long = simp length-set (f .long); bit = λ x i h l. at-row x i h l }
   where
-    other : (x u : ℕ) → (x ≡ s → ⊥) → (if ltb x s then u else 0) ≡ (if ltb x (s + 1) then u else 0)
-    other x u p = ap (λ (b : Bool). if b then u else 0) (same-test (ltb x s) (ltb x (s + 1)) (λ t. lt-ltb x (s + 1) (omega (arith, ltb-true x s t))) (λ t. lt-ltb x s (lt-of-le-ne (omega (arith, ltb-true x (s + 1) t)) p)))
+    table₁ : List ℕ
+    table₁ = set table (4 * b + 1) v
 
-pub filled : (table : List ℕ) → Filled table 64 → OfReceivers table
-filled table f = record { bit = λ x i h l. f .bit x i h l ∙ rw (lt-ltb x 64 h) refl }
+    table₂ : List ℕ
+    table₂ = set table₁ (4 * (24 + b) + 2) v
+
+    long₁ : length table₁ ≡ 288
+    long₁ = simp length-set (f .long)
+
+    long₂ : length table₂ ≡ 288
+    long₂ = simp length-set (f .long)
+
+    after₁ : (j : ℕ) → (j ≡ 4 * b + 1 → ⊥) → getD table₁ j 0 ≡ getD table j 0
+    after₁ j d = getD-set-other table (4 * b + 1) j v 0 d
+
+    after₂ : (j : ℕ) → (j ≡ 4 * (24 + b) + 2 → ⊥) → getD table₂ j 0 ≡ getD table₁ j 0
+    after₂ j d = getD-set-other table₁ (4 * (24 + b) + 2) j v 0 d
+
+    after₃ : (j : ℕ) → (j ≡ 4 * (48 + b) + 3 → ⊥) → getD (set table₂ (4 * (48 + b) + 3) v) j 0 ≡ getD table₂ j 0
+    after₃ j d = getD-set-other table₂ (4 * (48 + b) + 3) j v 0 d
+
+    -- an entry that is set, and one that is not
+    here : (x i : ℕ) → x % 24 ≡ b → i ≡ 1 + x / 24 → v ≡ (if ltb (x % 24) (b + 1) then receiverBit x i else 0)
+    here x i p q = rw (lt-ltb (x % 24) (b + 1) (omega arith), eq-eqb i (1 + x / 24) q, p) e
+
+    there : (x i : ℕ) → (x % 24 ≡ b → i ≡ 1 + x / 24 → ⊥) → (if ltb (x % 24) b then receiverBit x i else 0) ≡ (if ltb (x % 24) (b + 1) then receiverBit x i else 0)
+    there x i d =
+        elim (ℕ-discrete (x % 24) b) [
+          | yes p ↦ rw (p, le-ltb b b (omega arith), lt-ltb b (b + 1) (omega arith), ne-eqb i (1 + x / 24) (d p)) refl
+          | no p ↦ ap (λ (t : Bool). if t then receiverBit x i else 0)
+              (same-test (ltb (x % 24) b) (ltb (x % 24) (b + 1)) (λ t. lt-ltb (x % 24) (b + 1) (omega (arith, ltb-true (x % 24) b t))) (λ t. lt-ltb (x % 24) b (lt-of-le-ne (omega (arith, ltb-true (x % 24) (b + 1) t)) p)))
+        ]
+
+    at-row : (x i : ℕ) → x < 72 → i < 4 → getD (set table₂ (4 * (48 + b) + 3) v) (4 * x + i) 0 ≡ (if ltb (x % 24) (b + 1) then receiverBit x i else 0)
+    at-row x i h l =
+        elim (ℕ-discrete (4 * x + i) (4 * (48 + b) + 3)) [
+          | yes p ↦ rw p (getD-set-same table₂ (4 * (48 + b) + 3) v 0 (omega (arith, long₂))) ∙ here x i (omega arith) (omega arith)
+          | no p ↦ after₃ (4 * x + i) p ∙ elim (ℕ-discrete (4 * x + i) (4 * (24 + b) + 2)) [
+              | yes q ↦ rw q (getD-set-same table₁ (4 * (24 + b) + 2) v 0 (omega (arith, long₁))) ∙ here x i (omega arith) (omega arith)
+              | no q ↦ after₂ (4 * x + i) q ∙ elim (ℕ-discrete (4 * x + i) (4 * b + 1)) [
+                  | yes r ↦ rw r (getD-set-same table (4 * b + 1) v 0 (omega (arith, f .long))) ∙ here x i (omega arith) (omega arith)
+                  | no r ↦ after₁ (4 * x + i) r ∙ f .bit x i h l ∙ there x i (λ s t. elim (decLt x 24) [ yes u ↦ r (omega arith) | no u ↦ elim (decLt x 48) [ yes w ↦ q (omega arith) | no w ↦ p (omega arith) ] ])
+                ]
+            ]
+        ]
+
+pub filled : (table : List ℕ) → Filled table 24 → OfReceivers table
+filled table f = record { bit = λ x i h l. f .bit x i (omega arith) l ∙ rw (lt-ltb (x % 24) 24 (mod-lt x (lit< tt))) refl }
 
 -- ---- the table of types
 

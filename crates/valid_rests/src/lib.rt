@@ -47,13 +47,15 @@ fn of_types(n: u32) -> [u32; 64]
     table
 }
 
-// "A view holds only stands below n, and not its receiver."
-fn of_receivers() -> [u32; 256]
+// "A view holds only stands below n, and not its receiver." Places for 72, three times 24, are filled.
+fn of_receivers() -> [u32; 288]
     ensures { λ r. ⌜ OfReceivers r ⌝ }
 {
-    let mut table = [0; 256];
-    for s in 0..64 {
-        table[4 * s + 1 + s / 24] = 1 << (s % 24);
+    let mut table = [0; 288];
+    for b in 0..24 {
+        table[4 * b + 1] = 1 << b;
+        table[4 * (24 + b) + 2] = 1 << b;
+        table[4 * (48 + b) + 3] = 1 << b;
     }
     table
 }
@@ -69,7 +71,7 @@ fn apart(word: u32, empty: u32) -> u32
 fn wrong(
     words: &[u32],
     types: &[u32; 64],
-    receivers: &[u32; 256],
+    receivers: &[u32; 288],
     k: usize,
     i: usize,
     empty: u32,
@@ -85,7 +87,7 @@ fn wrong(
 }
 
 // Nothing is wrong in m rests.
-fn nothing_wrong(words: &[u32], types: &[u32; 64], receivers: &[u32; 256], m: usize) -> bool
+fn nothing_wrong(words: &[u32], types: &[u32; 64], receivers: &[u32; 288], m: usize) -> bool
     requires { ⌜ (length (now words) ≡ 13441) × (m ≤ 1024) ⌝ }
     ensures { λ r. ⌜ (r ≡ all m (nothingWrong (now (words .entry)) (now (types .entry)) (now (receivers .entry)))) × ((k : ℕ) → k < m → Small (now (words .entry)) k) ⌝ }
 {
