@@ -120,12 +120,12 @@ more-filled table b v hb e f = record { long = simp length-set (f .long); bit = 
         elim (ℕ-discrete (4 * x + i) (4 * (48 + b) + 3)) [
           | yes p ↦ rw p (getD-set-same table₂ (4 * (48 + b) + 3) v 0 (omega (arith, long₂))) ∙ here x i (omega arith) (omega arith)
           | no p ↦ after₃ (4 * x + i) p ∙ elim (ℕ-discrete (4 * x + i) (4 * (24 + b) + 2)) [
-              | yes q ↦ rw q (getD-set-same table₁ (4 * (24 + b) + 2) v 0 (omega (arith, long₁))) ∙ here x i (omega arith) (omega arith)
-              | no q ↦ after₂ (4 * x + i) q ∙ elim (ℕ-discrete (4 * x + i) (4 * b + 1)) [
-                  | yes r ↦ rw r (getD-set-same table (4 * b + 1) v 0 (omega (arith, f .long))) ∙ here x i (omega arith) (omega arith)
-                  | no r ↦ after₁ (4 * x + i) r ∙ f .bit x i h l ∙ there x i (λ s t. elim (decLt x 24) [ yes u ↦ r (omega arith) | no u ↦ elim (decLt x 48) [ yes w ↦ q (omega arith) | no w ↦ p (omega arith) ] ])
-                ]
+            | yes q ↦ rw q (getD-set-same table₁ (4 * (24 + b) + 2) v 0 (omega (arith, long₁))) ∙ here x i (omega arith) (omega arith)
+            | no q ↦ after₂ (4 * x + i) q ∙ elim (ℕ-discrete (4 * x + i) (4 * b + 1)) [
+              | yes r ↦ rw r (getD-set-same table (4 * b + 1) v 0 (omega (arith, f .long))) ∙ here x i (omega arith) (omega arith)
+              | no r ↦ after₁ (4 * x + i) r ∙ f .bit x i h l ∙ there x i (λ s t. elim (decLt x 24) [ yes u ↦ r (omega arith) | no u ↦ elim (decLt x 48) [ yes w ↦ q (omega arith) | no w ↦ p (omega arith) ] ])
             ]
+          ]
         ]
 
 pub filled : (table : List ℕ) → Filled table 24 → OfReceivers table

@@ -54,3 +54,7 @@ rowReads ws n x = every (all n (pairReads ws n x) ∷ clear ws (pairPlace x n) (
 -- n rows, and nothing after them
 unfoldable pub pairsRead : List ℕ → ℕ → Bool
 pairsRead ws n = every (all n (rowReads ws n) ∷ clear ws (pairPlace n 0) 8321 ∷ [])
+
+-- the pairs of a running x, but not that of x with itself
+abbrev pub othersRead : List ℕ → ℕ → ℕ → ℕ → Bool
+othersRead ws n x z = eqb z x || (linkReads (bits 0 24 (clockAt ws x)) (linkAt ws x z) && spareReads n x z (linkAt ws x z) (spareAt ws x z))
