@@ -1,7 +1,8 @@
 -- The two words of a pair at once: what the code tests is what `linkReads` and `spareReads` ask.
 use mathlib.Core.Path.{_≡_, refl, sym, ap, ap₂, _∙_}
 use Prim.Native.Nat.{ℕ, zero, suc, _+_, _-_, _*_, _/_, _%_, _^_, _≤_, _<_, zero-le}
-use native.Mathlib.Nat.{zero-add, mod-lt, mod-eq-of-lt, div-add-mod'}
+use native.Mathlib.Numerals.{add-one}
+use native.Mathlib.Nat.{le-refl, zero-add, mod-lt, mod-eq-of-lt, div-add-mod'}
 use native.Mathlib.Omega.{arith}
 use native.Mathlib.Decide.{decLt, ℕ-discrete}
 use mathlib.Core.Bool.{Bool, true, false, not, _&&_, _||_}
@@ -11,9 +12,12 @@ use lib.Bits.{bitXor, bitAnd, xor-zero-r, xor-self, xor-block}
 use lib.Dec.{ltb, leb, eqb, lit<}
 use borrow.Author.Tests.{eqb-true, eq-eqb, ne-eqb, ltb-true, lt-ltb, le-ltb, leb-true, le-leb}
 use Rattle.model.specs.Choice.{if_then_else_, _⇒_, every}
+use Rattle.model.specs.Sets.{Set, count, all, without}
 use Rattle.model.specs.Fields.{bits, flag}
+use Rattle.model.specs.Words.{pairWord}
 use Rattle.model.specs.WellFormed.{nil, cons}
-use Rattle.model.proofs.Laws.{and-left, and-right, and-in, is-false, same-test, every-in, every-out}
+use Rattle.model.proofs.Laws.{and-left, and-right, and-in, decide, is-false, same-test, every-in, every-out, all-in, all-out, count-le, count-cong, count-more}
+use Rattle.sets.proofs.Members.{count-without}
 use Rattle.model.proofs.Lists.{first, rest}
 use Rattle.valid_nodes.proofs.Formats.{lowest, xor-test}
 use Rattle.valid_rows.specs.Pairs.{linkReads, spareReads}
@@ -146,3 +150,37 @@ pair-test clock n x z w p v d u hc hn hx hz hw hd e g i =
     let s< : w % 2 ^ 24 < 2 ^ 24 = mod-lt w (lit< tt) in
     rw (idle clock (w / 2 ^ 26) (w / 2 ^ 24 % 2) (w % 2 ^ 24) v f< s< parts, held clock (w / 2 ^ 26) (w / 2 ^ 24 % 2) (w % 2 ^ 24) v d f< s< parts hc hd g, link-parts clock w, spare-parts n x z w p)
     (both n x z p u hn hx hz i (every (links clock (w / 2 ^ 26) (w / 2 ^ 24 % 2) (w % 2 ^ 24))) (eqb (w / 2 ^ 24 % 2) 1))
+
+-- ---- a row, by the count of pairs that fit
+
+count-all : (n : ℕ) (S : Set) → ((z : ℕ) → z < n → S z ≡ true) → count n S ≡ n
+unfolding count
+count-all zero S f = refl
+count-all (suc n) S f = rw (f n (le-refl (suc n))) (ap (λ (k : ℕ). k + 1) (count-all n S (λ z h. f z (omega arith))) ∙ add-one n)
+
+full : (n : ℕ) (S : Set) → eqb (count n S) n ≡ all n S
+full n S =
+    same-test (eqb (count n S) n) (all n S)
+    (λ e. all-in n S (λ z h. decide (S z) (λ t. t) (λ f. absurd (omega (arith, eqb-true (count n S) n e, count-more S (λ i. true) n (λ i l t. refl) z h f refl, count-le n (λ i. true))))))
+    (λ e. eq-eqb (count n S) n (count-all n S (all-out n S e)))
+
+-- one more is counted
+pub count-next : (S : Set) (z fit r : ℕ) → fit ≡ count z S → r ≡ (if S z then 1 else 0) → fit + r ≡ count (z + 1) S
+unfolding count
+count-next S z fit r e f = rw (add-one, e, f) refl
+
+-- all but x, which is none
+pub others-full : (n x : ℕ) (S : Set) → x < n → S x ≡ false → eqb (count n S + 1) n ≡ all n (λ z. eqb z x || S z)
+others-full n x S h e =
+    ap (λ (k : ℕ). eqb k n) (ap (λ (k : ℕ). k + 1) (count-cong n S (without (λ z. eqb z x || S z) x) same) ∙ count-without n (λ z. eqb z x || S z) x h (rw (eq-eqb x x refl) refl))
+    ∙ full n (λ z. eqb z x || S z)
+  where
+    same : (z : ℕ) → z < n → S z ≡ without (λ z. eqb z x || S z) x z
+    same z l = elim (ℕ-discrete z x) [
+      | yes i ↦ rw (i, eq-eqb x x refl) e
+      | no d ↦ rw (ne-eqb z x d) (sym (and-true (S z)))
+    ]
+
+pub no-link : (clock : ℕ) (b : Bool) → (linkReads clock 0 && b) ≡ false
+unfolding linkReads pairWord
+no-link clock b = refl

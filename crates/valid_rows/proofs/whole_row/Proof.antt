@@ -1,23 +1,25 @@
 use mathlib.Core.Path.{_≡_, refl, sym, ap, _∙_}
-use mathlib.Core.Bool.{_&&_, _||_}
-use lib.Dec.{eqb}
-use Prim.Native.Nat.{ℕ, _-_, _≤_}
+use mathlib.Core.Bool.{Bool, false, _&&_}
+use Prim.Native.Nat.{ℕ, _+_, _-_, _≤_}
 use native.Mathlib.Omega.{arith}
+use lib.Dec.{eqb}
 use denote.Ref.{now}
+use borrow.Author.Needs.{needs}
+use Rattle.model.specs.Choice.{if_then_else_}
+use Rattle.model.specs.Fields.{bits}
+use Rattle.model.specs.Sets.{count}
 use Rattle.valid_nodes.specs.Nodes.{clockAt}
 use Rattle.valid_nodes.proofs.Formats.{lowest}
-use borrow.Author.Needs.{needs}
-use Rattle.model.specs.Sets.{all}
-use Rattle.valid_nodes.proofs.Gather.{all-more}
-use Rattle.valid_rows.specs.Pairs.{linkAt, spareAt, linkReads, spareReads, othersRead}
+use Rattle.valid_rows.specs.Pairs.{linkAt, spareAt, linkReads, spareReads, otherReads}
+use Rattle.valid_rows.proofs.PairTest.{count-next, others-full, no-link}
 use Rattle.valid_rows.proofs.whole_row.Statement.{statement}
 use Rattle.valid_rows.proofs.whole_row.Tie as tie
 
 abbrev Inv-loop : tie.InvT-loop
-Inv-loop words x n clock ok₀ met₀ z₀ ok met z = (z ≤ n) × (ok ≡ all z (othersRead words n x))
+Inv-loop words x n clock fit₀ met₀ z₀ fit met z = (z ≤ n) × (fit ≤ z) × (fit ≡ count z (otherReads words n x))
 
 abbrev μ-loop : tie.MeasureT-loop
-μ-loop words x n clock ok₀ met₀ z₀ ok met z = n - z
+μ-loop words x n clock fit₀ met₀ z₀ fit met z = n - z
 
 mul-clock : tie.Need-mul-clock Inv-loop μ-loop
 mul-clock c = search needs
@@ -35,8 +37,8 @@ shared-slice-read-clock : tie.Need-shared-slice-read-clock Inv-loop μ-loop
 shared-slice-read-clock c = search needs
 
 loop-holds : tie.Need-loop-holds Inv-loop μ-loop
-unfolding all
-loop-holds c = (search needs, refl)
+unfolding count
+loop-holds c = (search needs, search needs, refl)
 
 mul-at : tie.Need-mul-at Inv-loop μ-loop
 mul-at c = search needs
@@ -77,6 +79,12 @@ cast-pair-fits-3 c = search needs
 pair-fits-requires : tie.Need-pair-fits-requires Inv-loop μ-loop
 pair-fits-requires c κs = search needs
 
+one-if-requires : tie.Need-one-if-requires Inv-loop μ-loop
+one-if-requires c κs = search needs
+
+add-fit : tie.Need-add-fit Inv-loop μ-loop
+add-fit c = search needs
+
 add-met : tie.Need-add-met Inv-loop μ-loop
 add-met c = search needs
 
@@ -94,19 +102,34 @@ loop-less c = search needs
 
 loop-again : tie.Need-loop-again Inv-loop μ-loop
 loop-again c =
-    let l = c .before .before .before .before .before .loop in
-    let a = c .before .before .before .before .before .before .before .before .args in
-    let ws = now (a .words) in (
+    let l = c .before .before .before .before .before .before .loop in
+    let a = c .before .before .before .before .before .before .before .before .before .args in
+    let ws = now (a .words) in
+    let r = c .before .one-if .ensures in (
       search needs,
-      all-more (othersRead ws (a .n) (a .x)) (l .z) (l .ok) _ (l .inv .1)
-          (c .before .pair-fits .ensures ∙ ap (λ (k : ℕ). eqb (l .z) (a .x) || (linkReads k (linkAt ws (a .x) (l .z)) && spareReads (a .n) (a .x) (l .z) (linkAt ws (a .x) (l .z)) (spareAt ws (a .x) (l .z)))) (sym (lowest 24 (clockAt ws (a .x))))),
+      omega (arith, r .1),
+      count-next (otherReads ws (a .n) (a .x)) (l .z) (l .fit) (c .before .one-if .result) (l .inv .2)
+          (r .0 ∙ ap (λ (b : Bool). if b then 1 else 0)
+          (c .before .before .pair-fits .ensures ∙ ap (λ (k : ℕ). linkReads k (linkAt ws (a .x) (l .z)) && spareReads (a .n) (a .x) (l .z) (linkAt ws (a .x) (l .z)) (spareAt ws (a .x) (l .z))) (sym (lowest 24 (clockAt ws (a .x)))))),
     )
+
+add-t14 : tie.Need-add-t14 Inv-loop μ-loop
+add-t14 c = search needs
+
+cast-t28 : tie.Need-cast-t28 Inv-loop μ-loop
+cast-t28 c = search needs
 
 returns : tie.Need-returns Inv-loop μ-loop
 returns c =
     let l = c .before .loop in
-    let done : l .z ≡ c .before .before .before .before .args .n = omega arith in
-    rw done at (l .inv .1)
+    let start = c .before .before .before .before in
+    let ws = now (start .args .words) in
+    let n = start .args .n in
+    let x = start .args .x in
+    let done : l .z ≡ n = omega arith in
+    let counted : l .fit ≡ count n (otherReads ws n x) = rw done at (l .inv .2) in
+    let none : otherReads ws n x x ≡ false = rw (start .pre .3) (no-link (bits 0 24 (clockAt ws x)) (spareReads n x x 0 (spareAt ws x x))) in
+    ap (λ (k : ℕ). eqb (k + 1) n) counted ∙ others-full n x (otherReads ws n x) (start .pre .2) none
 
 pub whole-row-spec : {M : Type 1} → statement M
 whole-row-spec =
@@ -133,10 +156,14 @@ whole-row-spec =
     cast-pair-fits-2
     cast-pair-fits-3
     pair-fits-requires
+    one-if-requires
+    add-fit
     add-met
     mul-met
     shared-slice-read-met
     add-z
     loop-less
     loop-again
+    add-t14
+    cast-t28
     returns)
