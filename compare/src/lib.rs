@@ -18,6 +18,8 @@ pub mod script;
 pub mod self_test;
 pub mod shorten;
 pub mod speed;
+#[cfg(feature = "library")]
+pub mod stack;
 pub mod unbroken;
 pub mod vectors;
 

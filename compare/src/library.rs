@@ -9,6 +9,12 @@ extern "C" {
     fn mekvalgs_leafset(words: *const u32, len: usize, node: u32, set: *mut u64) -> u32;
     fn mekvalgs_connected(words: *const u32, len: usize, a: u32, b: u32, yes: *mut u32) -> u32;
     fn mekvalgs_groups(words: *const u32, len: usize, number: *mut u32) -> u32;
+    fn mekvalgs_replay(
+        words: *mut u32, len: usize, leaf: u32, keys: *const u32, n: usize,
+        script: *const u32, script_len: usize, answers: *mut u8, places: usize,
+    ) -> u32;
+    fn mekvalgs_read_event(word: u32, kind: *mut u32, first: *mut u32, second: *mut u32) -> u32;
+    fn mekvalgs_write_event(kind: u32, first: u32, second: u32, word: *mut u32) -> u32;
 }
 
 pub struct Library;
@@ -44,4 +50,26 @@ impl Ring for Library {
         let mut number = u32::MAX;
         (unsafe { mekvalgs_groups(words.as_ptr(), words.len(), &mut number) }, number)
     }
+}
+
+// The calls that only the stack is measured of.
+
+pub fn replay(words: &mut [u32], leaf: u32, keys: &[u32], script: &[u32]) {
+    let mut answers = vec![0; script.len()];
+    unsafe {
+        mekvalgs_replay(
+            words.as_mut_ptr(), words.len(), leaf, keys.as_ptr(), keys.len(),
+            script.as_ptr(), script.len(), answers.as_mut_ptr(), answers.len(),
+        )
+    };
+}
+
+pub fn read_event(word: u32) {
+    let (mut kind, mut first, mut second) = (0, 0, 0);
+    unsafe { mekvalgs_read_event(word, &mut kind, &mut first, &mut second) };
+}
+
+pub fn write_event(kind: u32, first: u32, second: u32) {
+    let mut word = 0;
+    unsafe { mekvalgs_write_event(kind, first, second, &mut word) };
 }

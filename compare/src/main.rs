@@ -8,7 +8,7 @@ use std::path::Path;
 use std::process::ExitCode;
 use std::time::Instant;
 
-const USAGE: &str = "compare [all | agree | unbroken | self-test | speed | vectors]
+const USAGE: &str = "compare [all | agree | unbroken | self-test | speed | stack | vectors]
     [seed=1] [events=5000000] [damaged=1000000] [nodes=64] [threads=CORES]
     [mixes=gentle,chaos,garbage,replacement]
     [vectors=FOLDER] [slip=NAME]";
@@ -57,6 +57,11 @@ fn main() -> ExitCode {
         "unbroken" => unbroken(&options),
         "self-test" => self_test::run(&options.plan, options.slip.as_deref()) == 0,
         "speed" => speed_table(),
+        #[cfg(feature = "library")]
+        "stack" => {
+            compare::stack::report();
+            true
+        }
         "vectors" => stored(&options),
         "all" => {
             stored(&options) & agree_all(&options.plan) & unbroken(&options) && speed_table()
@@ -75,6 +80,7 @@ fn main() -> ExitCode {
 
 fn speed_table() -> bool {
     println!("\nSpeed");
+    speed::reads(&fast_rings());
     speed::report(&fast_rings());
     true
 }

@@ -2,6 +2,7 @@
 
 use crate::look;
 use crate::random::Random;
+use crate::reference::Reference;
 use crate::ring::Ring;
 use crate::LENGTH;
 use std::hint::black_box;
@@ -89,12 +90,79 @@ fn plain_pass(words: &[u32]) -> u32 {
     words.iter().fold(0, |all, word| all | word)
 }
 
-fn spares(words: &[u32]) -> usize {
+fn spares_of(words: &[u32]) -> usize {
     words[129..8_321].iter().filter(|&&word| word >> 28 == 4 && word & 127 != 64).count()
 }
 
 fn held(words: &[u32]) -> usize {
     words[129..8_321].iter().filter(|&&word| word >> 28 == 3 && word >> 24 & 1 == 1).count()
+}
+
+/// 64 running nodes that hold each other, all with a spare or none, and `messages` of every type.
+fn full(messages: usize, spares: bool) -> Vec<u32> {
+    let mut random = Random::new(1, messages as u64);
+    let keys: Vec<u32> = (0..64).map(|s| s << 18 | random.word() & 0x3_FFFF).collect();
+    let mut words = vec![0; LENGTH];
+    Reference.open(&mut words, 8, &keys);
+    words[0] |= (messages as u32) << 11;
+    let not = |random: &mut Random, taken: &[usize]| loop {
+        let s = random.below(64);
+        if !taken.contains(&s) {
+            return s;
+        }
+    };
+    for x in 0..64 {
+        words[1 + 2 * x] |= 1 << 24;
+        words[2 + 2 * x] |= 1_000;
+        for z in (0..64).filter(|&z| z != x) {
+            let at = 129 + 2 * (64 * x + z);
+            words[at] |= 1 << 24 | (1 + random.below(1_000)) as u32;
+            if spares {
+                words[at + 1] = 4 << 28 | not(&mut random, &[x, z]) as u32;
+            }
+        }
+    }
+    for k in 0..messages {
+        let kind = 1 + random.below(12);
+        let sender = random.below(64);
+        let receiver = not(&mut random, &[sender]);
+        let subject = if (8..12).contains(&kind) { not(&mut random, &[sender, receiver]) } else { 64 };
+        let message = &mut words[8_321 + 5 * k..][..5];
+        message[0] = 6 << 28 | (subject << 16 | receiver << 10 | sender << 4 | kind) as u32;
+        message[1] = 7 << 28 | if kind == 9 || kind == 10 { random.below(1_000) as u32 } else { 0 };
+        message[2..].fill(8 << 28);
+        for _ in 0..if kind == 4 { 16 } else { 0 } {
+            let member = not(&mut random, &[receiver]);
+            message[2 + member / 24] |= 1 << (member % 24);
+        }
+    }
+    words
+}
+
+/// Whether the words read as a ring, by a question about node 64, which is answered by 7 as soon as that is known; the shortest of
+/// rounds in turns with a plain pass.
+pub fn reads(rings: &[&dyn Ring]) {
+    print!("{:<44}", "nanoseconds a reading, the shortest");
+    rings.iter().for_each(|ring| print!("{:>12}", ring.name()));
+    println!("{:>12}  and over the plain pass", "plain pass");
+    for (messages, spares) in [(1_024, false), (415, false), (1_024, true), (0, false), (0, true)] {
+        let words = full(messages, spares);
+        let mut shortest = vec![f64::MAX; rings.len() + 1];
+        for _ in 0..10 * ROUNDS {
+            for (place, ring) in rings.iter().enumerate() {
+                let time = each(&[64; 5], |node| ring.leafset_of(black_box(&words), node).0);
+                shortest[place] = shortest[place].min(time);
+            }
+            let time = each(&[0; 5], |_| plain_pass(black_box(&words)));
+            shortest[rings.len()] = shortest[rings.len()].min(time);
+        }
+        assert!(rings.iter().all(|ring| ring.leafset_of(&words, 64).0 == 7));
+        let head = format!("  n 64, m {messages}, all held, {} spares", spares_of(&words));
+        print!("{head:<44}");
+        shortest.iter().for_each(|time| print!("{time:>12.0}"));
+        shortest.iter().take(rings.len()).for_each(|time| print!("{:>8.2}", time / shortest[rings.len()]));
+        println!();
+    }
 }
 
 /// The tables: two usual loads, growth with n, growth with m.
@@ -122,7 +190,7 @@ pub fn report(rings: &[&dyn Ring]) {
 
 fn line(rings: &[&dyn Ring], load: &Load) {
     let (n, leaf, messages) = (look::nodes(&load.words), look::leaf(&load.words), look::messages(&load.words));
-    let head = format!("  n {n}, L {leaf}, m {messages}, {} held, {} spares", held(&load.words), spares(&load.words));
+    let head = format!("  n {n}, L {leaf}, m {messages}, {} held, {} spares", held(&load.words), spares_of(&load.words));
     print!("{head:<44}");
     let (mut times, pass) = measure(load, rings);
     times.push(pass);

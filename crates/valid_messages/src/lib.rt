@@ -1,6 +1,6 @@
 // Whether the words of the messages read.
 ghost use mathlib.Core.Path.{_≡_};
-ghost use Prim.Native.Nat.{ℕ, _+_, _<_, _≤_};
+ghost use Prim.Native.Nat.{ℕ, _/_, _%_, _^_, _<_, _≤_};
 ghost use mathlib.Core.List.{List};
 ghost use lib.ListN.{length};
 ghost use Rattle.model.specs.Sets.{all};
@@ -8,119 +8,75 @@ ghost use Rattle.model.specs.Leafset.{Table, size};
 ghost use Rattle.model.specs.Ring.{Message};
 ghost use Rattle.model.specs.Words.{at, messagePlace, subjectFits};
 ghost use Rattle.valid_messages.specs.Messages.{messagesRead};
-ghost use Rattle.valid_messages.specs.Parts.{frontReads, viewReads, viewOf, viewLimit, viewTests};
+ghost use Rattle.valid_messages.specs.Parts.{firstReads, Halves};
 use valid_nodes::clear::clear;
-
-// A word of an empty view.
-const NO_VIEW: u32 = 0x8000_0000;
+use valid_rests::rests_read;
 
 // "Of the four that use the subject, only type 8 may have 64 there"
-fn subject_fits(tag: u32, subject: u32, n: u32) -> bool
+fn subject_fits(tag: u16, subject: u16, n: u16) -> bool
     ensures { λ r. ⌜ ((t : Table) (m : Message) → size t ≡ n → m .type ≡ tag → m .subject ≡ subject → r ≡ subjectFits t m) ⌝ }
 {
     let used = (8 <= tag) & (tag <= 11);
     (used & ((subject < n) | ((tag == 8) & (subject == 64)))) | (!used & (subject == 64))
 }
 
-// The first two words of a message.
-fn front_fits(first: u32, second: u32, n: u32) -> bool
-    ensures { λ r. ⌜ ((ws : List ℕ) (t : Table) (k : ℕ) → size t ≡ n → at ws (messagePlace k) ≡ first → at ws (messagePlace k + 1) ≡ second → r ≡ frontReads ws t k) ⌝ }
+// The first word of a message, in two halves.
+fn first_fits(low: u16, high: u16, n: u16) -> bool
+    ensures { λ r. ⌜ ((ws : List ℕ) (t : Table) (k : ℕ) → size t ≡ n → at ws (messagePlace k) % 2 ^ 16 ≡ low → at ws (messagePlace k) / 2 ^ 16 ≡ high → r ≡ firstReads ws t k) ⌝ }
 {
-    let tag = first % 16;
-    let sender = (first >> 4) % 64;
-    let receiver = (first >> 10) % 64;
-    let subject = (first >> 16) % 128;
-    (first >> 23 == 0xC0)
-        & (second >> 24 == 0x70)
+    let tag = low % 16;
+    let sender = (low >> 4) % 64;
+    let receiver = low >> 10;
+    let subject = high % 128;
+    (high >> 7 == 0xC0)
         & ((1 <= tag) & (tag <= 12))
         & (sender < n)
         & (receiver < n)
         & !(sender == receiver)
         & subject_fits(tag, subject, n)
         & (!(tag == 8) | (!(subject == sender) & !(subject == receiver)))
-        & (((9 <= tag) & (tag <= 10)) | (second % 0x100_0000 == 0))
 }
 
-// The first two words of message k.
-fn front_reads(words: &[u32], n: u32, k: usize) -> bool
-    requires { ⌜ (length (now words) ≡ 13441) × (k < 1024) ⌝ }
-    ensures { λ r. ⌜ ((t : Table) → size t ≡ n → r ≡ frontReads (now (words .entry)) t k) ⌝ }
+// The upper half of a word.
+fn upper(word: u32) -> u16
+    ensures { λ r. ⌜ r ≡ word / 2 ^ 16 ⌝ }
 {
-    let at = 8321 + 5 * k;
-    front_fits(words[at], words[at + 1], n)
+    (word >> 16) as u16
 }
 
-// The view whose parts three words hold.
-fn view_of(low: u32, middle: u32, high: u32) -> u64
-    ensures { λ r. ⌜ r ≡ viewOf low middle high ⌝ }
+// The first words of m messages, in two halves.
+fn halve(words: &[u32], lows: &mut [u16], highs: &mut [u16], m: usize)
+    requires { ⌜ (length (now words) ≡ 13441) × (length (now lows) ≡ 1024) × (length (now highs) ≡ 1024) × (m ≤ 1024) ⌝ }
+    ensures { λ _. ⌜ Halves (now (words .entry)) (now (lows .exit)) (now (highs .exit)) m ⌝ }
 {
-    (low % 0x100_0000) as u64
-        + 0x100_0000 * ((middle % 0x100_0000) as u64)
-        + 0x1_0000_0000_0000 * ((high % 0x1_0000) as u64)
-}
-
-// The largest view of a type: "Type 4 uses the view"; "A view holds only stands below n".
-fn view_limit(tag: u32, n: u32) -> u64
-    requires { ⌜ (1 ≤ n) × (n ≤ 64) ⌝ }
-    ensures { λ r. ⌜ r ≡ viewLimit tag n ⌝ }
-{
-    if tag == 4 {
-        return 0xFFFF_FFFF_FFFF_FFFF >> (64 - n);
+    for k in 0..m {
+        let first = words[8321 + 5 * k];
+        lows[k] = (first % 0x1_0000) as u16;
+        highs[k] = upper(first);
     }
-    0
 }
 
-// The last three words of a message whose first word is `first`.
-fn view_fits(first: u32, low: u32, middle: u32, high: u32, n: u32) -> bool
-    requires { ⌜ (1 ≤ n) × (n ≤ 64) ⌝ }
-    ensures { λ r. ⌜ r ≡ viewTests n first low middle high ⌝ }
-{
-    let view = view_of(low, middle, high);
-    (low >> 24 == 0x80)
-        & (middle >> 24 == 0x80)
-        & (high >> 16 == 0x8000)
-        & (view <= view_limit(first % 16, n))
-        & !((view >> ((first >> 10) % 64)) % 2 == 1)
-}
-
-// The last three words of message k. Most messages have no view.
-fn view_reads(words: &[u32], n: u32, k: usize) -> bool
-    requires { ⌜ (length (now words) ≡ 13441) × (1 ≤ n) × (n ≤ 64) × (k < 1024) ⌝ }
-    ensures { λ r. ⌜ ((t : Table) → size t ≡ n → r ≡ viewReads (now (words .entry)) t k) ⌝ }
-{
-    let at = 8321 + 5 * k;
-    let low = words[at + 2];
-    let middle = words[at + 3];
-    let high = words[at + 4];
-    if ((low ^ NO_VIEW) | (middle ^ NO_VIEW) | (high ^ NO_VIEW)) == 0 {
-        return true;
-    }
-    view_fits(words[at], low, middle, high, n)
-}
-
-// The first two words of each of m messages. The loop has no branch, so that it is done four messages at a time.
-fn fronts_read(words: &[u32], n: u32, m: usize) -> bool
-    requires { ⌜ (length (now words) ≡ 13441) × (m ≤ 1024) ⌝ }
-    ensures { λ r. ⌜ ((t : Table) → size t ≡ n → r ≡ all m (frontReads (now (words .entry)) t)) ⌝ }
+// The halves of m first words fit. The loop has no branch, so that it is done eight messages at a time.
+fn halves_fit(lows: &[u16; 1024], highs: &[u16; 1024], n: u16, m: usize) -> bool
+    requires { ⌜ m ≤ 1024 ⌝ }
+    ensures { λ r. ⌜ ((ws : List ℕ) (t : Table) → size t ≡ n → Halves ws (now (lows .entry)) (now (highs .entry)) m → r ≡ all m (firstReads ws t)) ⌝ }
 {
     let mut ok = true;
     for k in 0..m {
-        ok = ok & front_reads(words, n, k);
+        ok = ok & first_fits(lows[k], highs[k], n);
     }
     ok
 }
 
-// The last three words of each of m messages.
-fn views_read(words: &[u32], n: u32, m: usize) -> bool
-    requires { ⌜ (length (now words) ≡ 13441) × (1 ≤ n) × (n ≤ 64) × (m ≤ 1024) ⌝ }
-    ensures { λ r. ⌜ ((t : Table) → size t ≡ n → r ≡ all m (viewReads (now (words .entry)) t)) ⌝ }
+// The first words of m messages.
+fn firsts_read(words: &[u32], n: u32, m: usize) -> bool
+    requires { ⌜ (length (now words) ≡ 13441) × (n ≤ 64) × (m ≤ 1024) ⌝ }
+    ensures { λ r. ⌜ ((t : Table) → size t ≡ n → r ≡ all m (firstReads (now (words .entry)) t)) ⌝ }
 {
-    for k in 0..m {
-        if !view_reads(words, n, k) {
-            return false;
-        }
-    }
-    true
+    let mut lows = [0; 1024];
+    let mut highs = [0; 1024];
+    halve(words, &mut lows, &mut highs, m);
+    halves_fit(&lows, &highs, n as u16, m)
 }
 
 // The m messages of the words read, with a table of n nodes, and nothing after them.
@@ -128,5 +84,5 @@ pub fn messages_read(words: &[u32], n: u32, m: usize) -> bool
     requires { ⌜ (length (now words) ≡ 13441) × (1 ≤ n) × (n ≤ 64) × (m ≤ 1024) ⌝ }
     ensures { λ r. ⌜ ((t : Table) → size t ≡ n → r ≡ messagesRead (now (words .entry)) t m) ⌝ }
 {
-    fronts_read(words, n, m) & views_read(words, n, m) & clear(words, 8321 + 5 * m, 13441)
+    firsts_read(words, n, m) & rests_read(words, n, m) & clear(words, 8321 + 5 * m, 13441)
 }

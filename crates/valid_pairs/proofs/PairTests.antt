@@ -20,27 +20,11 @@ use Rattle.model.specs.Words.{pairWord, spareWord}
 use Rattle.model.proofs.Laws.{and-left, and-right, and-in, or-left, clash, decide, is-false, not-in, not-out, implies-out, then-out, else-out, if-law, same-test, every-in, every-out, all-in, all-out}
 use Rattle.model.proofs.Lists.{first, rest}
 use Rattle.valid_nodes.specs.Nodes.{keyAt, clockAt}
-use Rattle.valid_pairs.specs.Pairs.{linkAt, spareAt, linkReads, spareReads, pairReads}
+use Rattle.valid_rows.specs.Pairs.{linkAt, spareAt, linkReads, spareReads, pairReads, othersRead}
 use Rattle.valid_pairs.specs.Rows.{noLink, noSpare, offDiagonal, apart, linkFits, spareFits, linksFit, noLinks, noSpares, sparesFit}
+use Rattle.valid_rows.proofs.PairFormats.{pair-format, spare-format, wrapped, is-wrapped, without-candidate}
 use Rattle.valid_nodes.proofs.Gather.{or-test, all-both, all-cong}
 use Rattle.valid_nodes.proofs.Formats.{of-kind, bit-flag, lowest, mark-above, xor-test, xor-above}
-
--- ---- formats
-
-pair-format : (w : ℕ) → eqb w (pairWord (bits 0 24 w) (flag 24 w) (flag 25 w)) ≡ eqb (w / 2 ^ 26) 12
-unfolding pairWord
-pair-format w = of-kind 26 3 12 w (bit (flag 25 w) * 2 ^ 25 + bit (flag 24 w) * 2 ^ 24 + bits 0 24 w) parts refl
-  where
-    parts : bit (flag 25 w) * 2 ^ 25 + bit (flag 24 w) * 2 ^ 24 + bits 0 24 w ≡ w % 2 ^ 26
-    parts =
-        let a : w % 2 ^ 26 ≡ w / 2 ^ 25 % 2 * 2 ^ 25 + w % 2 ^ 25 = mod-mul w {m = 2} {c = 2 ^ 25} (lit< tt) (lit< tt) in
-        let b = mark-above w in
-        let c = bit-flag 25 w in
-        omega arith
-
-spare-format : (w : ℕ) → eqb w (spareWord (bits 0 7 w)) ≡ eqb (w / 2 ^ 7) 8388608
-unfolding spareWord
-spare-format w = of-kind 7 4 8388608 w (bits 0 7 w) (lowest 7 w) refl
 
 -- ---- a link
 
@@ -59,20 +43,6 @@ unfolding linkFits
 no-link-fits clock = rw (le-leb 0 clock zero-le)
 
 -- most - a, wrapped, has a clear bit 31 exactly where a is at most `most`
-
-abbrev pub wrapped : ℕ → ℕ → ℕ
-wrapped most a = (most + (2 ^ 32 - a)) % 2 ^ 32
-
-pub is-wrapped : (most a r : ℕ) → a < 2 ^ 32 → r < 2 ^ 32 → (r + a) % 2 ^ 32 ≡ most → r ≡ wrapped most a
-is-wrapped most a r ha hr e =
-    elim (decLt (r + a) (2 ^ 32)) [
-      | yes l ↦ let m : (r + a) % 2 ^ 32 ≡ r + a = mod-eq-of-lt l in
-          let k : most + (2 ^ 32 - a) ≡ r + 2 ^ 32 = omega arith in
-          rw k (omega arith)
-      | no d ↦ let m : (r + a) % 2 ^ 32 ≡ r + a - 2 ^ 32 = omega arith in
-          let k : most + (2 ^ 32 - a) ≡ r = omega arith in
-          rw k (sym (mod-eq-of-lt hr))
-    ]
 
 late-out : (most a : ℕ) → most < 2 ^ 31 → a < 2 ^ 31 → wrapped most a / 2 ^ 31 ≡ 0 → a ≤ most
 late-out most a hm ha e = elim (decLt most a) [
@@ -115,15 +85,6 @@ module _ (q f s clock a : ℕ) (hf : f < 2) (hs : s < 2 ^ 24) (hc : clock < 2 ^ 
 
 abbrev pub lift : ℕ → ℕ
 lift u = u / 2 ^ 26 * 2 ^ 26 + u % 2 ^ 25 + 16777215
-
--- the mask takes bit 25 out
-pub without-candidate : (u : ℕ) → u < 2 ^ 32 → bitAnd u 4261412863 ≡ u / 2 ^ 26 * 2 ^ 26 + u % 2 ^ 25
-without-candidate u h =
-    ap (λ (v : ℕ). bitAnd v 4261412863) (sym (div-add-mod' u (2 ^ 26)))
-    ∙ and-block 26 (u / 2 ^ 26) 63 (u % 2 ^ 26) 33554431 (mod-lt u (lit< tt)) (lit< tt)
-    ∙ ap₂ (λ (a b : ℕ). a * 2 ^ 26 + b)
-    (and-mask (u / 2 ^ 26) 6 ∙ mod-eq-of-lt (omega arith))
-    (and-mask (u % 2 ^ 26) 25 ∙ ap (λ (v : ℕ). v % 2 ^ 25) (mod-mul u {m = 2} {c = 2 ^ 25} (lit< tt) (lit< tt)) ∙ digits-mod (u / 2 ^ 25 % 2) (mod-lt u (lit< tt)))
 
 module _ (clock u : ℕ) (hc : clock < 2 ^ 24) where
   f< : u / 2 ^ 24 % 2 < 2
@@ -326,6 +287,11 @@ table-apart b x z w t hx hz e = ap (bitXor w) (ap (λ (l : List ℕ). getD l (63
 
 -- ---- a row
 
+two-of-three : (a b : Bool) → (a && b) ≡ every (a ∷ b ∷ true ∷ [])
+two-of-three true true = refl
+two-of-three true false = refl
+two-of-three false b = refl
+
 module _ (ws : List ℕ) (n x : ℕ) (hn : n ≤ 64) (hx : x < n) where
   -- the place of x with itself is 0
   abbrev pub OwnClear : Type 0
@@ -358,11 +324,6 @@ module _ (ws : List ℕ) (n x : ℕ) (hn : n ≤ 64) (hx : x < n) where
         decide (eqb x z)
         (λ e. rw (e, link-own z e, spare-own z e, no-link-fits (bits 0 24 (clockAt ws x))))
         (λ e. rw (e, r, link-fits (bits 0 24 (clockAt ws x)) (linkAt ws x z), spare-fits n x z (linkAt ws x z) (spareAt ws x z) hn (omega arith) (omega arith)) (two-of-three (linkReads (bits 0 24 (clockAt ws x)) (linkAt ws x z)) (spareReads n x z (linkAt ws x z) (spareAt ws x z))))
-      where
-        two-of-three : (a b : Bool) → (a && b) ≡ every (a ∷ b ∷ true ∷ [])
-        two-of-three true true = refl
-        two-of-three true false = refl
-        two-of-three false b = refl
 
     pair-off : flag 24 (keyAt ws x) ≡ false → (z : ℕ) → z < n
         → (eqb (apart noLink x z (linkAt ws x z)) 0 && eqb (apart noSpare x z (spareAt ws x z)) 0) ≡ pairReads ws n x z
@@ -377,6 +338,15 @@ module _ (ws : List ℕ) (n x : ℕ) (hn : n ≤ 64) (hx : x < n) where
     running-reads r =
         all-both (λ z. linkFits (bits 0 24 (clockAt ws x)) (apart noLink x z (linkAt ws x z))) (λ z. spareFits n x z (flag 24 (linkAt ws x z)) (apart noSpare x z (spareAt ws x z))) n
         ∙ all-cong (λ z. linkFits (bits 0 24 (clockAt ws x)) (apart noLink x z (linkAt ws x z)) && spareFits n x z (flag 24 (linkAt ws x z)) (apart noSpare x z (spareAt ws x z))) (pairReads ws n x) n (pair-running r)
+
+    -- the same, looked at as a whole
+    pub whole-reads : flag 24 (keyAt ws x) ≡ true → all n (othersRead ws n x) ≡ all n (pairReads ws n x)
+    unfolding pairReads
+    whole-reads r =
+        all-cong (othersRead ws n x) (pairReads ws n x) n
+        (λ z hz. decide (eqb x z)
+        (λ e. rw (e, eq-eqb z x (sym (eqb-true x z e)), link-own z e, spare-own z e) refl)
+        (λ e. rw (e, ne-eqb z x (λ i. clash (eq-eqb x z (sym i)) e), r) (two-of-three (linkReads (bits 0 24 (clockAt ws x)) (linkAt ws x z)) (spareReads n x z (linkAt ws x z) (spareAt ws x z)))))
 
     -- the row of a node that is off
     pub off-reads : flag 24 (keyAt ws x) ≡ false → (noLinks ws n x && noSpares ws n x) ≡ all n (pairReads ws n x)

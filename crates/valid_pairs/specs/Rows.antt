@@ -1,7 +1,7 @@
 -- What the code tests of a row of pairs: each word without the bits that it must have.
 use mathlib.Core.Path.{_≡_}
 use Prim.Native.Nat.{ℕ, _+_, _/_, _^_, _≤_, _<_}
-use mathlib.Core.Bool.{Bool, not, _&&_, _||_}
+use mathlib.Core.Bool.{Bool, true, not, _&&_, _||_}
 use mathlib.Core.List.{List, [], _∷_}
 use lib.Bits.{bitXor}
 use lib.Dec.{ltb, leb, eqb}
@@ -10,8 +10,8 @@ use Rattle.model.specs.Choice.{if_then_else_, every}
 use Rattle.model.specs.Sets.{all}
 use Rattle.model.specs.Fields.{bits, flag}
 use Rattle.model.specs.Words.{ringLength}
-use Rattle.valid_nodes.specs.Nodes.{clockAt}
-use Rattle.valid_pairs.specs.Pairs.{linkAt, spareAt}
+use Rattle.valid_nodes.specs.Nodes.{keyAt, clockAt}
+use Rattle.valid_rows.specs.Pairs.{linkAt, spareAt}
 
 -- the first word of a pair that is not held and no candidate, and the second of one that has no spare
 abbrev pub noLink : ℕ
@@ -31,6 +31,12 @@ pub record GivenRow (ws links spares : List ℕ) (x n : ℕ) : Type 0 where
   pub node : x < n
   pub link-table : links ≡ offDiagonal noLink
   pub spare-table : spares ≡ offDiagonal noSpare
+
+-- x runs, and its place with itself is 0
+pub record RunningRow (ws : List ℕ) (x : ℕ) : Type 0 where
+  pub own-link : linkAt ws x x ≡ 0
+  pub own-spare : spareAt ws x x ≡ 0
+  pub runs : flag 24 (keyAt ws x) ≡ true
 
 -- the bits in which w differs from b, or from 0 where x is z
 abbrev pub apart : ℕ → ℕ → ℕ → ℕ → ℕ

@@ -5,20 +5,16 @@ ghost use Prim.Native.Nat.{_+_, _*_, _/_, _%_, _^_, _≤_, _<_};
 ghost use lib.ListN.{length};
 ghost use Rattle.model.specs.Fields.{flag};
 ghost use Rattle.model.specs.Sets.{all};
-ghost use Rattle.valid_pairs.specs.Pairs.{pairReads, rowReads, pairsRead};
-ghost use Rattle.valid_pairs.specs.Rows.{noSpare, offDiagonal, GivenRow, spareFits, noLinks, noSpares, linksFit, sparesFit};
+ghost use Rattle.valid_rows.specs.Pairs.{pairReads, rowReads, pairsRead};
+ghost use Rattle.valid_pairs.specs.Rows.{noSpare, offDiagonal, GivenRow, RunningRow, spareFits, noLinks, noSpares, linksFit, sparesFit};
 use valid_nodes::clear::clear;
+use valid_rows::Row;
+use valid_rows::whole_row;
 
 // The first word of a pair that is not held and no candidate, and the second of one that has no spare.
 const NO_LINK: u32 = 0x3000_0000;
 
 const NO_SPARE: u32 = 0x4000_0040;
-
-// What is seen of the row of a running node.
-struct Row {
-    fits: bool,
-    bare: bool,
-}
 
 // u without bit 25, the candidate mark, plus 2^24 - 1. Bit 24 of that is clear exactly where a held pair has a stamp and
 // another has none; it is then at most 2^25 - 1 plus the clock exactly where the stamp is at most the clock.
@@ -88,6 +84,35 @@ fn spares_fit(words: &[u32], spares: &[u32; 127], x: usize, n: usize) -> bool
     ok
 }
 
+// The pairs of a running x with n nodes. Where the row before had a spare this one is looked at as a whole; else the links
+// first, and the spares where there are some.
+fn running_pairs_read(
+    words: &[u32],
+    links: &[u32; 127],
+    spares: &[u32; 127],
+    x: usize,
+    n: usize,
+    bare: bool,
+) -> Row
+    requires { ⌜ GivenRow (now words) (now links) (now spares) x n × RunningRow (now words) x ⌝ }
+    ensures { λ r. ⌜ r .fits ≡ all n (pairReads (now (words .entry)) n x) ⌝ }
+{
+    if !bare {
+        return whole_row(words, x, n);
+    }
+    let row = running_row(words, links, spares, x, n);
+    if !row.fits {
+        return row;
+    }
+    if row.bare {
+        return row;
+    }
+    Row {
+        fits: spares_fit(words, spares, x, n),
+        bare: false,
+    }
+}
+
 // The pairs of x with n nodes.
 fn row_pairs_read(
     words: &[u32],
@@ -95,34 +120,45 @@ fn row_pairs_read(
     spares: &[u32; 127],
     x: usize,
     n: usize,
-) -> bool
+    bare: bool,
+) -> Row
     requires { ⌜ GivenRow (now words) (now links) (now spares) x n ⌝ }
-    ensures { λ r. ⌜ r ≡ all n (pairReads (now (words .entry)) n x) ⌝ }
+    ensures { λ r. ⌜ r .fits ≡ all n (pairReads (now (words .entry)) n x) ⌝ }
 {
     let own = 129 + 2 * (64 * x + x);
     if !((words[own] | words[own + 1]) == 0) {
-        return false;
+        return Row {
+            fits: false,
+            bare: true,
+        };
     }
     if !((words[1 + 2 * x] >> 24) % 2 == 1) {
-        return off_row(words, links, spares, x, n);
+        return Row {
+            fits: off_row(words, links, spares, x, n),
+            bare: true,
+        };
     }
-    let row = running_row(words, links, spares, x, n);
-    if !row.fits {
-        return false;
-    }
-    if row.bare {
-        return true;
-    }
-    spares_fit(words, spares, x, n)
+    running_pairs_read(words, links, spares, x, n, bare)
 }
 
 // The row of x: its pairs, and nothing after them.
-fn row_reads(words: &[u32], links: &[u32; 127], spares: &[u32; 127], x: usize, n: usize) -> bool
+fn row_reads(
+    words: &[u32],
+    links: &[u32; 127],
+    spares: &[u32; 127],
+    x: usize,
+    n: usize,
+    bare: bool,
+) -> Row
     requires { ⌜ GivenRow (now words) (now links) (now spares) x n ⌝ }
-    ensures { λ r. ⌜ r ≡ rowReads (now (words .entry)) n x ⌝ }
+    ensures { λ r. ⌜ r .fits ≡ rowReads (now (words .entry)) n x ⌝ }
 {
-    row_pairs_read(words, links, spares, x, n)
-        & clear(words, 129 + 2 * (64 * x + n), 129 + 2 * (64 * x + 64))
+    let row = row_pairs_read(words, links, spares, x, n, bare);
+    let after = clear(words, 129 + 2 * (64 * x + n), 129 + 2 * (64 * x + 64));
+    Row {
+        fits: row.fits & after,
+        bare: row.bare,
+    }
 }
 
 // The pairs of n nodes, and nothing after them. The tables are read at 63 - x + z, which is 63 where x is z: there, the words
@@ -136,8 +172,11 @@ pub fn pairs_read(words: &[u32], n: usize) -> bool
     let mut spares = [NO_SPARE; 127];
     spares[63] = 0;
     let mut ok = true;
+    let mut bare = true;
     for x in 0..n {
-        ok = ok & row_reads(words, &links, &spares, x, n);
+        let row = row_reads(words, &links, &spares, x, n, bare);
+        ok = ok & row.fits;
+        bare = row.bare;
     }
     ok & clear(words, 129 + 128 * n, 8321)
 }

@@ -21,7 +21,7 @@ use Rattle.model.proofs.Lists.{first, rest}
 use Rattle.model.proofs.Words.{node-at, pair-at, message-at, pair-low, pair-other, ReadsAsRing, reads-in, reads-out}
 use Rattle.valid_messages.specs.Messages.{messageReads, messagesRead}
 use Rattle.valid_nodes.specs.Nodes.{clear, sizeOf, countOf, keyAt, clockAt, headReads, nodeReads, nodesRead}
-use Rattle.valid_pairs.specs.Pairs.{linkAt, spareAt, linkReads, spareReads, pairReads, rowReads, pairsRead}
+use Rattle.valid_rows.specs.Pairs.{linkAt, spareAt, linkReads, spareReads, pairReads, rowReads, pairsRead}
 use Rattle.validity.specs.Regions.{regionsRead}
 use Rattle.valid_nodes.proofs.Gather.{clear-in, clear-out}
 use Rattle.valid_nodes.proofs.NodeTests.{size-is, key-is}

@@ -5,7 +5,7 @@ use Prim.Native.Nat.{ℕ}
 use Rattle.model.specs.Choice.{every}
 use Rattle.model.specs.Words.{at, keysDiffer, decodeTable}
 use Rattle.valid_nodes.specs.Nodes.{sizeOf, countOf, headReads, nodesRead}
-use Rattle.valid_pairs.specs.Pairs.{pairsRead}
+use Rattle.valid_rows.specs.Pairs.{pairsRead}
 use Rattle.valid_messages.specs.Messages.{messagesRead}
 
 -- region by region

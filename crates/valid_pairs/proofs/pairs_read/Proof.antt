@@ -7,16 +7,16 @@ use borrow.Author.Needs.{needs}
 use Rattle.model.specs.Words.{pairPlace}
 use Rattle.model.specs.Sets.{all}
 use Rattle.valid_nodes.specs.Nodes.{clear}
-use Rattle.valid_pairs.specs.Pairs.{rowReads, pairsRead}
+use Rattle.valid_rows.specs.Pairs.{rowReads, pairsRead}
 use Rattle.valid_nodes.proofs.Gather.{two, all-more}
 use Rattle.valid_pairs.proofs.pairs_read.Statement.{statement}
 use Rattle.valid_pairs.proofs.pairs_read.Tie as tie
 
 abbrev Inv-loop : tie.InvT-loop
-Inv-loop words n links spares ok₀ x₀ ok x = (x ≤ n) × (ok ≡ all x (rowReads words n))
+Inv-loop words n links spares ok₀ bare₀ x₀ ok bare x = (x ≤ n) × (ok ≡ all x (rowReads words n))
 
 abbrev μ-loop : tie.MeasureT-loop
-μ-loop words n links spares ok₀ x₀ ok x = n - x
+μ-loop words n links spares ok₀ bare₀ x₀ ok bare x = n - x
 
 array-write-links : tie.Need-array-write-links Inv-loop μ-loop
 array-write-links c = search needs
@@ -39,9 +39,9 @@ loop-less c = search needs
 
 loop-again : tie.Need-loop-again Inv-loop μ-loop
 loop-again c =
-    let l = c .before .before .before .before .loop in
-    let a = c .before .before .before .before .before .before .args in
-    (search needs, all-more (rowReads (now (a .words)) (a .n)) (l .x) _ _ (l .inv .1) (c .row-reads .ensures))
+    let l = c .before .before .before .before .before .loop in
+    let a = c .before .before .before .before .before .before .before .args in
+    (search needs, all-more (rowReads (now (a .words)) (a .n)) (l .x) _ _ (l .inv .1) (c .before .row-reads .ensures))
 
 mul-clear : tie.Need-mul-clear Inv-loop μ-loop
 mul-clear c = search needs

@@ -6,7 +6,7 @@ use borrow.Author.Needs.{needs}
 use Rattle.model.specs.Fields.{flag}
 use Rattle.model.specs.Sets.{all}
 use Rattle.valid_pairs.specs.Rows.{noSpare, apart, spareFits}
-use Rattle.valid_pairs.specs.Pairs.{linkAt, spareAt}
+use Rattle.valid_rows.specs.Pairs.{linkAt, spareAt}
 use Rattle.valid_pairs.proofs.PairTests.{table-apart}
 use Rattle.valid_nodes.proofs.Gather.{all-more}
 use Rattle.valid_pairs.proofs.spares_fit.Statement.{statement}

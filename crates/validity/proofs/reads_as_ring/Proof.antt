@@ -6,7 +6,7 @@ use borrow.Author.Tests.{not-true, not-false}
 use borrow.Author.Needs.{needs}
 use Rattle.model.specs.Words.{at, decodeTable}
 use Rattle.valid_nodes.specs.Nodes.{nodesRead}
-use Rattle.valid_pairs.specs.Pairs.{pairsRead}
+use Rattle.valid_rows.specs.Pairs.{pairsRead}
 use Rattle.valid_messages.specs.Messages.{messagesRead}
 use Rattle.valid_nodes.proofs.NodeTests.{size-is}
 use Rattle.validity.proofs.Regions.{head-ranges, head-fails, after-head}

@@ -54,3 +54,10 @@ rowReads ws n x = every (all n (pairReads ws n x) ∷ clear ws (pairPlace x n) (
 -- n rows, and nothing after them
 unfoldable pub pairsRead : List ℕ → ℕ → Bool
 pairsRead ws n = every (all n (rowReads ws n) ∷ clear ws (pairPlace n 0) 8321 ∷ [])
+
+-- the pair of a running x with another z
+abbrev pub otherReads : List ℕ → ℕ → ℕ → ℕ → Bool
+otherReads ws n x z = linkReads (bits 0 24 (clockAt ws x)) (linkAt ws x z) && spareReads n x z (linkAt ws x z) (spareAt ws x z)
+
+abbrev pub othersRead : List ℕ → ℕ → ℕ → ℕ → Bool
+othersRead ws n x z = eqb z x || otherReads ws n x z

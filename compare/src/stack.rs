@@ -1,0 +1,57 @@
+//! How much stack a call of the library takes: the stack below the caller is painted, and what the call has written is looked for.
+
+use crate::library;
+use crate::random::Random;
+use crate::ring::Ring;
+use crate::script::{Mix, Script};
+use crate::LENGTH;
+
+const PAINTED: usize = 256 * 1024;
+const PAINT: u8 = 0xA5;
+
+/// Bytes from this function's frame down to the lowest byte that the call changed.
+#[inline(never)]
+fn depth(call: &mut dyn FnMut()) -> usize {
+    let here = 0u8;
+    let top = std::hint::black_box(&raw const here) as usize - 512;
+    for place in top - PAINTED..top {
+        // SAFETY: unused stack of this thread, which has far more; nothing is called meanwhile.
+        unsafe { (place as *mut u8).write_volatile(PAINT) };
+    }
+    call();
+    // SAFETY: as above.
+    let changed = (top - PAINTED..top).find(|&place| unsafe { (place as *const u8).read_volatile() } != PAINT);
+    top + 512 - changed.unwrap_or(top)
+}
+
+/// The deepest of many calls of each name.
+pub fn report() {
+    std::thread::Builder::new().stack_size(8 << 20).spawn(measure).unwrap().join().unwrap();
+}
+
+fn measure() {
+    let ring = library::Library;
+    let mut script = Script::new(Random::new(1, 2), Mix::Gentle, 64);
+    let (leaf, keys) = script.opening();
+    let mut words = vec![0; LENGTH];
+    line("open", depth(&mut || _ = ring.open(&mut words, leaf, &keys)));
+    let events: Vec<u32> = (0..20_000)
+        .map(|_| {
+            let word = script.next(&words);
+            ring.play(&mut words, word);
+            word
+        })
+        .collect();
+    ring.open(&mut words, leaf, &keys);
+    line("play", events.iter().map(|&word| depth(&mut || _ = ring.play(&mut words, word))).max().unwrap());
+    line("leafset", (0..64).map(|s| depth(&mut || _ = ring.leafset_of(&words, s))).max().unwrap());
+    line("connected", (0..64).map(|s| depth(&mut || _ = ring.connected(&words, s, 63 - s))).max().unwrap());
+    line("groups", depth(&mut || _ = ring.groups(&words)));
+    line("replay", depth(&mut || library::replay(&mut words, leaf, &keys, &events)));
+    line("read_event", events.iter().map(|&word| depth(&mut || library::read_event(word))).max().unwrap());
+    line("write_event", (0..7).map(|kind| depth(&mut || library::write_event(9 + kind, 1, 2))).max().unwrap());
+}
+
+fn line(name: &str, bytes: usize) {
+    println!("{name:>12} {bytes:>6} bytes");
+}

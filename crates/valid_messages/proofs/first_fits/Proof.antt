@@ -1,0 +1,23 @@
+-- `valid_messages::first_fits` meets its contract.
+use Prim.Native.Nat.{_/_, _%_, _^_}
+use native.Mathlib.Nat.{div-one}
+use lib.ListN.{getD}
+use borrow.Author.Needs.{needs}
+use Rattle.model.specs.Words.{messagePlace, decodeMessage}
+use Rattle.valid_messages.proofs.MessageTests.{first-test, low-tag, low-sender, low-receiver, high-subject, high-kind}
+use Rattle.valid_messages.proofs.first_fits.Statement.{statement}
+use Rattle.valid_messages.proofs.first_fits.Tie as tie
+
+subject-fits-requires : tie.Need-subject-fits-requires
+subject-fits-requires c κs = search needs
+
+returns : tie.Need-returns
+unfolding decodeMessage
+returns c ws t k e f g =
+    let w = getD ws (messagePlace k) 0 in
+    rw (← f, ← g, low-tag w, low-sender w, low-receiver w, high-subject w, high-kind w)
+    (first-test ws t k (c .before .args .n) (w % 16) (c .subject-fits .result) e (simp div-one)
+    (c .subject-fits .ensures t (decodeMessage ws k) e (rw (← f, low-tag w) (simp div-one)) (rw (← g, high-subject w))))
+
+pub first-fits-spec : {M : Type 1} → statement M
+first-fits-spec = tie.close (tie.spec subject-fits-requires returns)

@@ -1,0 +1,3 @@
+pub mod RestTests
+pub mod Lanes
+pub mod Views

@@ -1,0 +1,25 @@
+use denote.Ref.{now}
+use Rattle.valid_rests.proofs.RestTests.{rests-test}
+use borrow.Author.Needs.{needs}
+use Rattle.valid_rests.proofs.rests_read.Statement.{statement}
+use Rattle.valid_rests.proofs.rests_read.Tie as tie
+
+of-types-requires : tie.Need-of-types-requires
+of-types-requires c κs = search needs
+
+of-receivers-requires : tie.Need-of-receivers-requires
+of-receivers-requires c κs = search needs
+
+nothing-wrong-requires : tie.Need-nothing-wrong-requires
+nothing-wrong-requires c κs = search needs
+
+returns : tie.Need-returns
+returns c t e =
+    let start = c .before .before .before .before .before .before in
+    rests-test (now (start .args .words)) (c .before .before .before .before .of-types .result) (c .before .before .before .of-receivers .result) t (start .args .n) (start .args .m) (c .nothing-wrong .result)
+    (record { of-types = c .before .before .before .before .of-types .ensures; of-receivers = c .before .before .before .of-receivers .ensures })
+    e (start .pre .1) (c .nothing-wrong .ensures .1) (c .nothing-wrong .ensures .0)
+
+pub rests-read-spec : {M : Type 1} → statement M
+rests-read-spec =
+    tie.close (tie.spec of-types-requires of-receivers-requires nothing-wrong-requires returns)

@@ -1,0 +1,67 @@
+-- What the code tests of a rest: word i of it, without the bits of an empty one, under two masks.
+use mathlib.Core.Path.{_≡_}
+use Prim.Native.Nat.{ℕ, zero, suc, _+_, _-_, _*_, _/_, _%_, _^_, _<_}
+use mathlib.Core.Bool.{Bool, not, _&&_}
+use mathlib.Core.List.{List}
+use lib.Bits.{bitOr, bitXor, bitAnd}
+use lib.Dec.{leb, eqb}
+use lib.ListN.{getD, set, replicate}
+use Rattle.model.specs.Choice.{if_then_else_}
+use Rattle.model.specs.Words.{at, messagePlace, usesView, usesStamp}
+
+-- how many of the 24 nodes from `from` on are below n
+abbrev pub part : ℕ → ℕ → ℕ
+part n from = if leb n from then 0 else if leb 24 (n - from) then 24 else n - from
+
+-- how many of its lowest bits word i of a rest may use: 0 is the stamp, the others are the view
+abbrev pub room : ℕ → ℕ → ℕ → ℕ
+room n type zero = if usesStamp type then 24 else 0
+room n type (suc i) = if usesView type then part n (24 * i) else 0
+
+-- all bits but the lowest ones
+abbrev pub above : ℕ → ℕ
+above free = 2 ^ 32 - 2 ^ free
+
+-- for each type, four words: the bits that have to be those of an empty rest
+unfoldable pub ofTypes : ℕ → List ℕ
+ofTypes n =
+    set (set (set (set (set (replicate 64 4294967295) 17 (above (part n 0))) 18 (above (part n 24))) 19 (above (part n 48))) 36 (above 24)) 40 (above 24)
+
+-- the receiver's bit in word i of a rest
+abbrev pub receiverBit : ℕ → ℕ → ℕ
+receiverBit s i = if eqb i (1 + s / 24) then 2 ^ (s % 24) else 0
+
+-- for each receiver, four words: its bit in a view
+pub record OfReceivers (table : List ℕ) : Type 0 where
+  pub bit : (s i : ℕ) → s < 64 → i < 4 → getD table (4 * s + i) 0 ≡ receiverBit s i
+
+-- the two of them, for n nodes
+pub record Tables (types receivers : List ℕ) (n : ℕ) : Type 0 where
+  pub of-types : types ≡ ofTypes n
+  pub of-receivers : OfReceivers receivers
+
+-- what word i of the rest of message k has beyond an empty one
+abbrev pub beyond : List ℕ → ℕ → ℕ → ℕ → ℕ
+beyond ws k i empty = bitXor (at ws (messagePlace k + (1 + i))) empty
+
+-- and what is wrong in that
+abbrev pub wrong : List ℕ → List ℕ → List ℕ → ℕ → ℕ → ℕ → ℕ
+wrong ws types receivers k i empty =
+    bitOr
+    (bitAnd (beyond ws k i empty) (getD types (4 * (at ws (messagePlace k) % 16) + i) 0))
+    (bitAnd (beyond ws k i empty) (getD receivers (4 * (at ws (messagePlace k) / 2 ^ 10 % 64) + i) 0))
+
+-- nothing is wrong in the rest of message k
+abbrev pub nothingWrong : List ℕ → List ℕ → List ℕ → ℕ → Bool
+nothingWrong ws types receivers k =
+    eqb (wrong ws types receivers k 0 1879048192) 0
+    && eqb (wrong ws types receivers k 1 2147483648) 0
+    && eqb (wrong ws types receivers k 2 2147483648) 0
+    && eqb (wrong ws types receivers k 3 2147483648) 0
+
+-- its words have 32 bits
+pub record Small (ws : List ℕ) (k : ℕ) : Type 0 where
+  pub stamp : beyond ws k 0 1879048192 < 2 ^ 32
+  pub low : beyond ws k 1 2147483648 < 2 ^ 32
+  pub middle : beyond ws k 2 2147483648 < 2 ^ 32
+  pub high : beyond ws k 3 2147483648 < 2 ^ 32

@@ -1,0 +1,2 @@
+pub mod PairFormats
+pub mod PairTest
