@@ -3,10 +3,9 @@ ghost use mathlib.Core.Path.{_≡_};
 ghost use mathlib.Core.Bool.{_&&_};
 ghost use Prim.Native.Nat.{_+_, _*_, _/_, _%_, _^_, _≤_, _<_};
 ghost use lib.ListN.{length};
-ghost use Rattle.model.specs.Fields.{flag};
 ghost use Rattle.model.specs.Sets.{all};
 ghost use Rattle.valid_rows.specs.Pairs.{pairReads, rowReads, pairsRead};
-ghost use Rattle.valid_pairs.specs.Rows.{noSpare, offDiagonal, GivenRow, RunningRow, spareFits, noLinks, noSpares, linksFit, sparesFit};
+ghost use Rattle.valid_pairs.specs.Rows.{GivenRow, RunningRow, noLinks, noSpares, linksFit};
 use valid_nodes::clear::clear;
 use valid_rows::Row;
 use valid_rows::whole_row;
@@ -61,31 +60,8 @@ fn off_row(words: &[u32], links: &[u32; 127], spares: &[u32; 127], x: usize, n: 
     (link == 0) & (spare == 0)
 }
 
-// u is what the second word of (x, z) may have beyond that of no spare, w being its first word.
-fn spare_fits(w: u32, u: u32, n: u32, x: u32, z: u32) -> bool
-    requires { ⌜ (n ≤ 64) × (x < 64) × (z < 64) ⌝ }
-    ensures { λ r. ⌜ r ≡ spareFits n x z (flag 24 w) u ⌝ }
-{
-    let held = (w >> 24) % 2 == 1;
-    (u == 0) | (held & (64 <= u) & (u < 64 + n) & !(u == 64 + x) & !(u == 64 + z))
-}
-
-// The spares of the row of x.
-fn spares_fit(words: &[u32], spares: &[u32; 127], x: usize, n: usize) -> bool
-    requires { ⌜ (length (now words) ≡ 13441) × (n ≤ 64) × (x < n) × (now spares ≡ offDiagonal noSpare) ⌝ }
-    ensures { λ r. ⌜ r ≡ sparesFit (now (words .entry)) n x ⌝ }
-{
-    let mut ok = true;
-    for z in 0..n {
-        let at = 129 + 2 * (64 * x + z);
-        let u = words[at + 1] ^ spares[63 - x + z];
-        ok = ok & spare_fits(words[at], u, n as u32, x as u32, z as u32);
-    }
-    ok
-}
-
-// The pairs of a running x with n nodes. Where the row before had a spare this one is looked at as a whole; else the links
-// first, and the spares where there are some.
+// The pairs of a running x with n nodes. A row without spares is done by its links, which is quicker: that is tried first
+// where the row before had none.
 fn running_pairs_read(
     words: &[u32],
     links: &[u32; 127],
@@ -107,10 +83,7 @@ fn running_pairs_read(
     if row.bare {
         return row;
     }
-    Row {
-        fits: spares_fit(words, spares, x, n),
-        bare: false,
-    }
+    whole_row(words, x, n)
 }
 
 // The pairs of x with n nodes.

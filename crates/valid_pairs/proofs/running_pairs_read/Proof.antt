@@ -49,8 +49,8 @@ returns-3 c =
     let g : sparesFit ws n x ≡ true = bare-fits ws n x (p .few) (p .node) (sym (c .before .before .before .running-row .ensures .1) ∙ c .if3 .taken) in
     e ∙ (rw (f, g) at (running-reads ws n x (p .few) (p .node) (q .own-link, q .own-spare) (q .runs)))
 
-spares-fit-requires : tie.Need-spares-fit-requires
-spares-fit-requires c κs = search needs
+whole-row-requires-2 : tie.Need-whole-row-requires-2
+whole-row-requires-2 c κs = search needs
 
 returns-4 : tie.Need-returns-4
 returns-4 c =
@@ -60,8 +60,7 @@ returns-4 c =
     let x = start .args .x in
     let p = start .pre .0 in
     let q = start .pre .1 in
-    let f : linksFit ws n x ≡ true = sym (c .before .before .before .before .running-row .ensures .0) ∙ not-false (c .before .before .before .before .running-row .result .fits) (c .before .before .if2 .left) in
-    c .spares-fit .ensures ∙ (rw f at (running-reads ws n x (p .few) (p .node) (q .own-link, q .own-spare) (q .runs)))
+    c .whole-row2 .ensures ∙ whole-reads ws n x (p .few) (p .node) (q .own-link, q .own-spare) (q .runs)
 
 pub running-pairs-read-spec : {M : Type 1} → statement M
 running-pairs-read-spec =
@@ -72,5 +71,5 @@ running-pairs-read-spec =
     running-row-requires
     returns-2
     returns-3
-    spares-fit-requires
+    whole-row-requires-2
     returns-4)
