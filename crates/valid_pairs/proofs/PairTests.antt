@@ -21,7 +21,7 @@ use Rattle.model.proofs.Laws.{and-left, and-right, and-in, or-left, clash, deci
 use Rattle.model.proofs.Lists.{first, rest}
 use Rattle.valid_nodes.specs.Nodes.{keyAt, clockAt}
 use Rattle.valid_rows.specs.Pairs.{linkAt, spareAt, linkReads, spareReads, pairReads, othersRead}
-use Rattle.valid_pairs.specs.Rows.{noLink, noSpare, offDiagonal, apart, linkFits, spareFits, linksFit, noLinks, noSpares, sparesFit}
+use Rattle.valid_pairs.specs.Rows.{noLink, noSpare, offDiagonal, apart, linkFits, linksFit, noLinks, noSpares}
 use Rattle.valid_rows.proofs.PairFormats.{pair-format, spare-format, wrapped, is-wrapped, without-candidate}
 use Rattle.valid_nodes.proofs.Gather.{or-test, all-both, all-cong}
 use Rattle.valid_nodes.proofs.Formats.{of-kind, bit-flag, lowest, mark-above, xor-test, xor-above}
@@ -137,102 +137,13 @@ module _ (clock u : ℕ) (hc : clock < 2 ^ 24) where
 
 -- ---- a spare
 
--- the bits in which p differs from `noSpare`, in two parts
-in-parts : (p : ℕ) → bitXor p noSpare ≡ bitXor (p / 2 ^ 7) 8388608 * 2 ^ 7 + bitXor (p % 2 ^ 7) 64
-in-parts p = ap (λ (v : ℕ). bitXor v noSpare) (sym (div-add-mod' p (2 ^ 7))) ∙ xor-block 7 (p / 2 ^ 7) 8388608 (p % 2 ^ 7) 64 (mod-lt p (lit< tt)) (lit< tt)
-
-low-part : (q : ℕ) → q < 64 → bitXor q 64 ≡ 64 + q
-low-part q h = xor-comm q 64 ∙ xor-shifted 1 6 q h
-
-high-part : (r : ℕ) → r < 64 → bitXor (64 + r) 64 ≡ r
-high-part r h = xor-block 6 1 1 r 0 h (lit< tt) ∙ ap (λ (v : ℕ). 0 + v) (xor-zero-r r) ∙ zero-add r
-
--- what is asked of the spare q of (x, z), held or not
-abbrev spareTests : ℕ → ℕ → ℕ → Bool → ℕ → List Bool
-spareTests n x z held q = (ltb q n || eqb q 64) ∷ not (eqb q x) ∷ not (eqb q z) ∷ (not held ⇒ eqb q 64) ∷ []
-
-module _ (n x z : ℕ) (hn : n ≤ 64) (hx : x < 64) (hz : z < 64) (held : Bool) where
-  a-spare : (q : ℕ) → q < 64 → spareFits n x z held (64 + q) ≡ every (spareTests n x z held q)
-  unfolding spareFits
-  a-spare q h =
-      let a : ltb (64 + q) (64 + n) ≡ ltb q n = same-test (ltb (64 + q) (64 + n)) (ltb q n) (λ e. lt-ltb q n (omega (arith, ltb-true (64 + q) (64 + n) e))) (λ e. lt-ltb (64 + q) (64 + n) (omega (arith, ltb-true q n e))) in
-      rw (ne-eqb (64 + q) 0 (λ e. omega arith), le-leb 64 (64 + q) (omega arith), a, shifted x, shifted z, ne-eqb q 64 (λ e. omega arith))
-      (joins held (ltb q n) (not (eqb q x)) (not (eqb q z)))
-    where
-      shifted : (y : ℕ) → eqb (64 + q) (64 + y) ≡ eqb q y
-      shifted y = same-test (eqb (64 + q) (64 + y)) (eqb q y) (λ e. eq-eqb q y (omega (arith, eqb-true (64 + q) (64 + y) e))) (λ e. eq-eqb (64 + q) (64 + y) (omega (arith, eqb-true q y e)))
-
-      joins : (held a b c : Bool) → (held && true && a && b && c) ≡ every ((a || false) ∷ b ∷ c ∷ (not held ⇒ false) ∷ [])
-      joins true true true true = refl
-      joins true true true false = refl
-      joins true true false c = refl
-      joins true false b c = refl
-      joins false true true true = refl
-      joins false true true false = refl
-      joins false true false c = refl
-      joins false false b c = refl
-
-  no-spare : every (spareTests n x z held 64) ≡ true
-  no-spare = rw (le-ltb 64 n hn, ne-eqb 64 x (λ e. omega arith), ne-eqb 64 z (λ e. omega arith)) (go held)
-    where
-      go : (held : Bool) → every (true ∷ true ∷ true ∷ (not held ⇒ true) ∷ []) ≡ true
-      go true = refl
-      go false = refl
-
-  -- 65 to 127 is none
-  no-node : (r : ℕ) → 0 < r → r < 64 → spareFits n x z held r ≡ every (spareTests n x z held (64 + r))
-  unfolding spareFits
-  no-node r a b = rw (ne-eqb r 0 (λ e. omega arith), lt-leb 64 r b, le-ltb (64 + r) n (omega arith), ne-eqb (64 + r) 64 (λ e. omega arith)) (go held)
-    where
-      go : (held : Bool) → (held && false && ltb r (64 + n) && not (eqb r (64 + x)) && not (eqb r (64 + z))) ≡ false
-      go true = refl
-      go false = refl
-
-  -- unnamed bits, or another kind
-  too-big : (u : ℕ) → 128 ≤ u → spareFits n x z held u ≡ false
-  unfolding spareFits
-  too-big u h = rw (ne-eqb u 0 (λ e. omega arith), le-ltb u (64 + n) (omega arith)) (go held (leb 64 u))
-    where
-      go : (a b : Bool) → (a && b && false && not (eqb u (64 + x)) && not (eqb u (64 + z))) ≡ false
-      go true true = refl
-      go true false = refl
-      go false b = refl
-
-pub spare-fits : (n x z w p : ℕ) → n ≤ 64 → x < 64 → z < 64 → spareFits n x z (flag 24 w) (bitXor p noSpare) ≡ spareReads n x z w p
-unfolding spareFits spareReads
-spare-fits n x z w p hn hx hz = rw (spare-format p, lowest 7 p) (go (p % 2 ^ 7) (mod-lt p (lit< tt)) (in-parts p))
-  where
-    go : (q : ℕ) → q < 128 → bitXor p noSpare ≡ bitXor (p / 2 ^ 7) 8388608 * 2 ^ 7 + bitXor q 64
-        → spareFits n x z (flag 24 w) (bitXor p noSpare) ≡ (eqb (p / 2 ^ 7) 8388608 && every (spareTests n x z (flag 24 w) q))
-    go q hq e =
-        elim (ℕ-discrete (p / 2 ^ 7) 8388608) [
-          | no d ↦
-              let h : 1 ≤ bitXor (p / 2 ^ 7) 8388608 = ne-zero (λ i. d (eqb-true (p / 2 ^ 7) 8388608 (sym (xor-test (p / 2 ^ 7) 8388608) ∙ eq-eqb (bitXor (p / 2 ^ 7) 8388608) 0 i))) in
-              rw (ne-eqb (p / 2 ^ 7) 8388608 d) (too-big n x z hn hx hz (flag 24 w) (bitXor p noSpare) (omega arith))
-          | yes k ↦
-              let b : bitXor p noSpare ≡ bitXor q 64 =
-              e ∙ ap (λ (v : ℕ). v * 2 ^ 7 + bitXor q 64) (ap (λ (v : ℕ). bitXor v 8388608) k ∙ xor-self 8388608) ∙ zero-add (bitXor q 64) in
-              rw (eq-eqb (p / 2 ^ 7) 8388608 k, b)
-              (elim (decLt q 64) [
-                | yes l ↦ rw (low-part q l) (a-spare n x z hn hx hz (flag 24 w) q l)
-                | no m ↦ let i : 64 + (q - 64) ≡ q = omega arith in rw i at (above (q - 64) (omega arith))
-              ])
-        ]
-      where
-        ne-zero : {v : ℕ} → (v ≡ 0 → ⊥) → 1 ≤ v
-        ne-zero f = omega arith
-
-        above : (r : ℕ) → r < 64 → spareFits n x z (flag 24 w) (bitXor (64 + r) 64) ≡ every (spareTests n x z (flag 24 w) (64 + r))
-        above r h =
-            rw (high-part r h)
-            (elim (ℕ-discrete r 0) [
-              | yes i ↦ rw i (sym (no-spare n x z hn hx hz (flag 24 w)))
-              | no d ↦ no-node n x z hn hx hz (flag 24 w) r (omega arith) h
-            ])
-
 pub no-spare-reads : (n x z w : ℕ) → n ≤ 64 → x < 64 → z < 64 → spareReads n x z w noSpare ≡ true
-unfolding spareFits
-no-spare-reads n x z w hn hx hz = sym (spare-fits n x z w noSpare hn hx hz)
+unfolding spareReads
+no-spare-reads n x z w hn hx hz = rw (spare-format noSpare, le-ltb 64 n hn, ne-eqb 64 x (λ e. omega arith), ne-eqb 64 z (λ e. omega arith)) (go (flag 24 w))
+  where
+    go : (held : Bool) → every (true ∷ true ∷ true ∷ true ∷ (not held ⇒ true) ∷ []) ≡ true
+    go true = refl
+    go false = refl
 
 -- ---- a pair without a link and a spare
 
@@ -293,6 +204,10 @@ two-of-three true false = refl
 two-of-three false b = refl
 
 module _ (ws : List ℕ) (n x : ℕ) (hn : n ≤ 64) (hx : x < n) where
+  -- each spare of the row reads
+  abbrev pub sparesRead : Bool
+  sparesRead = all n (λ z. eqb x z || spareReads n x z (linkAt ws x z) (spareAt ws x z))
+
   -- the place of x with itself is 0
   abbrev pub OwnClear : Type 0
   OwnClear = (linkAt ws x x ≡ 0) × (spareAt ws x x ≡ 0)
@@ -318,12 +233,12 @@ module _ (ws : List ℕ) (n x : ℕ) (hn : n ≤ 64) (hx : x < n) where
     spare-own z e = ap (spareAt ws x) (sym (eqb-true x z e)) ∙ own .1
 
     pair-running : flag 24 (keyAt ws x) ≡ true → (z : ℕ) → z < n
-        → (linkFits (bits 0 24 (clockAt ws x)) (apart noLink x z (linkAt ws x z)) && spareFits n x z (flag 24 (linkAt ws x z)) (apart noSpare x z (spareAt ws x z))) ≡ pairReads ws n x z
-    unfolding pairReads spareFits
+        → (linkFits (bits 0 24 (clockAt ws x)) (apart noLink x z (linkAt ws x z)) && (eqb x z || spareReads n x z (linkAt ws x z) (spareAt ws x z))) ≡ pairReads ws n x z
+    unfolding pairReads
     pair-running r z hz =
         decide (eqb x z)
         (λ e. rw (e, link-own z e, spare-own z e, no-link-fits (bits 0 24 (clockAt ws x))))
-        (λ e. rw (e, r, link-fits (bits 0 24 (clockAt ws x)) (linkAt ws x z), spare-fits n x z (linkAt ws x z) (spareAt ws x z) hn (omega arith) (omega arith)) (two-of-three (linkReads (bits 0 24 (clockAt ws x)) (linkAt ws x z)) (spareReads n x z (linkAt ws x z) (spareAt ws x z))))
+        (λ e. rw (e, r, link-fits (bits 0 24 (clockAt ws x)) (linkAt ws x z)) (two-of-three (linkReads (bits 0 24 (clockAt ws x)) (linkAt ws x z)) (spareReads n x z (linkAt ws x z) (spareAt ws x z))))
 
     pair-off : flag 24 (keyAt ws x) ≡ false → (z : ℕ) → z < n
         → (eqb (apart noLink x z (linkAt ws x z)) 0 && eqb (apart noSpare x z (spareAt ws x z)) 0) ≡ pairReads ws n x z
@@ -334,10 +249,10 @@ module _ (ws : List ℕ) (n x : ℕ) (hn : n ≤ 64) (hx : x < n) where
         (λ e. rw (e, r, xor-test (linkAt ws x z) noLink, xor-test (spareAt ws x z) noSpare) (nothing-reads n x z (bits 0 24 (clockAt ws x)) (linkAt ws x z) (spareAt ws x z) hn (omega arith) (omega arith)))
 
     -- a running node's row
-    pub running-reads : flag 24 (keyAt ws x) ≡ true → (linksFit ws n x && sparesFit ws n x) ≡ all n (pairReads ws n x)
+    pub running-reads : flag 24 (keyAt ws x) ≡ true → (linksFit ws n x && sparesRead) ≡ all n (pairReads ws n x)
     running-reads r =
-        all-both (λ z. linkFits (bits 0 24 (clockAt ws x)) (apart noLink x z (linkAt ws x z))) (λ z. spareFits n x z (flag 24 (linkAt ws x z)) (apart noSpare x z (spareAt ws x z))) n
-        ∙ all-cong (λ z. linkFits (bits 0 24 (clockAt ws x)) (apart noLink x z (linkAt ws x z)) && spareFits n x z (flag 24 (linkAt ws x z)) (apart noSpare x z (spareAt ws x z))) (pairReads ws n x) n (pair-running r)
+        all-both (λ z. linkFits (bits 0 24 (clockAt ws x)) (apart noLink x z (linkAt ws x z))) (λ z. eqb x z || spareReads n x z (linkAt ws x z) (spareAt ws x z)) n
+        ∙ all-cong (λ z. linkFits (bits 0 24 (clockAt ws x)) (apart noLink x z (linkAt ws x z)) && (eqb x z || spareReads n x z (linkAt ws x z) (spareAt ws x z))) (pairReads ws n x) n (pair-running r)
 
     -- the same, looked at as a whole
     pub whole-reads : flag 24 (keyAt ws x) ≡ true → all n (othersRead ws n x) ≡ all n (pairReads ws n x)
@@ -377,9 +292,11 @@ module _ (ws : List ℕ) (n x : ℕ) (hn : n ≤ 64) (hx : x < n) where
       late : ℕ → Bool
       late z = eqb (wrapped most (lift (link z)) / 2 ^ 31) 0
 
-  -- where none has a spare, the spares fit
-  pub bare-fits : noSpares ws n x ≡ true → sparesFit ws n x ≡ true
-  unfolding spareFits
-  bare-fits t =
-      all-in n (λ z. spareFits n x z (flag 24 (linkAt ws x z)) (apart noSpare x z (spareAt ws x z)))
-      (λ z h. or-left _ (all-out n (λ z. eqb (apart noSpare x z (spareAt ws x z)) 0) t z h))
+  -- where none has a spare, the spares read
+  pub bare-reads : noSpares ws n x ≡ true → sparesRead ≡ true
+  bare-reads t =
+      all-in n (λ z. eqb x z || spareReads n x z (linkAt ws x z) (spareAt ws x z))
+      (λ z h. decide (eqb x z) (λ e. or-left _ e) (λ e.
+      let none : spareAt ws x z ≡ noSpare =
+      eqb-true (spareAt ws x z) noSpare (sym (xor-test (spareAt ws x z) noSpare) ∙ (rw e at (all-out n (λ z. eqb (apart noSpare x z (spareAt ws x z)) 0) t z h))) in
+      rw (e, none) (no-spare-reads n x z (linkAt ws x z) hn (omega arith) (omega arith))))

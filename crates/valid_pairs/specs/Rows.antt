@@ -1,7 +1,7 @@
 -- What the code tests of a row of pairs: each word without the bits that it must have.
 use mathlib.Core.Path.{_≡_}
 use Prim.Native.Nat.{ℕ, _+_, _/_, _^_, _≤_, _<_}
-use mathlib.Core.Bool.{Bool, true, not, _&&_, _||_}
+use mathlib.Core.Bool.{Bool, true}
 use mathlib.Core.List.{List, [], _∷_}
 use lib.Bits.{bitXor}
 use lib.Dec.{ltb, leb, eqb}
@@ -51,12 +51,6 @@ linkFits clock u =
     ∷ leb (bits 0 24 u) clock
     ∷ [])
 
--- u is what the second word of (x, z), held or not, of n nodes may have beyond `noSpare`: nothing, or bit 6 and a spare
-unfoldable pub spareFits : ℕ → ℕ → ℕ → Bool → ℕ → Bool
-spareFits n x z held u =
-    eqb u 0
-    || (held && leb 64 u && ltb u (64 + n) && not (eqb u (64 + x)) && not (eqb u (64 + z)))
-
 module _ (ws : List ℕ) (n x : ℕ) where
   -- each link of the row fits
   abbrev pub linksFit : Bool
@@ -69,7 +63,3 @@ module _ (ws : List ℕ) (n x : ℕ) where
   -- no pair of the row has a spare
   abbrev pub noSpares : Bool
   noSpares = all n (λ z. eqb (apart noSpare x z (spareAt ws x z)) 0)
-
-  -- each spare of the row fits
-  abbrev pub sparesFit : Bool
-  sparesFit = all n (λ z. spareFits n x z (flag 24 (linkAt ws x z)) (apart noSpare x z (spareAt ws x z)))

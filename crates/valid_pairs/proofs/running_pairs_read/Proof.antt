@@ -2,8 +2,8 @@ use mathlib.Core.Path.{_≡_, sym, _∙_}
 use mathlib.Core.Bool.{true, false}
 use denote.Ref.{now}
 use borrow.Author.Tests.{not-true, not-false}
-use Rattle.valid_pairs.specs.Rows.{linksFit, sparesFit}
-use Rattle.valid_pairs.proofs.PairTests.{running-reads, whole-reads, bare-fits}
+use Rattle.valid_pairs.specs.Rows.{linksFit}
+use Rattle.valid_pairs.proofs.PairTests.{sparesRead, running-reads, whole-reads, bare-reads}
 use borrow.Author.Needs.{needs}
 use Rattle.valid_pairs.proofs.running_pairs_read.Statement.{statement}
 use Rattle.valid_pairs.proofs.running_pairs_read.Tie as tie
@@ -46,7 +46,7 @@ returns-3 c =
     let q = start .pre .1 in
     let e = not-false (c .before .before .before .running-row .result .fits) (c .before .if2 .left) in
     let f : linksFit ws n x ≡ true = sym (c .before .before .before .running-row .ensures .0) ∙ e in
-    let g : sparesFit ws n x ≡ true = bare-fits ws n x (p .few) (p .node) (sym (c .before .before .before .running-row .ensures .1) ∙ c .if3 .taken) in
+    let g : sparesRead ws n x (p .few) (p .node) ≡ true = bare-reads ws n x (p .few) (p .node) (sym (c .before .before .before .running-row .ensures .1) ∙ c .if3 .taken) in
     e ∙ (rw (f, g) at (running-reads ws n x (p .few) (p .node) (q .own-link, q .own-spare) (q .runs)))
 
 whole-row-requires-2 : tie.Need-whole-row-requires-2
