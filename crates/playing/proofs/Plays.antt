@@ -115,7 +115,7 @@ module _ {ws script : List ℕ} {k : ℕ} {ws' out out' : List ℕ} {at end : �
   unfolding eventLines playAll linesBytes
   more-played {w} {after} {n} {ws''} {out''} {end'} t e q =
       let rest : drop at script ≡ w ∷ drop after script =
-          drop-cons script at 0 (t .below) ∙ ap (λ (v : ℕ). v ∷ drop (suc at) script) (sym (t .word)) ∙ ap (λ (j : ℕ). w ∷ drop j script) (sym (add-one at) ∙ sym (t .next)) in
+      drop-cons script at 0 (t .below) ∙ ap (λ (v : ℕ). v ∷ drop (suc at) script) (sym (t .word)) ∙ ap (λ (j : ℕ). w ∷ drop j script) (sym (add-one at) ∙ sym (t .next)) in
       let number : n ≡ k + at + 1 = omega (arith, t .next) in
       let later : k + after + 1 ≡ k + at + 1 + 1 = omega (arith, t .next) in
       record {

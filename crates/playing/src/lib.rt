@@ -15,7 +15,13 @@ fn play_word(words: &mut [u32], word: u32, number: u64, out: &mut [u8], at: usiz
     ensures { λ r. ⌜ OnePlayed (now (words .entry)) word number (now (words .exit)) (now (out .entry)) (now (out .exit)) at r ⌝ }
 {
     let answer = play::play(words, word);
-    lines::put_three(out, at, number, answer.number() as u64, head::messages(words) as u64)
+    lines::put_three(
+        out,
+        at,
+        number,
+        answer.number() as u64,
+        head::messages(words) as u64,
+    )
 }
 
 // Plays each word of the script on what the one before left, `count` events having been played before, and puts the

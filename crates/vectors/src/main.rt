@@ -69,7 +69,14 @@ fn run(name: &[u8]) -> bool
     let mut room = [0u8; Session::ROOM];
     let script = open(name, b".bin");
     let expected = open(name, b".out");
-    let same = compare(script, expected, &mut words, &mut bytes, &mut out, &mut room);
+    let same = compare(
+        script,
+        expected,
+        &mut words,
+        &mut bytes,
+        &mut out,
+        &mut room,
+    );
     libc::close(script);
     libc::close(expected);
     same

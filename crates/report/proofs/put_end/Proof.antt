@@ -22,8 +22,7 @@ put-groups-requires c κs =
 returns : tie.Need-returns
 returns c =
     let start = c .before .before .before .before .before .before .before .before .before .before .before .before in
-    let h = few _ (start .pre .0) in
-    (
+    let h = few _ (start .pre .0) in (
       put-as (put-more (c .before .before .before .before .before .before .before .put-nodes .ensures .0) (c .before .before .put-groups .ensures .0)) (end-of-ring _ (start .pre .0) (c .before .before .before .before .before .before .before .before .before .nodes .ensures .0) (c .before .before .before .before .groups .ensures .1)),
       search needs,
     )

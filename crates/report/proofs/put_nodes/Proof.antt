@@ -23,7 +23,7 @@ loop-holds : tie.Need-loop-holds Inv-loop μ-loop
 loop-holds c = (search needs, search needs, no-lines _ _ _)
 
 put-node-requires : tie.Need-put-node-requires Inv-loop μ-loop
-put-node-requires c κs = 
+put-node-requires c κs =
     let e = c .before .before .loop .inv .2 .long in
     search needs
 
