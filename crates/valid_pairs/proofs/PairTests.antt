@@ -6,10 +6,10 @@ use native.Mathlib.Omega.{arith}
 use native.Mathlib.Decide.{decLt, ℕ-discrete}
 use mathlib.Core.Bool.{Bool, true, false, not, _&&_, _||_}
 use mathlib.Core.List.{List, [], _∷_}
-use lib.Arith.{mod-mul, digits-mod}
+use lib.Arith.{mod-mul}
 use lib.ListN.{getD, replicate, length-replicate, getD-replicate}
 use lib.Seq.{getD-set-same, getD-set-other}
-use lib.Bits.{bitOr, bitXor, bitAnd, xor-shr, xor-mod, xor-zero-r, xor-self, xor-comm, xor-shifted, xor-block, and-block, and-mask}
+use lib.Bits.{bitOr, bitXor, xor-shr, xor-mod, xor-zero-r, xor-self, xor-comm, xor-shifted, xor-block}
 use lib.Dec.{ltb, leb, eqb, lit<}
 use borrow.Author.Tests.{eqb-true, eqb-false, eq-eqb, ne-eqb, ltb-true, lt-ltb, le-ltb, leb-true, le-leb, lt-leb}
 use Rattle.model.specs.Choice.{if_then_else_, _⇒_, every}
@@ -22,9 +22,9 @@ use Rattle.model.proofs.Lists.{first, rest}
 use Rattle.valid_nodes.specs.Nodes.{keyAt, clockAt}
 use Rattle.valid_rows.specs.Pairs.{linkAt, spareAt, linkReads, spareReads, pairReads, othersRead}
 use Rattle.valid_pairs.specs.Rows.{noLink, noSpare, offDiagonal, apart, linkFits, linksFit, noLinks, noSpares}
-use Rattle.valid_rows.proofs.PairFormats.{pair-format, spare-format, wrapped, is-wrapped, without-candidate}
+use Rattle.valid_rows.proofs.PairFormats.{pair-format, spare-format, wrapped}
 use Rattle.valid_nodes.proofs.Gather.{or-test, all-both, all-cong}
-use Rattle.valid_nodes.proofs.Formats.{of-kind, bit-flag, lowest, mark-above, xor-test, xor-above}
+use Rattle.valid_nodes.proofs.Formats.{lowest, xor-test, xor-above}
 
 -- ---- a link
 

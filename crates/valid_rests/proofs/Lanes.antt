@@ -1,19 +1,19 @@
 -- The three words of a view under masks, as numbers: within the nodes, and without the receiver's bit.
-use mathlib.Core.Path.{_≡_, refl, sym, ap, ap₂, _∙_}
+use mathlib.Core.Path.{_≡_, refl, sym, ap, _∙_}
 use Prim.Native.Nat.{ℕ, zero, suc, _+_, _-_, _*_, _/_, _%_, _^_, _≤_, _<_}
 use native.Mathlib.Nat.{div-eq-of-lt, pow-le-pow-right, mod-lt, mod-eq-of-lt, suc-mul}
 use native.Mathlib.Omega.{arith}
 use native.Mathlib.Decide.{decLt}
-use mathlib.Core.Bool.{Bool, true, false, not, _&&_, _||_}
+use mathlib.Core.Bool.{Bool, true, false, not, _&&_}
 use lib.Arith.{digits-mod}
 use lib.Pow.{pow-pos, pow-add, split, shr-shr, field, mod-mod-pow, shr-mod}
-use lib.Bits.{bitOr, bitXor, bitAnd, and-high, and-zero-r}
+use lib.Bits.{bitAnd, and-high, and-zero-r}
 use lib.Dec.{ltb, leb, eqb, lit<}
 use borrow.Author.Tests.{eqb-true, eq-eqb, ne-eqb, lt-ltb, ltb-true, leb-true, le-leb, lt-leb}
 use Rattle.model.specs.Choice.{if_then_else_}
 use Rattle.model.specs.Sets.{ofBits}
-use Rattle.model.proofs.Laws.{same-test, and-left, and-right, and-in, decide}
-use Rattle.valid_rests.specs.Masks.{part, room, above, receiverBit}
+use Rattle.model.proofs.Laws.{same-test, and-left, and-right, and-in}
+use Rattle.valid_rests.specs.Masks.{part, above, receiverBit}
 
 -- ---- masks
 

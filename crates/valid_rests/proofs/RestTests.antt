@@ -18,7 +18,7 @@ use Rattle.model.specs.Leafset.{Table, size}
 use Rattle.model.specs.Words.{at, messagePlace, decodeMessage, usesStamp, usesView}
 use Rattle.model.proofs.Laws.{same-test, is-false, and-left, and-right, between-low, between-high, if-law}
 use Rattle.valid_nodes.proofs.Formats.{lowest, xor-test, xor-above}
-use Rattle.valid_rests.proofs.Lanes.{none-above, above-test, number, inFormat, limited, short, without-receiver}
+use Rattle.valid_rests.proofs.Lanes.{none-above, above-test, number, limited, short, without-receiver}
 use Rattle.valid_rests.proofs.Views.{second-kept, low-kept, middle-kept, high-kept, view-test}
 use Rattle.valid_rests.specs.Rests.{stampFits, restReads}
 use Rattle.model.specs.Choice.{if_then_else_, every}

@@ -1,7 +1,7 @@
 -- What the code tests of a rest: word i of it, without the bits of an empty one, under two masks.
 use mathlib.Core.Path.{_≡_}
 use Prim.Native.Nat.{ℕ, zero, suc, _+_, _-_, _*_, _/_, _%_, _^_, _<_}
-use mathlib.Core.Bool.{Bool, not, _&&_}
+use mathlib.Core.Bool.{Bool, _&&_}
 use mathlib.Core.List.{List}
 use lib.Bits.{bitOr, bitXor, bitAnd}
 use lib.Dec.{leb, eqb}

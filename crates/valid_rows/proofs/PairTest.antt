@@ -1,6 +1,6 @@
 -- The two words of a pair at once: what the code tests is what `linkReads` and `spareReads` ask.
-use mathlib.Core.Path.{_≡_, refl, sym, ap, ap₂, _∙_}
-use Prim.Native.Nat.{ℕ, zero, suc, _+_, _-_, _*_, _/_, _%_, _^_, _≤_, _<_, zero-le}
+use mathlib.Core.Path.{_≡_, refl, sym, ap, _∙_}
+use Prim.Native.Nat.{ℕ, zero, suc, _+_, _-_, _*_, _/_, _%_, _^_, _≤_, _<_}
 use native.Mathlib.Numerals.{add-one}
 use native.Mathlib.Nat.{le-refl, zero-add, mod-lt, mod-eq-of-lt, div-add-mod'}
 use native.Mathlib.Omega.{arith}
@@ -16,7 +16,7 @@ use Rattle.model.specs.Sets.{Set, count, all, without}
 use Rattle.model.specs.Fields.{bits, flag}
 use Rattle.model.specs.Words.{pairWord}
 use Rattle.model.specs.WellFormed.{nil, cons}
-use Rattle.model.proofs.Laws.{and-left, and-right, and-in, decide, is-false, same-test, every-in, every-out, all-in, all-out, count-le, count-cong, count-more}
+use Rattle.model.proofs.Laws.{decide, is-false, same-test, every-in, every-out, all-in, all-out, count-le, count-cong, count-more}
 use Rattle.sets.proofs.Members.{count-without}
 use Rattle.model.proofs.Lists.{first, rest}
 use Rattle.valid_nodes.proofs.Formats.{lowest, xor-test}

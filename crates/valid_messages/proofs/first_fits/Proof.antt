@@ -1,5 +1,5 @@
 -- `valid_messages::first_fits` meets its contract.
-use Prim.Native.Nat.{_/_, _%_, _^_}
+use Prim.Native.Nat.{_%_}
 use native.Mathlib.Nat.{div-one}
 use lib.ListN.{getD}
 use borrow.Author.Needs.{needs}

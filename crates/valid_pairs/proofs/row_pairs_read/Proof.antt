@@ -1,4 +1,4 @@
-use mathlib.Core.Path.{_≡_, sym, _∙_}
+use mathlib.Core.Path.{sym, _∙_}
 use lib.Bits.{bitOr}
 use lib.Dec.{eqb}
 use denote.Ref.{now}

@@ -1,11 +1,7 @@
-use mathlib.Core.Path.{_≡_, refl, ap, ap₂, _∙_}
-use mathlib.Core.Bool.{_&&_}
+use mathlib.Core.Path.{_≡_}
 use Prim.Native.Nat.{_-_, _≤_, zero-le}
 use native.Mathlib.Omega.{arith}
-use lib.Dec.{eqb}
 use borrow.Author.Needs.{needs}
-use Rattle.model.specs.Sets.{all}
-use Rattle.valid_nodes.proofs.Gather.{or-more}
 use Rattle.valid_rests.specs.Masks.{wrong}
 use Rattle.valid_rests.proofs.RestTests.{Met, none-met, more-met, met-joined}
 use Rattle.valid_rests.proofs.nothing_wrong.Statement.{statement}
