@@ -8,7 +8,6 @@ use native.Mathlib.Nat.{le-refl}
 use native.Mathlib.Omega.{arith}
 use lib.Dec.{ltb}
 use borrow.Author.Tests.{ltb-false}
-use Rattle.model.specs.Choice.{if_then_else_}
 use Rattle.model.specs.Answers.{Refusal, firstOf, isAccepted}
 use Rattle.model.specs.Words.{decode, readsAsRing}
 use Rattle.model.specs.Buffer.{wrongLength, notARing}

@@ -13,8 +13,7 @@ use Rattle.model.specs.Connection.{connected, groups}
 use Rattle.model.specs.Answers.{firstOf, isAccepted}
 use Rattle.model.specs.Words.{decodeTable, decodeNode, decode, readsAsRing}
 use Rattle.model.specs.WellFormed.{Each, nil, cons}
-use Rattle.model.specs.Buffer.{wrongLength, notARing}
-use Rattle.model.specs.Play.{noNode, nodeOff}
+use Rattle.model.specs.Play.{nodeOff}
 use Rattle.model.specs.Questions.{leafsetAnswer, leafsetOf, connectionRefusals, connectionAnswer, connectionOf, groupsRefusals, groupsAnswer, groupsOf}
 use Rattle.model.specs.declared.answer.Answer.{Answer}
 use Rattle.model.specs.declared.answer.Answer.the-variants.{Accepted, NodeOff}

@@ -1,6 +1,6 @@
 // A span of a ring's words, moved or cleared.
 ghost use mathlib.Core.Path.{_≡_};
-ghost use Prim.Native.Nat.{ℕ, _+_, _≤_};
+ghost use Prim.Native.Nat.{_+_, _≤_};
 ghost use lib.ListN.{length, getD};
 ghost use Rattle.model.specs.Words.{ringLength};
 ghost use Rattle.spans.specs.Spans.{Patched};

@@ -1,7 +1,7 @@
 -- The tests of a row of pairs: what the code tests of each word is what the regions ask of it.
 use mathlib.Core.Path.{_≡_, refl, sym, ap, ap₂, _∙_}
 use Prim.Native.Nat.{ℕ, _+_, _-_, _*_, _/_, _%_, _^_, _≤_, _<_, zero-le}
-use native.Mathlib.Nat.{zero-add, mod-lt, mod-eq-of-lt, div-add-mod'}
+use native.Mathlib.Nat.{mod-lt, mod-eq-of-lt, div-add-mod'}
 use native.Mathlib.Omega.{arith}
 use native.Mathlib.Decide.{decLt, ℕ-discrete}
 use mathlib.Core.Bool.{Bool, true, false, not, _&&_, _||_}
@@ -9,9 +9,9 @@ use mathlib.Core.List.{List, [], _∷_}
 use lib.Arith.{mod-mul}
 use lib.ListN.{getD, replicate, length-replicate, getD-replicate}
 use lib.Seq.{getD-set-same, getD-set-other}
-use lib.Bits.{bitOr, bitXor, xor-shr, xor-mod, xor-zero-r, xor-self, xor-comm, xor-shifted, xor-block}
+use lib.Bits.{bitOr, bitXor, xor-shr, xor-mod, xor-zero-r}
 use lib.Dec.{ltb, leb, eqb, lit<}
-use borrow.Author.Tests.{eqb-true, eqb-false, eq-eqb, ne-eqb, ltb-true, lt-ltb, le-ltb, leb-true, le-leb, lt-leb}
+use borrow.Author.Tests.{eqb-true, eqb-false, eq-eqb, ne-eqb, ltb-true, lt-ltb, le-ltb, leb-true, le-leb}
 use Rattle.model.specs.Choice.{if_then_else_, _⇒_, every}
 use Rattle.model.specs.Sets.{all}
 use Rattle.model.specs.Fields.{bits, bit, flag}

@@ -1,7 +1,7 @@
 // Whether the words of the pairs read, row by row.
 ghost use mathlib.Core.Path.{_≡_};
 ghost use mathlib.Core.Bool.{_&&_};
-ghost use Prim.Native.Nat.{_+_, _*_, _/_, _%_, _^_, _≤_, _<_};
+ghost use Prim.Native.Nat.{_+_, _*_, _/_, _%_, _^_, _≤_};
 ghost use lib.ListN.{length};
 ghost use Rattle.model.specs.Sets.{all};
 ghost use Rattle.valid_rows.specs.Pairs.{pairReads, rowReads, pairsRead};

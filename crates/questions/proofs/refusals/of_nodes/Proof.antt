@@ -1,5 +1,3 @@
-use mathlib.Core.List.{List}
-use Prim.Native.Nat.{ℕ}
 use borrow.Author.Needs.{needs}
 use Rattle.answers.proofs.Answered.{asked-refused, asked-accepted}
 use Rattle.questions.proofs.Asked.{refused-words, groups-reads, after-words}
