@@ -142,7 +142,7 @@ module _ (k : ℕ) (r : Ring) (chunk : List ℕ) {script : List ℕ} {already : 
 
 -- a chunk has at most 1,024 events
 
-few-words : (l : List ℕ) → 4 * length (littleEndian l) ≤ length l
+pub few-words : (l : List ℕ) → 4 * length (littleEndian l) ≤ length l
 unfolding littleEndian
 few-words [] = omega arith
 few-words (a ∷ []) = omega arith
