@@ -29,7 +29,7 @@ use Rattle.model.specs.declared.event.Event.the-variants.{On, Off, Notice, Cont
 use Rattle.model.proofs.Laws.{decide, if-law, same-test, all-in, all-out}
 use Rattle.model.proofs.Answers.{accepted-is}
 use Rattle.beginning.proofs.Begins.{enough-words}
-use Rattle.session.specs.Turns.{Turn, chunkSize, tailLines, endOf, playedTurn, firstTurn, turn}
+use Rattle.turns.specs.Turns.{Turn, chunkSize, tailLines, endOf, playedTurn, firstTurn, wordsTurn}
 use Rattle.session.specs.Whole.{Cut, turnsBytes, printedBytes}
 use Rattle.session.specs.Whole as whole-session
 use Rattle.session.proofs.Sessions.{few-words}
@@ -85,7 +85,7 @@ joined k r ws vs a b e =
     (simp append-assoc))
 
 pub after-opening : {bytes : List ℕ} {cs : List (List ℕ)} → Cut bytes cs → (k : ℕ) (r : Ring) → turnsBytes true k r cs ≡ whole k r (littleEndian bytes) (length bytes)
-unfolding turnsBytes turn playedTurn endOf whole
+unfolding turnsBytes wordsTurn playedTurn endOf whole
 after-opening (whole-session.last {c} h) k r = rw (ne-eqb (length c) chunkSize (λ e. omega arith)) (append-nil _)
 after-opening (whole-session.full {c} {d} {cs} h q) k r =
     let ws : List ℕ = littleEndian c in
@@ -144,7 +144,7 @@ many-words (a ∷ b ∷ c ∷ []) = omega arith
 many-words (a ∷ b ∷ c ∷ d ∷ l) = let h = many-words l in omega arith
 
 turns-open : {bytes : List ℕ} {cs : List (List ℕ)} → Cut bytes cs → (r : Ring) → turnsBytes false 0 r cs ≡ opening (littleEndian bytes) (length bytes)
-unfolding turnsBytes turn firstTurn playedTurn endOf opening whole
+unfolding turnsBytes wordsTurn firstTurn playedTurn endOf opening whole
 turns-open (whole-session.last {c} h) r = decide (isAccepted (scriptAnswer (littleEndian c))) accepted (λ e. rw e (append-nil _))
   where
     accepted : isAccepted (scriptAnswer (littleEndian c)) ≡ true → turnsBytes false 0 r (c ∷ []) ≡ opening (littleEndian c) (length c)

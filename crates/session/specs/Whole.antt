@@ -9,7 +9,7 @@ use Rattle.model.specs.Choice.{if_then_else_}
 use Rattle.model.specs.Ring.{Ring}
 use Rattle.model.specs.Bench.{Printed}
 use Rattle.report.specs.Report.{groupsBytes}
-use Rattle.session.specs.Turns.{Turn, chunkSize, turn}
+use Rattle.turns.specs.Turns.{Turn, chunkSize, turn}
 
 -- a script in chunks, as they are read: each is full but the last
 pub data Cut : List ℕ → List (List ℕ) → Type 0 where
