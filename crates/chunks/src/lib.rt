@@ -3,8 +3,8 @@ ghost use mathlib.Core.Path.{_≡_};
 ghost use Prim.Native.Nat.{ℕ, _+_, _^_, _≤_};
 ghost use lib.ListN.{length};
 ghost use Rattle.io.specs.Counts.{Counts};
-ghost use Rattle.session.specs.Turns.{Ready};
-use session::Session;
+ghost use Rattle.turns.specs.Turns.{Ready};
+use turns::Session;
 
 // Reads the next chunk and plays it. What it prints is at the start of `out`.
 pub fn play_next(

@@ -1,11 +1,11 @@
 -- Bytes put one after the other.
 use mathlib.Core.Path.{_≡_, refl, sym, ap, _∙_}
 use mathlib.Core.List.{List, [], _∷_, _++_, append-assoc, append-nil}
-use Prim.Native.Nat.{ℕ, suc, _+_, _≤_, _<_}
+use Prim.Native.Nat.{ℕ, _+_, _≤_, _<_}
 use native.Mathlib.Numerals.{add-one}
 use native.Mathlib.Omega.{arith}
 use lib.ListN.{length, getD, take, set, length-append, length-take, length-set}
-use lib.Seq.{take-suc-set, take-all, paste, paste-zero, paste-suc, take-paste, length-paste}
+use lib.Seq.{take-suc-set, take-all, paste, paste-zero, paste-suc, take-paste}
 use Rattle.lines.specs.Put.{Put}
 
 pub put-none : (l : List ℕ) (at : ℕ) → Put l l at at []

@@ -1,6 +1,6 @@
 -- Words played one after the other, each with its line.
 use mathlib.Core.Path.{_≡_, refl, sym, ap, _∙_}
-use mathlib.Core.Bool.{Bool, true, false, cond}
+use mathlib.Core.Bool.{true, false}
 use mathlib.Core.List.{List, [], _∷_, _++_, append-assoc, append-nil}
 use Prim.Native.Nat.{ℕ, suc, _+_, _*_, _≤_, _<_}
 use native.Mathlib.Numerals.{add-one}
@@ -16,18 +16,17 @@ use Rattle.model.specs.Ring.{Ring}
 use Rattle.model.specs.WellFormed.{WellFormed}
 use Rattle.model.specs.Answers.{numberOf}
 use Rattle.model.specs.Words.{decode, readsAsRing}
-use Rattle.model.specs.Play.{Played, playWord, playAll}
+use Rattle.model.specs.Play.{playWord, playAll}
 use Rattle.model.specs.Buffer.{Written, playBuffer}
-use Rattle.model.specs.Bench.{Line, eventLines}
+use Rattle.model.specs.Bench.{eventLines}
 use Rattle.model.specs.declared.answer.Answer.{Answer}
 use Rattle.model.proofs.Laws.{decide}
-use Rattle.model.proofs.Words.{decoded-back, reads-out}
+use Rattle.model.proofs.Words.{decoded-back}
 use Rattle.model.proofs.Decoded.{reads-well}
 use Rattle.model.proofs.RoundTrip.{round-trip}
 use Rattle.model.proofs.WellFormedPlay.{word-well}
 use Rattle.model.proofs.Follows as model
-use Rattle.script.specs.Position.{nextAt, afterAt, readAt}
-use Rattle.script.specs.declared.Next.{Next}
+use Rattle.script.specs.Position.{readAt}
 use Rattle.script.specs.declared.Next.the-variants.{Word, End}
 use Rattle.script.specs.declared.Reading.{Reading}
 use Rattle.playing.specs.Playing.{OnePlayed, AllPlayed}

@@ -8,7 +8,7 @@ use Rattle.lines.specs.Decimal.{lineBytes, linesBytes}
 use Rattle.lines.specs.Put.{Put}
 use Rattle.model.specs.Answers.{numberOf}
 use Rattle.model.specs.Words.{decode, readsAsRing}
-use Rattle.model.specs.Play.{Played, playWord, playAll}
+use Rattle.model.specs.Play.{playWord, playAll}
 use Rattle.model.specs.Bench.{eventLines}
 
 -- one word, event k

@@ -15,7 +15,7 @@ use Rattle.lines.proofs.Decimals.{spaced-append, lines-append, one-line}
 use Rattle.lines.proofs.Puts.{put-none, put-more, put-as}
 use Rattle.model.specs.Sets.{Set, ofBits, count, members, lowest, tabulateFrom, tabulate}
 use Rattle.model.specs.Leafset.{Table, size, key}
-use Rattle.model.specs.Ring.{Own, Ring, holds}
+use Rattle.model.specs.Ring.{Own}
 use Rattle.model.specs.Words.{isPair, pairPlace, decodeTable, decodeOwn, decodeNode, decode, ringLength, readsAsRing}
 use Rattle.model.specs.Fields.{bit, flag}
 use Rattle.model.specs.Answers.{firstOf}

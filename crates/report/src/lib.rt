@@ -1,10 +1,10 @@
 // What the bench prints of a ring at the end: a line for each node, and the number of groups.
 ghost use mathlib.Core.Path.{_≡_};
 ghost use mathlib.Core.Bool.{true};
-ghost use mathlib.Core.List.{_∷_, _++_};
-ghost use Prim.Native.Nat.{_+_, _*_, _^_, _<_, _≤_};
+ghost use mathlib.Core.List.{_∷_};
+ghost use Prim.Native.Nat.{_+_, _*_, _<_, _≤_};
 ghost use lib.ListN.{length};
-ghost use Rattle.lines.specs.Decimal.{decimal, spaced, lineBytes, linesBytes};
+ghost use Rattle.lines.specs.Decimal.{spaced, lineBytes, linesBytes};
 ghost use Rattle.lines.specs.Put.{Put};
 ghost use Rattle.model.specs.Sets.{ofBits, count, members, tabulate};
 ghost use Rattle.model.specs.Leafset.{size};

@@ -1,7 +1,7 @@
 // Loading the words of a script from its bytes.
 ghost use mathlib.Core.Path.{_≡_};
 ghost use Prim.Native.Nat.{_+_, _*_, _^_, _<_, _≤_};
-ghost use lib.ListN.{length, getD};
+ghost use lib.ListN.{length};
 ghost use Rattle.script.specs.Loaded.{Loaded, wordOf};
 
 // Puts the words of the bytes, four each, lowest first, at the start of `words`, and answers how many there are. A tail

@@ -1,2 +1,2 @@
 pub mod Sessions
-pub mod Whole
+pub mod Joined

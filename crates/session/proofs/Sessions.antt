@@ -1,17 +1,14 @@
--- A chunk of a session, part by part.
+-- A chunk of a session.
 use mathlib.Core.Path.{_≡_, refl, sym, ap, _∙_}
 use mathlib.Core.Bool.{Bool, true, false}
-use mathlib.Core.List.{List, [], _∷_, _++_}
-use Prim.Native.Nat.{ℕ, _+_, _-_, _*_, _%_, _≤_, _<_}
+use mathlib.Core.List.{List, [], _∷_}
+use Prim.Native.Nat.{ℕ, _+_, _-_, _*_, _≤_}
 use native.Mathlib.Omega.{arith}
 use borrow.Author.Tests.{eq-eqb, ne-eqb}
-use lib.Dec.{eqb}
 use lib.ListN.{length, take, drop, length-drop}
 use lib.Seq.{take-all}
-use Rattle.lines.specs.Decimal.{lineBytes, linesBytes}
+use Rattle.lines.specs.Decimal.{lineBytes}
 use Rattle.lines.specs.Put.{Put}
-use Rattle.lines.proofs.Decimals.{one-line}
-use Rattle.lines.proofs.Puts.{put-none, put-more, put-as}
 use Rattle.model.specs.Choice.{if_then_else_}
 use Rattle.model.specs.Leafset.{size}
 use Rattle.model.specs.Ring.{Ring, initial}
@@ -20,57 +17,14 @@ use Rattle.model.specs.Words.{ringLength, encode, decodeTable, decode, readsAsR
 use Rattle.model.specs.Buffer.{Written}
 use Rattle.model.specs.Bench.{littleEndian, scriptTable, scriptAnswer}
 use Rattle.model.specs.declared.answer.Answer.{Answer}
-use Rattle.model.specs.declared.answer.Answer.the-variants.{Accepted, NotAnEvent}
+use Rattle.model.specs.declared.answer.Answer.the-variants.{Accepted}
 use Rattle.model.proofs.Laws.{clash}
 use Rattle.model.proofs.Answers.{accepted-is}
 use Rattle.answers.specs.Applied.{written}
 use Rattle.beginning.specs.Beginning.{openScript}
 use Rattle.beginning.proofs.Begins.{enough-words, initial-reads, initial-back}
-use Rattle.report.specs.Report.{endBytes}
-use Rattle.model.proofs.Words.{reads-out}
-use Rattle.playing.specs.Playing.{AllPlayed}
-use Rattle.session.specs.Turns.{Turn, Ready, chunkSize, tailLines, endOf, playedTurn, firstTurn, turn, Stepped}
-use Rattle.session.specs.declared.Session.{Session}
-
--- ---- the tail
-
-module _ (k : ℕ) (r : Ring) (bytes : ℕ) where
-  pub no-tail : (out : List ℕ) (at : ℕ) → bytes % 4 ≡ 0 → Put out out at at (linesBytes (tailLines k r bytes))
-  unfolding tailLines linesBytes
-  no-tail out at e = rw (eq-eqb (bytes % 4) 0 e) (put-none out at)
-
-  pub tail-line : {n m : ℕ} → (bytes % 4 ≡ 0 → ⊥) → n ≡ numberOf NotAnEvent → m ≡ length (r .messages) → lineBytes ((k + 1) ∷ n ∷ m ∷ []) ≡ linesBytes (tailLines k r bytes)
-  unfolding tailLines
-  tail-line d e f = rw (ne-eqb (bytes % 4) 0 d, e, f) (sym (one-line _))
-
--- ---- the end
-
-pub not-yet : {more : Bool} (r : Ring) (out : List ℕ) (at : ℕ) → more ≡ true → Put out out at at (endOf more r)
-unfolding endOf
-not-yet r out at e = rw e (put-none out at)
-
-pub at-end : {more : Bool} (r : Ring) → more ≡ false → endBytes r ≡ endOf more r
-unfolding endOf
-at-end r e = rw e
-
--- ---- the events of a chunk
-
-pub turn-played : (bytes : ℕ) {ws script ws' out out₁ out₂ out' : List ℕ} {k at mid end : ℕ} {s : Session} → AllPlayed ws script k ws' out out₁ at
-    → Put out₁ out₂ at mid (linesBytes (tailLines (k + length script) (decode ws') bytes))
-    → Put out₂ out' mid end (endOf (eqb bytes chunkSize) (decode ws'))
-    → s ≡ record { more = eqb bytes chunkSize; opened = true; count = k + length script; end = end }
-    → Stepped (playedTurn k (decode ws) script bytes) ws' out out' s
-unfolding playedTurn
-turn-played bytes p q r e =
-    record {
-      more = ap (λ (x : Session). x .more) e;
-      opened = ap (λ (x : Session). x .opened) e;
-      count = ap (λ (x : Session). x .count) e;
-      put = rw (ap (λ (x : Session). x .end) e) (put-more (put-more (p .put) (rw (p .ring) at q)) (rw (p .ring) at r));
-      long = reads-out _ (p .reads) .long;
-      reads = λ h. p .reads;
-      ring = λ h. p .ring;
-    }
+use Rattle.turns.specs.Turns.{Turn, Ready, chunkSize, playedTurn, firstTurn, wordsTurn, turn, Stepped}
+use Rattle.turns.specs.declared.Session.{Session}
 
 -- ---- the first chunk
 
@@ -131,18 +85,22 @@ module _ {ws script : List ℕ} (o : Opened ws script) where
 
 -- ---- any chunk
 
-module _ (k : ℕ) (r : Ring) (chunk : List ℕ) {script : List ℕ} {already : Bool} (loaded : script ≡ littleEndian chunk) {ws out out' : List ℕ} {s : Session} where
-  pub turn-more : already ≡ true → Stepped (playedTurn k r script (length chunk)) ws out out' s → Stepped (turn already k r chunk) ws out out' s
-  unfolding turn
-  turn-more e p = rw e (rw loaded at p)
+module _ (k : ℕ) (r : Ring) (script : List ℕ) (bytes : ℕ) {already : Bool} {ws out out' : List ℕ} {s : Session} where
+  pub turn-more : already ≡ true → Stepped (playedTurn k r script bytes) ws out out' s → Stepped (wordsTurn already k r script bytes) ws out out' s
+  unfolding wordsTurn
+  turn-more e p = rw e p
 
-  pub turn-first : already ≡ false → Stepped (firstTurn script (length chunk)) ws out out' s → Stepped (turn already k r chunk) ws out out' s
-  unfolding turn
-  turn-first e p = rw e (rw loaded at p)
+  pub turn-first : already ≡ false → Stepped (firstTurn script bytes) ws out out' s → Stepped (wordsTurn already k r script bytes) ws out out' s
+  unfolding wordsTurn
+  turn-first e p = rw e p
+
+pub turn-loaded : (already : Bool) (k : ℕ) (r : Ring) (chunk : List ℕ) {script ws out out' : List ℕ} {s : Session} → script ≡ littleEndian chunk
+    → Stepped (wordsTurn already k r script (length chunk)) ws out out' s → Stepped (turn already k r chunk) ws out out' s
+turn-loaded already k r chunk e p = rw e at p
 
 -- a chunk has at most 1,024 events
 
-few-words : (l : List ℕ) → 4 * length (littleEndian l) ≤ length l
+pub few-words : (l : List ℕ) → 4 * length (littleEndian l) ≤ length l
 unfolding littleEndian
 few-words [] = omega arith
 few-words (a ∷ []) = omega arith
@@ -155,7 +113,7 @@ few-first true p q n h i = h
 few-first false p q n h i = i
 
 few-events : (already : Bool) (k : ℕ) (r : Ring) (chunk : List ℕ) → length chunk ≤ chunkSize → turn already k r chunk .events ≤ k + 1024
-unfolding turn firstTurn playedTurn
+unfolding wordsTurn firstTurn playedTurn
 few-events already k r chunk h =
     let f : 4 * length (littleEndian chunk) ≤ length chunk = few-words chunk in
     few-first already _ _ (k + 1024) (omega arith)

@@ -1,30 +1,32 @@
--- What a session prints for a whole script, chunk after chunk, and what the bench prints, as bytes.
+-- A whole session: what its chunks print one after the other, beside the definition of the bench.
+use mathlib.Core.Path.{_≡_}
 use mathlib.Core.Bool.{Bool}
 use mathlib.Core.List.{List, [], _∷_, _++_}
-use Prim.Native.Nat.{ℕ}
+use Prim.Native.Nat.{ℕ, _<_}
+use lib.ListN.{length}
 use Rattle.lines.specs.Decimal.{linesBytes}
 use Rattle.model.specs.Choice.{if_then_else_}
 use Rattle.model.specs.Ring.{Ring}
 use Rattle.model.specs.Bench.{Printed}
 use Rattle.report.specs.Report.{groupsBytes}
-use Rattle.session.specs.Turns.{Turn, turn}
+use Rattle.turns.specs.Turns.{Turn, chunkSize, turn}
 
--- the bytes of a script: those of the full chunks, and of the last one
-unfoldable pub scriptBytes : List (List ℕ) → List ℕ → List ℕ
-scriptBytes [] last = last
-scriptBytes (c ∷ cs) last = c ++ scriptBytes cs last
+-- a script in chunks, as they are read: each is full but the last
+pub data Cut : List ℕ → List (List ℕ) → Type 0 where
+  last : {c : List ℕ} → length c < chunkSize → Cut c (c ∷ [])
+  full : {c d : List ℕ} {cs : List (List ℕ)} → length c ≡ chunkSize → Cut d cs → Cut (c ++ d) (c ∷ cs)
 
--- chunk after chunk, as long as there is more to come
-unfoldable pub turns : Bool → ℕ → Ring → List (List ℕ) → List ℕ → List ℕ
-turns already k r [] last = turn already k r last .bytes
-turns already k r (c ∷ cs) last =
+-- what the chunks print
+unfoldable pub turnsBytes : Bool → ℕ → Ring → List (List ℕ) → List ℕ
+turnsBytes already k r [] = []
+turnsBytes already k r (c ∷ cs) =
     let t : Turn = turn already k r c in
-    t .bytes ++ (if t .more then turns (t .opened) (t .events) (t .ring) cs last else [])
+    t .bytes ++ (if t .more then turnsBytes (t .opened) (t .events) (t .ring) cs else [])
 
 abbrev pub groupBytes : List ℕ → List ℕ
 groupBytes [] = []
 groupBytes (g ∷ gs) = groupsBytes g
 
--- the lines, and the line of the groups if there is one
+-- what the definition of the bench prints
 unfoldable pub printedBytes : Printed → List ℕ
 printedBytes p = linesBytes (p .lines) ++ groupBytes (p .group)

@@ -1,44 +1,12 @@
 // A session of the bench: a script comes in by chunks of bytes, and what it prints goes out by chunks.
 ghost use mathlib.Core.Path.{_≡_};
-ghost use mathlib.Core.Bool.{true, false};
-ghost use Prim.Native.Nat.{_+_, _*_, _^_, _<_, _≤_};
+ghost use Prim.Native.Nat.{_+_, _^_, _≤_};
 ghost use lib.ListN.{length};
-ghost use Rattle.lines.specs.Decimal.{linesBytes};
-ghost use Rattle.lines.specs.Put.{Put};
-ghost use Rattle.model.specs.Words.{ringLength, decode, readsAsRing};
-ghost use Rattle.session.specs.Turns.{tailLines, endOf, playedTurn, firstTurn, turn, Ready, Stepped};
+ghost use Rattle.model.specs.Words.{ringLength, decode};
+ghost use Rattle.turns.specs.Turns.{firstTurn, wordsTurn, turn, Ready, Stepped};
 use buffer::head;
-use model::answer::Answer;
 use script::loading;
-
-// How a session stands: whether there is more to come, whether a ring is open, how many events were played, and where
-// the bytes end that the last chunk put out.
-pub struct Session {
-    pub more: bool,
-    pub opened: bool,
-    pub count: u64,
-    pub end: usize,
-}
-
-impl Session {
-    // The bytes of a chunk. A shorter one is the last.
-    pub const CHUNK: usize = 4096;
-
-    // Room for what a chunk prints.
-    pub const ROOM: usize = 160_000;
-
-    // Before the first chunk.
-    pub fn new() -> Session
-        ensures { λ r. ⌜ (r .opened ≡ false) × (r .count ≡ 0) ⌝ }
-    {
-        Session {
-            more: true,
-            opened: false,
-            count: 0,
-            end: 0,
-        }
-    }
-}
+use turns::Session;
 
 // Plays the next chunk of the script, and puts what it prints at the start of `out`.
 pub fn step(session: Session, bytes: &[u8], words: &mut [u32], out: &mut [u8]) -> Session
@@ -47,10 +15,24 @@ pub fn step(session: Session, bytes: &[u8], words: &mut [u32], out: &mut [u8]) -
 {
     let mut script = [0u32; 1024];
     let n = loading::load(bytes, &mut script);
+    take_words(session, &script[..n], bytes.len(), words, out)
+}
+
+// The words of a chunk of `size` bytes.
+fn take_words(
+    session: Session,
+    script: &[u32],
+    size: usize,
+    words: &mut [u32],
+    out: &mut [u8],
+) -> Session
+    requires { ⌜ Ready (2 ^ 63) session (now words) × (length (now script) ≤ 1024) × (160000 ≤ length (now out)) ⌝ }
+    ensures { λ r. ⌜ Stepped (wordsTurn (session .opened) (session .count) (decode (now (words .entry))) (now (script .entry)) size) (now (words .exit)) (now (out .entry)) (now (out .exit)) r ⌝ }
+{
     if session.opened {
-        return play(session.count, &script[..n], bytes.len(), words, out);
+        return turns::play(session.count, script, size, words, out);
     }
-    begin(&script[..n], bytes.len(), words, out)
+    begin(script, size, words, out)
 }
 
 // The first chunk: opens the ring, and plays the events after the keys.
@@ -69,46 +51,5 @@ fn begin(script: &[u32], size: usize, words: &mut [u32], out: &mut [u8]) -> Sess
         };
     }
     let first = 1 + head::nodes(words);
-    play(0, &script[first..], size, words, out)
-}
-
-// Plays the events of a chunk of `size` bytes, `count` events having been played before.
-fn play(count: u64, script: &[u32], size: usize, words: &mut [u32], out: &mut [u8]) -> Session
-    requires { ⌜ (length (now script) ≤ 1024) × (readsAsRing (now words) ≡ true) × (160000 ≤ length (now out)) × (count + 1025 < 2 ^ 64) ⌝ }
-    ensures { λ r. ⌜ Stepped (playedTurn count (decode (now (words .entry))) (now (script .entry)) size) (now (words .exit)) (now (out .entry)) (now (out .exit)) r ⌝ }
-{
-    let lines_end = playing::play_all(words, script, count, out);
-    let played = count + script.len() as u64;
-    let tail_end = put_tail(words, size, played, out, lines_end);
-    let more = size == Session::CHUNK;
-    let end = put_end(words, more, out, tail_end);
-    Session {
-        more,
-        opened: true,
-        count: played,
-        end,
-    }
-}
-
-// "A tail under 4 bytes is an event answered 4."
-fn put_tail(words: &[u32], size: usize, count: u64, out: &mut [u8], at: usize) -> usize
-    requires { ⌜ (length (now words) ≡ ringLength) × (at + 63 ≤ length (now out)) × (count + 1 < 2 ^ 64) ⌝ }
-    ensures { λ r. ⌜ Put (now (out .entry)) (now (out .exit)) at r (linesBytes (tailLines count (decode (now (words .entry))) size)) × (r ≤ at + 63) ⌝ }
-{
-    if size % 4 == 0 {
-        return at;
-    }
-    let refusal = Answer::NotAnEvent.number() as u64;
-    lines::put_three(out, at, count + 1, refusal, head::messages(words) as u64)
-}
-
-// The end of the output, unless there is more to come.
-fn put_end(words: &[u32], more: bool, out: &mut [u8], at: usize) -> usize
-    requires { ⌜ (readsAsRing (now words) ≡ true) × (at + 93000 ≤ length (now out)) ⌝ }
-    ensures { λ r. ⌜ Put (now (out .entry)) (now (out .exit)) at r (endOf more (decode (now (words .entry)))) × (r ≤ at + 93000) ⌝ }
-{
-    if more {
-        return at;
-    }
-    report::put_end(words, out, at)
+    turns::play(0, &script[first..], size, words, out)
 }

@@ -4,7 +4,7 @@ ghost use mathlib.Core.Path.{_≡_};
 ghost use Prim.Native.Nat.{_≤_};
 ghost use lib.ListN.{length};
 use libc::STDOUT_FILENO;
-use session::Session;
+use turns::Session;
 
 // More chunks than any script has.
 const MOST: u64 = 0x1000_0000_0000;

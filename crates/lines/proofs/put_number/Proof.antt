@@ -1,8 +1,6 @@
 use mathlib.Core.Path.{_∙_}
-use Prim.Native.Nat.{_≤_}
 use native.Mathlib.Omega.{arith}
 use borrow.Author.Needs.{needs}
-use lib.ListN.{length, length-take}
 use Rattle.lines.proofs.Decimals.{at-most, fewest-decimal}
 use Rattle.lines.proofs.Puts.{put-as}
 use Rattle.lines.proofs.put_number.Statement.{statement}

@@ -3,7 +3,7 @@ use Prim.Native.Nat.{_*_, _-_, _≤_}
 use native.Mathlib.Omega.{arith}
 use borrow.Author.Needs.{needs}
 use lib.ListN.{length, length-take}
-use Rattle.session.specs.Turns.{Ready}
+use Rattle.turns.specs.Turns.{Ready}
 use Rattle.session.proofs.Sessions.{ready-first, ready-within}
 use Rattle.vectors.proofs.compare.Statement.{statement}
 use Rattle.vectors.proofs.compare.Tie as tie

@@ -1,8 +1,8 @@
 use borrow.Author.Needs.{needs}
 use Rattle.lines.proofs.Puts.{put-as}
-use Rattle.session.proofs.Sessions.{no-tail, tail-line}
-use Rattle.session.proofs.put_tail.Statement.{statement}
-use Rattle.session.proofs.put_tail.Tie as tie
+use Rattle.turns.proofs.Parts.{no-tail, tail-line}
+use Rattle.turns.proofs.put_tail.Statement.{statement}
+use Rattle.turns.proofs.put_tail.Tie as tie
 
 returns : tie.Need-returns
 returns c = (no-tail _ _ _ _ _ (c .if1 .taken), search needs)

@@ -1,8 +1,8 @@
 use borrow.Author.Needs.{needs}
 use Rattle.lines.proofs.Puts.{put-as}
-use Rattle.session.proofs.Sessions.{not-yet, at-end}
-use Rattle.session.proofs.put_end.Statement.{statement}
-use Rattle.session.proofs.put_end.Tie as tie
+use Rattle.turns.proofs.Parts.{not-yet, at-end}
+use Rattle.turns.proofs.put_end.Statement.{statement}
+use Rattle.turns.proofs.put_end.Tie as tie
 
 returns : tie.Need-returns
 returns c = (not-yet _ _ _ (c .if1 .taken), search needs)

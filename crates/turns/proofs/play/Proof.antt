@@ -1,10 +1,10 @@
-use mathlib.Core.Path.{_≡_, refl}
+use mathlib.Core.Path.{refl}
 use native.Mathlib.Omega.{arith}
 use borrow.Author.Needs.{needs}
 use Rattle.model.proofs.Words.{reads-out}
-use Rattle.session.proofs.Sessions.{turn-played}
-use Rattle.session.proofs.play.Statement.{statement}
-use Rattle.session.proofs.play.Tie as tie
+use Rattle.turns.proofs.Parts.{turn-played}
+use Rattle.turns.proofs.play.Statement.{statement}
+use Rattle.turns.proofs.play.Tie as tie
 
 put-tail-requires : tie.Need-put-tail-requires
 put-tail-requires c κs =

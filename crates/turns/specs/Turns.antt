@@ -16,7 +16,7 @@ use Rattle.model.specs.Play.{playAll}
 use Rattle.model.specs.Bench.{Line, littleEndian, eventLines, scriptTable, scriptAnswer}
 use Rattle.model.specs.declared.answer.Answer.the-variants.{NotAnEvent}
 use Rattle.report.specs.Report.{endBytes}
-use Rattle.session.specs.declared.Session.{Session}
+use Rattle.turns.specs.declared.Session.{Session}
 
 -- a chunk of the input that is shorter than this is the last
 abbrev pub chunkSize : ℕ
@@ -56,10 +56,13 @@ firstTurn ws bytes =
     then playedTurn 0 (initial (scriptTable ws)) (drop (1 + size (scriptTable ws)) ws) bytes
     else record { bytes = lineBytes (0 ∷ numberOf (scriptAnswer ws) ∷ 0 ∷ []); ring = initial (scriptTable ws); events = 0; opened = false; more = false }
 
--- a chunk, where a ring is open or not yet
-unfoldable pub turn : Bool → ℕ → Ring → List ℕ → Turn
-turn already k r chunk =
-    if already then playedTurn k r (littleEndian chunk) (length chunk) else firstTurn (littleEndian chunk) (length chunk)
+-- the words of a chunk with so many bytes, where a ring is open already or not
+unfoldable pub wordsTurn : Bool → ℕ → Ring → List ℕ → ℕ → Turn
+wordsTurn already k r ws bytes = if already then playedTurn k r ws bytes else firstTurn ws bytes
+
+-- a chunk
+abbrev pub turn : Bool → ℕ → Ring → List ℕ → Turn
+turn already k r chunk = wordsTurn already k r (littleEndian chunk) (length chunk)
 
 -- what a session needs of the words: those of a ring, once one is open; and it has played at most k events
 pub record Ready (k : ℕ) (s : Session) (ws : List ℕ) : Type 0 where
