@@ -1,7 +1,7 @@
 -- Laws of the message region: tests of words as tests of their parts, and `messagesRead` in parts.
 use mathlib.Core.Path.{_≡_, refl, sym, ap, ap₂, _∙_}
-use Prim.Native.Nat.{ℕ, _+_, _*_, _/_, _%_, _^_, _<_}
-use native.Mathlib.Nat.{add-zero}
+use Prim.Native.Nat.{ℕ, zero, suc, _+_, _*_, _/_, _%_, _^_, _<_}
+use native.Mathlib.Nat.{add-zero, add-suc}
 use native.Mathlib.Omega.{arith}
 use mathlib.Core.Bool.{Bool, true, false, not, _&&_, _||_}
 use mathlib.Core.List.{List, [], _∷_, _++_}
@@ -113,8 +113,8 @@ module _ (ws : List ℕ) (t : Table) (k : ℕ) where
 
 -- ---- halves
 
-pub no-halves : (ws lows highs : List ℕ) → Halves ws lows highs 0
-no-halves ws lows highs = record { low = λ k h. absurd (omega arith); high = λ k h. absurd (omega arith) }
+pub no-halves : (ws : List ℕ) (from : ℕ) (lows highs : List ℕ) → Halves ws from lows highs 0
+no-halves ws from lows highs = record { low = λ k h. absurd (omega arith); high = λ k h. absurd (omega arith) }
 
 -- one place more
 more : (v : ℕ → ℕ) (l : List ℕ) (k : ℕ) → k < length l → ((j : ℕ) → j < k → getD l j 0 ≡ v j) → (j : ℕ) → j < k + 1 → getD (set l k (v k)) j 0 ≡ v j
@@ -124,9 +124,20 @@ more v l k h f j i =
       | no d ↦ getD-set-other l k j (v k) 0 d ∙ f j (lt-of-le-ne (omega arith) d)
     ]
 
-pub more-halves : (ws lows highs : List ℕ) (k : ℕ) → k < length lows → k < length highs → Halves ws lows highs k
-    → Halves ws (set lows k (at ws (messagePlace k) % 2 ^ 16)) (set highs k (at ws (messagePlace k) / 2 ^ 16)) (k + 1)
-more-halves ws lows highs k a b h = record { low = more (λ j. at ws (messagePlace j) % 2 ^ 16) lows k a (h .low); high = more (λ j. at ws (messagePlace j) / 2 ^ 16) highs k b (h .high) }
+pub more-halves : (ws : List ℕ) (from : ℕ) (lows highs : List ℕ) (k : ℕ) → k < length lows → k < length highs → Halves ws from lows highs k
+    → Halves ws from (set lows k (at ws (messagePlace (from + k)) % 2 ^ 16)) (set highs k (at ws (messagePlace (from + k)) / 2 ^ 16)) (k + 1)
+more-halves ws from lows highs k a b h =
+    record {
+      low = more (λ j. at ws (messagePlace (from + j)) % 2 ^ 16) lows k a (h .low);
+      high = more (λ j. at ws (messagePlace (from + j)) / 2 ^ 16) highs k b (h .high);
+    }
+
+-- ---- a test of all messages, block by block
+
+pub all-blocks : (S : Set) (k n : ℕ) → all (k + n) S ≡ (all k S && all n (λ i. S (k + i)))
+unfolding all
+all-blocks S k zero = rw (add-zero k) (sym (and-true (all k S)))
+all-blocks S k (suc n) = rw (add-suc k n) (ap (λ (b : Bool). b && S (k + n)) (all-blocks S k n) ∙ and-assoc (all k S) (all n (λ i. S (k + i))) (S (k + n)))
 
 -- ---- messages in parts
 

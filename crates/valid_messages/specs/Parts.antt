@@ -1,6 +1,6 @@
 -- `messageReads` in two parts: the first word of a message here, the rest in `valid_rests`.
 use mathlib.Core.Path.{_≡_}
-use Prim.Native.Nat.{ℕ, _/_, _%_, _^_, _<_}
+use Prim.Native.Nat.{ℕ, _+_, _/_, _%_, _^_, _<_}
 use mathlib.Core.Bool.{Bool, not, _&&_}
 use mathlib.Core.List.{List, [], _∷_}
 use lib.ListN.{getD}
@@ -26,7 +26,7 @@ firstFits t m =
 unfoldable pub firstReads : List ℕ → Table → ℕ → Bool
 firstReads ws t k = every (kept ws k 0 ∷ firstFits t (decodeMessage ws k) ∷ [])
 
--- the first words of m messages in two halves
-pub record Halves (ws lows highs : List ℕ) (m : ℕ) : Type 0 where
-  pub low : (k : ℕ) → k < m → getD lows k 0 ≡ at ws (messagePlace k) % 2 ^ 16
-  pub high : (k : ℕ) → k < m → getD highs k 0 ≡ at ws (messagePlace k) / 2 ^ 16
+-- the first words of the messages from message `from` on, so many, in two halves
+pub record Halves (ws : List ℕ) (from : ℕ) (lows highs : List ℕ) (count : ℕ) : Type 0 where
+  pub low : (k : ℕ) → k < count → getD lows k 0 ≡ at ws (messagePlace (from + k)) % 2 ^ 16
+  pub high : (k : ℕ) → k < count → getD highs k 0 ≡ at ws (messagePlace (from + k)) / 2 ^ 16

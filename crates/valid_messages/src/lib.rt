@@ -1,6 +1,6 @@
 // Whether the words of the messages read.
 ghost use mathlib.Core.Path.{_≡_};
-ghost use Prim.Native.Nat.{ℕ, _/_, _%_, _^_, _<_, _≤_};
+ghost use Prim.Native.Nat.{ℕ, _+_, _/_, _%_, _^_, _≤_};
 ghost use mathlib.Core.List.{List};
 ghost use lib.ListN.{length};
 ghost use Rattle.model.specs.Sets.{all};
@@ -44,39 +44,61 @@ fn upper(word: u32) -> u16
     (word >> 16) as u16
 }
 
-// The first words of m messages, in two halves.
-fn halve(words: &[u32], lows: &mut [u16], highs: &mut [u16], m: usize)
-    requires { ⌜ (length (now words) ≡ 13441) × (length (now lows) ≡ 1024) × (length (now highs) ≡ 1024) × (m ≤ 1024) ⌝ }
-    ensures { λ _. ⌜ Halves (now (words .entry)) (now (lows .exit)) (now (highs .exit)) m ⌝ }
+// The first words of `count` messages from message `from` on, in two halves.
+fn halve(words: &[u32], from: usize, count: usize, lows: &mut [u16], highs: &mut [u16])
+    requires { ⌜ (length (now words) ≡ 13441) × (length (now lows) ≡ 64) × (length (now highs) ≡ 64) × (count ≤ 64) × (from + count ≤ 1024) ⌝ }
+    ensures { λ _. ⌜ Halves (now (words .entry)) from (now (lows .exit)) (now (highs .exit)) count ⌝ }
 {
-    for k in 0..m {
-        let first = words[8321 + 5 * k];
+    for k in 0..count {
+        let first = words[8321 + 5 * (from + k)];
         lows[k] = (first % 0x1_0000) as u16;
         highs[k] = upper(first);
     }
 }
 
-// The halves of m first words fit. The loop has no branch, so that it is done eight messages at a time.
-fn halves_fit(lows: &[u16; 1024], highs: &[u16; 1024], n: u16, m: usize) -> bool
-    requires { ⌜ m ≤ 1024 ⌝ }
-    ensures { λ r. ⌜ ((ws : List ℕ) (t : Table) → size t ≡ n → Halves ws (now (lows .entry)) (now (highs .entry)) m → r ≡ all m (firstReads ws t)) ⌝ }
+// The halves of so many first words fit. The loop has no branch, so that it is done eight messages at a time.
+fn halves_fit(lows: &[u16; 64], highs: &[u16; 64], n: u16, count: usize) -> bool
+    requires { ⌜ count ≤ 64 ⌝ }
+    ensures { λ r. ⌜ ((ws : List ℕ) (t : Table) (from : ℕ) → size t ≡ n → Halves ws from (now (lows .entry)) (now (highs .entry)) count → r ≡ all count (λ k. firstReads ws t (from + k))) ⌝ }
 {
     let mut ok = true;
-    for k in 0..m {
+    for k in 0..count {
         ok = ok & first_fits(lows[k], highs[k], n);
     }
     ok
 }
 
-// The first words of m messages.
+// The first words of `count` messages from message `from` on.
+fn block_reads(words: &[u32], n: u32, from: usize, count: usize) -> bool
+    requires { ⌜ (length (now words) ≡ 13441) × (n ≤ 64) × (count ≤ 64) × (from + count ≤ 1024) ⌝ }
+    ensures { λ r. ⌜ ((t : Table) → size t ≡ n → r ≡ all count (λ k. firstReads (now (words .entry)) t (from + k))) ⌝ }
+{
+    let mut lows = [0; 64];
+    let mut highs = [0; 64];
+    halve(words, from, count, &mut lows, &mut highs);
+    halves_fit(&lows, &highs, n as u16, count)
+}
+
+// How many of the messages that are left go into a block.
+fn block_size(left: usize) -> usize
+    ensures { λ r. ⌜ (r ≤ left) × (r ≤ 64) × (1 ≤ left → 1 ≤ r) ⌝ }
+{
+    if left < 64 { left } else { 64 }
+}
+
+// The first words of m messages, block by block.
 fn firsts_read(words: &[u32], n: u32, m: usize) -> bool
     requires { ⌜ (length (now words) ≡ 13441) × (n ≤ 64) × (m ≤ 1024) ⌝ }
     ensures { λ r. ⌜ ((t : Table) → size t ≡ n → r ≡ all m (firstReads (now (words .entry)) t)) ⌝ }
 {
-    let mut lows = [0; 1024];
-    let mut highs = [0; 1024];
-    halve(words, &mut lows, &mut highs, m);
-    halves_fit(&lows, &highs, n as u16, m)
+    let mut ok = true;
+    let mut from = 0;
+    while from < m {
+        let count = block_size(m - from);
+        ok = ok & block_reads(words, n, from, count);
+        from += count;
+    }
+    ok
 }
 
 // The m messages of the words read, with a table of n nodes, and nothing after them.

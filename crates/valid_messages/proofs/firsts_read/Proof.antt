@@ -1,33 +1,68 @@
+use mathlib.Core.Path.{_≡_, refl, sym, ap, ap₂, _∙_}
+use mathlib.Core.Bool.{_&&_}
+use Prim.Native.Nat.{zero-le, _+_, _-_, _≤_}
+use native.Mathlib.Omega.{arith}
 use denote.Ref.{now}
 use borrow.Author.Needs.{needs}
+use Rattle.model.specs.Leafset.{Table, size}
+use Rattle.model.specs.Sets.{all}
+use Rattle.valid_messages.specs.Parts.{firstReads}
+use Rattle.valid_messages.proofs.MessageTests.{all-blocks}
 use Rattle.valid_messages.proofs.firsts_read.Statement.{statement}
 use Rattle.valid_messages.proofs.firsts_read.Tie as tie
 
-slice-aggregate-halve : tie.Need-slice-aggregate-halve
-slice-aggregate-halve c = search needs
+abbrev Inv-loop : tie.InvT-loop
+Inv-loop words n m ok₀ from₀ ok from = (from ≤ m) × ((t : Table) → size t ≡ n → ok ≡ all from (firstReads words t))
 
-slice-aggregate-halve-2 : tie.Need-slice-aggregate-halve-2
-slice-aggregate-halve-2 c = search needs
+abbrev μ-loop : tie.MeasureT-loop
+μ-loop words n m ok₀ from₀ ok from = m - from
 
-halve-requires : tie.Need-halve-requires
-halve-requires c κs = search needs
+loop-holds : tie.Need-loop-holds Inv-loop μ-loop
+unfolding all
+loop-holds c = (zero-le, λ t e. refl)
 
-cast-halves-fit : tie.Need-cast-halves-fit
-cast-halves-fit c = search needs
+sub-block-size : tie.Need-sub-block-size Inv-loop μ-loop
+sub-block-size c = search needs
 
-halves-fit-requires : tie.Need-halves-fit-requires
-halves-fit-requires c κs = search needs
+block-size-requires : tie.Need-block-size-requires Inv-loop μ-loop
+block-size-requires c κs = search needs
 
-returns : tie.Need-returns
-returns c t e = c .halves-fit .ensures (now (c .before .before .before .before .before .before .before .before .before .args .words)) t e (c .before .before .before .before .before .halve .ensures)
+block-reads-requires : tie.Need-block-reads-requires Inv-loop μ-loop
+block-reads-requires c κs = search needs
+
+add-from : tie.Need-add-from Inv-loop μ-loop
+add-from c = search needs
+
+loop-less : tie.Need-loop-less Inv-loop μ-loop
+loop-less c =
+    let some = c .before .block-size .ensures .2 (omega (arith, c .before .before .loop-test .taken)) in
+    omega (arith, c .before .block-size .ensures .0, some)
+
+loop-again : tie.Need-loop-again Inv-loop μ-loop
+loop-again c =
+    let l = c .before .before .before .loop in
+    let count = c .before .block-size .result in (
+      omega (arith, l .inv .0, c .before .block-size .ensures .0),
+      λ t e. ap₂ _&&_ (l .inv .1 t e) (c .block-reads .ensures t e) ∙ sym (all-blocks (firstReads (now (c .before .before .before .before .before .args .words)) t) (l .from) count),
+    )
+
+returns : tie.Need-returns Inv-loop μ-loop
+returns c t e =
+    let l = c .before .loop in
+    let done : l .from ≡ c .before .before .before .args .m = omega (arith, l .inv .0, c .loop-test .left) in
+    rw done at (l .inv .1 t e)
 
 pub firsts-read-spec : {M : Type 1} → statement M
 firsts-read-spec =
     tie.close
     (tie.spec
-    slice-aggregate-halve
-    slice-aggregate-halve-2
-    halve-requires
-    cast-halves-fit
-    halves-fit-requires
+    Inv-loop
+    μ-loop
+    loop-holds
+    sub-block-size
+    block-size-requires
+    block-reads-requires
+    add-from
+    loop-less
+    loop-again
     returns)

@@ -10,19 +10,22 @@ use Rattle.valid_messages.proofs.halve.Statement.{statement}
 use Rattle.valid_messages.proofs.halve.Tie as tie
 
 abbrev Inv-loop : tie.InvT-loop
-Inv-loop words lows₀ highs₀ m k₀ lows highs k = (k ≤ m) × (length lows ≡ 1024) × (length highs ≡ 1024) × Halves words lows highs k
+Inv-loop words from count lows₀ highs₀ k₀ lows highs k = (k ≤ count) × (length lows ≡ 64) × (length highs ≡ 64) × Halves words from lows highs k
 
 abbrev μ-loop : tie.MeasureT-loop
-μ-loop words lows₀ highs₀ m k₀ lows highs k = m - k
+μ-loop words from count lows₀ highs₀ k₀ lows highs k = count - k
 
 loop-holds : tie.Need-loop-holds Inv-loop μ-loop
-loop-holds c = (zero-le, search needs, search needs, no-halves _ _ _)
+loop-holds c = (zero-le, search needs, search needs, no-halves _ _ _ _)
+
+add-first : tie.Need-add-first Inv-loop μ-loop
+add-first c = search needs
 
 mul-first : tie.Need-mul-first Inv-loop μ-loop
 mul-first c = search needs
 
-add-first : tie.Need-add-first Inv-loop μ-loop
-add-first c = search needs
+add-first-2 : tie.Need-add-first-2 Inv-loop μ-loop
+add-first-2 c = search needs
 
 mul-first-2 : tie.Need-mul-first-2 Inv-loop μ-loop
 mul-first-2 c = search needs
@@ -60,7 +63,7 @@ loop-again c =
       search needs,
       simp length-set (l .inv .1),
       simp length-set (l .inv .2),
-      rw (c .upper .ensures) (more-halves (now (c .before .before .before .before .before .before .before .args .words)) (l .lows) (l .highs) (l .k) (omega arith) (omega arith) (l .inv .3)),
+      rw (c .upper .ensures) (more-halves (now (c .before .before .before .before .before .before .before .args .words)) (c .before .before .before .before .before .before .before .args .from) (l .lows) (l .highs) (l .k) (omega arith) (omega arith) (l .inv .3)),
     )
 
 same-length : tie.Need-same-length Inv-loop μ-loop
@@ -72,7 +75,7 @@ same-length-2 c = search needs
 returns : tie.Need-returns Inv-loop μ-loop
 returns c =
     let l = c .before .loop in
-    let done : l .k ≡ c .before .before .before .before .before .args .m = omega arith in
+    let done : l .k ≡ c .before .before .before .before .before .args .count = omega arith in
     rw done at (l .inv .3)
 
 pub halve-spec : {M : Type 1} → statement M
@@ -82,8 +85,9 @@ halve-spec =
     Inv-loop
     μ-loop
     loop-holds
-    mul-first
     add-first
+    mul-first
+    add-first-2
     mul-first-2
     shared-slice-read-first
     cast-lows

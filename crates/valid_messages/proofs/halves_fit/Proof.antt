@@ -1,6 +1,6 @@
 use mathlib.Core.Path.{_≡_, refl, sym}
 use mathlib.Core.List.{List}
-use Prim.Native.Nat.{ℕ, zero-le, _-_, _≤_}
+use Prim.Native.Nat.{ℕ, zero-le, _+_, _-_, _≤_}
 use native.Mathlib.Omega.{arith}
 use borrow.Author.Needs.{needs}
 use Rattle.model.specs.Leafset.{Table, size}
@@ -11,14 +11,15 @@ use Rattle.valid_messages.proofs.halves_fit.Statement.{statement}
 use Rattle.valid_messages.proofs.halves_fit.Tie as tie
 
 abbrev Inv-loop : tie.InvT-loop
-Inv-loop lows highs n m ok₀ k₀ ok k = (k ≤ m) × ((ws : List ℕ) (t : Table) → size t ≡ n → Halves ws lows highs m → ok ≡ all k (firstReads ws t))
+Inv-loop lows highs n count ok₀ k₀ ok k =
+    (k ≤ count) × ((ws : List ℕ) (t : Table) (from : ℕ) → size t ≡ n → Halves ws from lows highs count → ok ≡ all k (λ i. firstReads ws t (from + i)))
 
 abbrev μ-loop : tie.MeasureT-loop
-μ-loop lows highs n m ok₀ k₀ ok k = m - k
+μ-loop lows highs n count ok₀ k₀ ok k = count - k
 
 loop-holds : tie.Need-loop-holds Inv-loop μ-loop
 unfolding all
-loop-holds c = (zero-le, λ ws t e h. refl)
+loop-holds c = (zero-le, λ ws t from e h. refl)
 
 mul-first-fits : tie.Need-mul-first-fits Inv-loop μ-loop
 mul-first-fits c = search needs
@@ -45,14 +46,14 @@ loop-again : tie.Need-loop-again Inv-loop μ-loop
 loop-again c =
     let l = c .before .before .before .before .loop in (
       search needs,
-      λ ws t e h. all-more (firstReads ws t) (l .k) (l .ok) (c .first-fits .result) (l .inv .1 ws t e h) (c .first-fits .ensures ws t (l .k) e (sym (h .low (l .k) (search needs))) (sym (h .high (l .k) (search needs)))),
+      λ ws t from e h. all-more (λ i. firstReads ws t (from + i)) (l .k) (l .ok) (c .first-fits .result) (l .inv .1 ws t from e h) (c .first-fits .ensures ws t (from + l .k) e (sym (h .low (l .k) (search needs))) (sym (h .high (l .k) (search needs)))),
     )
 
 returns : tie.Need-returns Inv-loop μ-loop
-returns c ws t e h =
+returns c ws t from e h =
     let l = c .before .loop in
-    let done : l .k ≡ c .before .before .args .m = omega arith in
-    rw done at (l .inv .1 ws t e h)
+    let done : l .k ≡ c .before .before .args .count = omega arith in
+    rw done at (l .inv .1 ws t from e h)
 
 pub halves-fit-spec : {M : Type 1} → statement M
 halves-fit-spec =
