@@ -10,9 +10,6 @@ use Rattle.acting.proofs.may_act.Tie as tie
 nodes-requires : tie.Need-nodes-requires
 nodes-requires c κs = long _ (c .before .pre)
 
-cast-if1 : tie.Need-cast-if1
-cast-if1 c = search needs
-
 returns : tie.Need-returns
 returns c =
     let a = c .before .before .before .before .args in
@@ -52,11 +49,4 @@ pub may-act-spec : {M : Type 1} → statement M
 may-act-spec =
     tie.close
     (tie.spec
-    nodes-requires
-    cast-if1
-    returns
-    is-running-requires
-    returns-2
-    clock-requires
-    returns-3
-    returns-4)
+    nodes-requires (λ c. search needs) returns is-running-requires returns-2 clock-requires returns-3 returns-4)

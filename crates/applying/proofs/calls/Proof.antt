@@ -5,28 +5,10 @@ use borrow.Author.Needs.{needs}
 use Rattle.applying.proofs.calls.Statement.{statement}
 use Rattle.applying.proofs.calls.Tie as tie
 
-size-requires : tie.Need-size-requires
-size-requires c κs = search needs
-
-cast-if1 : tie.Need-cast-if1
-cast-if1 c = search needs
-
-add-if1 : tie.Need-add-if1
-add-if1 c = search needs
-
 returns : tie.Need-returns
 returns c =
     let a = c .before .before .before .before .args in
     λ ρ is now. each-full (a .words .now) is (a .x .0) (ownOf (a .calls .own)) _ (a .calls .to) (omega (arith, c .if1 .taken, c .before .size .ensures))
-
-store-requires : tie.Need-store-requires
-store-requires c κs = search needs
-
-send-each-requires : tie.Need-send-each-requires
-send-each-requires c κs = search needs
-
-same-length : tie.Need-same-length
-same-length c = search needs
 
 returns-2 : tie.Need-returns-2
 returns-2 c =
@@ -39,11 +21,5 @@ pub calls-spec : {M : Type 1} → statement M
 calls-spec =
     tie.close
     (tie.spec
-    size-requires
-    cast-if1
-    add-if1
-    returns
-    store-requires
-    send-each-requires
-    same-length
-    returns-2)
+    (λ c κs. search needs) (λ c. search needs) (λ c. search needs) returns (λ c κs. search needs) (λ c κs. search needs)
+    (λ c. search needs) returns-2)

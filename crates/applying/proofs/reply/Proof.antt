@@ -12,12 +12,6 @@ use borrow.Author.Needs.{needs}
 use Rattle.applying.proofs.reply.Statement.{statement}
 use Rattle.applying.proofs.reply.Tie as tie
 
-store-requires : tie.Need-store-requires
-store-requires c κs = search needs
-
-same-length : tie.Need-same-length
-same-length c = search needs
-
 returns : tie.Need-returns
 returns c = λ ρ is now.
     let start = c .before .before .before .before .before .before .before .before in
@@ -30,14 +24,8 @@ returns-2 c = λ ρ is now.
     let sends : a .reply .sends ≡ true = not-false _ (c .before .if1 .left) in
     applied-full (a .words .now) (acted (a .x .0) (replyEffect (a .reply)) ρ) (rw sends (simp length-append (omega (arith, is .count, c .if2 .taken))))
 
-store-requires-2 : tie.Need-store-requires-2
-store-requires-2 c κs = search needs
-
 append-requires : tie.Need-append-requires
 append-requires c κs = (search needs, search needs, c .before .before .before .before .before .before .before .before .before .before .before .pre .1 .1 (not-false _ (c .before .before .before .before .before .before .before .if1 .left)))
-
-same-length-2 : tie.Need-same-length-2
-same-length-2 c = search needs
 
 returns-3 : tie.Need-returns-3
 returns-3 c = λ ρ is now.
@@ -49,11 +37,5 @@ pub reply-spec : {M : Type 1} → statement M
 reply-spec =
     tie.close
     (tie.spec
-    store-requires
-    same-length
-    returns
-    returns-2
-    store-requires-2
-    append-requires
-    same-length-2
-    returns-3)
+    (λ c κs. search needs) (λ c. search needs) returns returns-2 (λ c κs. search needs) append-requires
+    (λ c. search needs) returns-3)

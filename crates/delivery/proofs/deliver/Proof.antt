@@ -21,9 +21,6 @@ use Rattle.delivery.proofs.deliver.Tie as tie
 messages-requires : tie.Need-messages-requires
 messages-requires c κs = long _ (c .before .before .pre)
 
-same-length : tie.Need-same-length
-same-length c = search needs
-
 returns : tie.Need-returns
 returns c =
     let a = c .before .before .before .before .args in
@@ -44,9 +41,6 @@ remove-requires c κs =
     let start = c .before .before .before .before .before .before .before .before .before .before .before in
     (long _ (start .pre), omega (arith, room _ (start .pre), c .before .before .before .before .before .before .before .before .messages .ensures .0), omega arith)
 
-same-length-2 : tie.Need-same-length-2
-same-length-2 c = search needs
-
 returns-2 : tie.Need-returns-2
 returns-2 c =
     let start = c .before .before .before .before .before .before .before .before .before .before .before .before .before .before in
@@ -62,15 +56,6 @@ returns-2 c =
     (omega (arith, room ws (start .pre), count))
     ∙ event-passed ws (Deliver k) (Delivery.need-not-rise (message .ensures) low off)
 
-may-act-requires : tie.Need-may-act-requires
-may-act-requires c κs = search needs
-
-number-requires : tie.Need-number-requires
-number-requires c κs = search needs
-
-same-length-3 : tie.Need-same-length-3
-same-length-3 c = search needs
-
 returns-3 : tie.Need-returns-3
 returns-3 c =
     let start = c .before .before .before .before .before .before .before .before .before .before .before .before .before .before in
@@ -81,9 +66,6 @@ receive-requires : tie.Need-receive-requires
 receive-requires c κs =
     let start = c .before .before .before .before .before .before .before .before .before .before .before .before .before .before .before in
     (start .pre, omega (arith, c .before .before .before .before .before .before .before .before .before .before .before .before .messages .ensures .0), c .before .before .before .before .before .before .before .before .before .load .ensures, asked-accepted (c .before .before .before .may-act .ensures) (c .before .before .number .ensures) (c .before .if3 .left))
-
-same-length-4 : tie.Need-same-length-4
-same-length-4 c = search needs
 
 returns-4 : tie.Need-returns-4
 returns-4 c =
@@ -96,18 +78,6 @@ pub deliver-spec : {M : Type 1} → statement M
 deliver-spec =
     tie.close
     (tie.spec
-    messages-requires
-    same-length
-    returns
-    load-requires
-    is-running-requires
-    remove-requires
-    same-length-2
-    returns-2
-    may-act-requires
-    number-requires
-    same-length-3
-    returns-3
-    receive-requires
-    same-length-4
-    returns-4)
+    messages-requires (λ c. search needs) returns load-requires is-running-requires remove-requires (λ c. search needs)
+    returns-2 (λ c κs. search needs) (λ c κs. search needs) (λ c. search needs) returns-3 receive-requires
+    (λ c. search needs) returns-4)

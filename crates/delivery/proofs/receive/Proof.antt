@@ -16,9 +16,6 @@ use borrow.Author.Needs.{needs}
 use Rattle.delivery.proofs.receive.Statement.{statement}
 use Rattle.delivery.proofs.receive.Tie as tie
 
-load-requires : tie.Need-load-requires
-load-requires c κs = search needs
-
 step-requires : tie.Need-step-requires
 step-requires c κs =
     let start = c .before .before .before .before .before in
@@ -41,9 +38,6 @@ reply-requires c κs =
     let words = long _ (c .before .before .before .before .before .before .before .before .before .before .before .before .pre .0) in
     ((search needs, is .few, is .member, omega (arith, is .room), is .time-room), (one .own-fits .room, one .message-room))
 
-same-length : tie.Need-same-length
-same-length c = search needs
-
 returns : tie.Need-returns
 unfolding removeMessage
 returns c =
@@ -65,10 +59,4 @@ pub receive-spec : {M : Type 1} → statement M
 receive-spec =
     tie.close
     (tie.spec
-    load-requires
-    step-requires
-    remove-requires
-    sub-reply
-    reply-requires
-    same-length
-    returns)
+    (λ c κs. search needs) step-requires remove-requires sub-reply reply-requires (λ c. search needs) returns)

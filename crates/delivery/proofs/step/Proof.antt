@@ -17,9 +17,6 @@ keys-requires c κs =
     let is = c .before .before .pre .1 in
     (long _ (c .before .before .pre .0), is .nodes, is .few)
 
-array-share-prefix-keys : tie.Need-array-share-prefix-keys
-array-share-prefix-keys c = search needs
-
 slice-aggregate-deliver : tie.Need-slice-aggregate-deliver
 slice-aggregate-deliver c = sym (keys-many (c .before .before .before .before .pre .1) _ (c .before .keys .ensures .1))
 
@@ -47,9 +44,4 @@ pub step-spec : {M : Type 1} → statement M
 step-spec =
     tie.close
     (tie.spec
-    leaf-requires
-    keys-requires
-    array-share-prefix-keys
-    slice-aggregate-deliver
-    deliver-requires
-    returns)
+    leaf-requires keys-requires (λ c. search needs) slice-aggregate-deliver deliver-requires returns)

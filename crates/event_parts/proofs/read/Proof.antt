@@ -4,21 +4,6 @@ use borrow.Author.Needs.{needs}
 use Rattle.event_parts.proofs.read.Statement.{statement}
 use Rattle.event_parts.proofs.read.Tie as tie
 
-read-event-requires : tie.Need-read-event-requires
-read-event-requires c κs = search needs
-
-enum-known-reading : tie.Need-enum-known-reading
-enum-known-reading c = search needs
-
-of-event-requires : tie.Need-of-event-requires
-of-event-requires c κs = search needs
-
-enum-known-reading-2 : tie.Need-enum-known-reading-2
-enum-known-reading-2 c = search needs
-
-make-requires : tie.Need-make-requires
-make-requires c κs = search needs
-
 returns : tie.Need-returns
 returns c =
     let q = read-given (c .before .before .before .before .before .args .word) _ (sym (c .before .before .before .before .read-event .ensures) ∙ c .before .before .reading .given .1) in
@@ -33,10 +18,5 @@ pub read-spec : {M : Type 1} → statement M
 read-spec =
     tie.close
     (tie.spec
-    read-event-requires
-    enum-known-reading
-    of-event-requires
-    enum-known-reading-2
-    make-requires
-    returns
+    (λ c κs. search needs) (λ c. search needs) (λ c κs. search needs) (λ c. search needs) (λ c κs. search needs) returns
     returns-2)

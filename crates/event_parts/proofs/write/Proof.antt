@@ -6,9 +6,6 @@ use borrow.Author.Needs.{needs}
 use Rattle.event_parts.proofs.write.Statement.{statement}
 use Rattle.event_parts.proofs.write.Tie as tie
 
-fit-requires : tie.Need-fit-requires
-fit-requires c κs = search needs
-
 returns : tie.Need-returns
 returns c =
     let p = c .before .before .args .p in
@@ -16,9 +13,6 @@ returns c =
 
 event-requires : tie.Need-event-requires
 event-requires c κs = sym (c .before .fit .ensures) ∙ not-false _ (c .if1 .left)
-
-write-event-requires : tie.Need-write-event-requires
-write-event-requires c κs = search needs
 
 returns-2 : tie.Need-returns-2
 returns-2 c =
@@ -30,4 +24,6 @@ returns-2 c =
 
 pub write-spec : {M : Type 1} → statement M
 write-spec =
-    tie.close (tie.spec fit-requires returns event-requires write-event-requires returns-2)
+    tie.close
+    (tie.spec
+    (λ c κs. search needs) returns event-requires (λ c κs. search needs) returns-2)

@@ -5,15 +5,6 @@ use borrow.Author.Needs.{needs}
 use Rattle.firing.proofs.calling.Statement.{statement}
 use Rattle.firing.proofs.calling.Tie as tie
 
-timer0-requires : tie.Need-timer0-requires
-timer0-requires c κs = search needs
-
-timer1-requires : tie.Need-timer1-requires
-timer1-requires c κs = search needs
-
-timer2-requires : tie.Need-timer2-requires
-timer2-requires c κs = search needs
-
 returns : tie.Need-returns
 returns c = λ time. by-number _ _ _ _ _ (CallsEach _ _ _) 0 (search needs) (c .timer0 .ensures _ _ time (c .before .before .before .pre .0 .few) (c .before .before .before .pre .1))
 
@@ -26,4 +17,5 @@ returns-3 c = λ time. by-number _ _ _ _ _ (CallsEach _ _ _) 2 (omega arith) (c 
 pub calling-spec : {M : Type 1} → statement M
 calling-spec =
     tie.close
-    (tie.spec timer0-requires timer1-requires timer2-requires returns returns-2 returns-3)
+    (tie.spec
+    (λ c κs. search needs) (λ c κs. search needs) (λ c κs. search needs) returns returns-2 returns-3)

@@ -16,9 +16,6 @@ keys-requires c κs =
     let is = c .before .before .before .before .before .before .pre .1 in
     (long _ (c .before .before .before .before .before .before .pre .0), is .nodes, is .few)
 
-array-share-prefix-keys : tie.Need-array-share-prefix-keys
-array-share-prefix-keys c = search needs
-
 slice-aggregate-table : tie.Need-slice-aggregate-table
 slice-aggregate-table c = sym (keys-many (c .before .before .before .before .before .before .before .before .pre .1) _ (c .before .keys .ensures .1))
 
@@ -33,9 +30,6 @@ calls-requires : tie.Need-calls-requires
 calls-requires c κs =
     let start = c .before .before .before .before .before .before .before .before .before .before .before in
     may-call (start .pre .1) (start .pre .0) (c .calling .ensures 0)
-
-same-length : tie.Need-same-length
-same-length c = search needs
 
 returns : tie.Need-returns
 returns c =
@@ -55,9 +49,6 @@ requests-requires-2 c κs =
     let is = start .pre .1 in
     (may-write is (start .pre .0), (is .fits .room, c .before .requests .ensures 0 .spare-low))
 
-same-length-2 : tie.Need-same-length-2
-same-length-2 c = search needs
-
 returns-2 : tie.Need-returns-2
 returns-2 c =
     let start = c .before .before .before .before .before .before .before .before .before .before .before .before .before .before .before in
@@ -76,9 +67,6 @@ reply-requires c κs =
     let start = c .before .before .before .before .before .before .before .before .before .before .before .before in
     may-reply (start .pre .1) (start .pre .0) (c .replying .ensures 0 0)
 
-same-length-3 : tie.Need-same-length-3
-same-length-3 c = search needs
-
 returns-3 : tie.Need-returns-3
 returns-3 c =
     let start = c .before .before .before .before .before .before .before .before .before .before .before .before .before .before .before in
@@ -89,19 +77,6 @@ pub fire-spec : {M : Type 1} → statement M
 fire-spec =
     tie.close
     (tie.spec
-    leaf-requires
-    keys-requires
-    array-share-prefix-keys
-    slice-aggregate-table
-    calling-requires
-    calls-requires
-    same-length
-    returns
-    requests-requires
-    requests-requires-2
-    same-length-2
-    returns-2
-    replying-requires
-    reply-requires
-    same-length-3
-    returns-3)
+    leaf-requires keys-requires (λ c. search needs) slice-aggregate-table calling-requires calls-requires
+    (λ c. search needs) returns requests-requires requests-requires-2 (λ c. search needs) returns-2 replying-requires
+    reply-requires (λ c. search needs) returns-3)

@@ -6,17 +6,14 @@ use borrow.Author.Needs.{needs}
 use Rattle.firing.proofs.replying.Statement.{statement}
 use Rattle.firing.proofs.replying.Tie as tie
 
-quiet-requires : tie.Need-quiet-requires
-quiet-requires c κs = search needs
-
 returns : tie.Need-returns
 returns c = λ leaf time. by-no-number _ _ _ _ _ (Replies _ _) (omega (arith, c .before .if1 .taken)) (c .quiet .ensures _ _ (record { own = refl; fits = c .before .before .before .pre .1 }))
-
-timer4-requires : tie.Need-timer4-requires
-timer4-requires c κs = search needs
 
 returns-2 : tie.Need-returns-2
 returns-2 c = λ leaf time. by-number _ _ _ _ _ (Replies _ _) 4 (search needs) (c .timer4 .ensures leaf time)
 
 pub replying-spec : {M : Type 1} → statement M
-replying-spec = tie.close (tie.spec quiet-requires returns timer4-requires returns-2)
+replying-spec =
+    tie.close
+    (tie.spec
+    (λ c κs. search needs) returns (λ c κs. search needs) returns-2)

@@ -5,15 +5,6 @@ use borrow.Author.Needs.{needs}
 use Rattle.firing.proofs.timer.Statement.{statement}
 use Rattle.firing.proofs.timer.Tie as tie
 
-may-act-requires : tie.Need-may-act-requires
-may-act-requires c κs = search needs
-
-number-requires : tie.Need-number-requires
-number-requires c κs = search needs
-
-same-length : tie.Need-same-length
-same-length c = search needs
-
 returns : tie.Need-returns
 returns c =
     let a = c .before .before .before .before .before .args in
@@ -21,12 +12,6 @@ returns c =
 
 load-requires : tie.Need-load-requires
 load-requires c κs = (c .before .before .before .before .before .before .pre, asked-accepted (c .before .before .before .may-act .ensures) (c .before .before .number .ensures) (c .before .if1 .left))
-
-fire-requires : tie.Need-fire-requires
-fire-requires c κs = search needs
-
-same-length-2 : tie.Need-same-length-2
-same-length-2 c = search needs
 
 returns-2 : tie.Need-returns-2
 returns-2 c =
@@ -37,11 +22,5 @@ pub timer-spec : {M : Type 1} → statement M
 timer-spec =
     tie.close
     (tie.spec
-    may-act-requires
-    number-requires
-    same-length
-    returns
-    load-requires
-    fire-requires
-    same-length-2
-    returns-2)
+    (λ c κs. search needs) (λ c κs. search needs) (λ c. search needs) returns load-requires (λ c κs. search needs)
+    (λ c. search needs) returns-2)

@@ -10,16 +10,10 @@ use Rattle.meeting.proofs.may_meet.Tie as tie
 nodes-requires : tie.Need-nodes-requires
 nodes-requires c κs = long _ (c .before .pre)
 
-cast-if1 : tie.Need-cast-if1
-cast-if1 c = search needs
-
 returns : tie.Need-returns
 returns c =
     let a = c .before .before .before .before .args in
     meets-none (a .words .now) (a .x .0) (a .y .0) (Refusals.out-of-table _ _ (omega (arith, c .before .before .nodes .ensures .0)))
-
-may-act-requires : tie.Need-may-act-requires
-may-act-requires c κs = search needs
 
 returns-2 : tie.Need-returns-2
 returns-2 c =
@@ -27,4 +21,7 @@ returns-2 c =
     c .may-act .ensures ∙ meets-one (a .words .now) (a .x .0) (a .y .0) (Refusals.in-table _ _ (omega (arith, c .before .before .before .nodes .ensures .0)))
 
 pub may-meet-spec : {M : Type 1} → statement M
-may-meet-spec = tie.close (tie.spec nodes-requires cast-if1 returns may-act-requires returns-2)
+may-meet-spec =
+    tie.close
+    (tie.spec
+    nodes-requires (λ c. search needs) returns (λ c κs. search needs) returns-2)

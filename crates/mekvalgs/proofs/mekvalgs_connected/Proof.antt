@@ -9,21 +9,6 @@ use borrow.Author.Needs.{needs}
 use Rattle.mekvalgs.proofs.mekvalgs_connected.Statement.{statement}
 use Rattle.mekvalgs.proofs.mekvalgs_connected.Tie as tie
 
-node-requires : tie.Need-node-requires
-node-requires c κs = search needs
-
-node-requires-2 : tie.Need-node-requires-2
-node-requires-2 c κs = search needs
-
-connected-requires : tie.Need-connected-requires
-connected-requires c κs = search needs
-
-cast-connected : tie.Need-cast-connected
-cast-connected c = search needs
-
-number-requires : tie.Need-number-requires
-number-requires c κs = search needs
-
 returns : tie.Need-returns
 returns c =
     let ws : List ℕ = c .before .before .before .before .before .before .args .words .now in
@@ -39,9 +24,5 @@ pub mekvalgs-connected-spec : {M : Type 1} → statement M
 mekvalgs-connected-spec =
     tie.close
     (tie.spec
-    node-requires
-    node-requires-2
-    connected-requires
-    cast-connected
-    number-requires
+    (λ c κs. search needs) (λ c κs. search needs) (λ c κs. search needs) (λ c. search needs) (λ c κs. search needs)
     returns)

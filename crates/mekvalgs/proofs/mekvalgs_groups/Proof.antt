@@ -4,14 +4,11 @@ use borrow.Author.Needs.{needs}
 use Rattle.mekvalgs.proofs.mekvalgs_groups.Statement.{statement}
 use Rattle.mekvalgs.proofs.mekvalgs_groups.Tie as tie
 
-groups-requires : tie.Need-groups-requires
-groups-requires c κs = search needs
-
-number-requires : tie.Need-number-requires
-number-requires c κs = search needs
-
 returns : tie.Need-returns
 returns c = (c .number .ensures ∙ ap numberOf (c .before .groups .ensures .0), c .before .groups .ensures .1)
 
 pub mekvalgs-groups-spec : {M : Type 1} → statement M
-mekvalgs-groups-spec = tie.close (tie.spec groups-requires number-requires returns)
+mekvalgs-groups-spec =
+    tie.close
+    (tie.spec
+    (λ c κs. search needs) (λ c κs. search needs) returns)

@@ -8,15 +8,6 @@ use borrow.Author.Needs.{needs}
 use Rattle.mekvalgs.proofs.mekvalgs_leafset.Statement.{statement}
 use Rattle.mekvalgs.proofs.mekvalgs_leafset.Tie as tie
 
-node-requires : tie.Need-node-requires
-node-requires c κs = search needs
-
-leafset-of-requires : tie.Need-leafset-of-requires
-leafset-of-requires c κs = search needs
-
-number-requires : tie.Need-number-requires
-number-requires c κs = search needs
-
 returns : tie.Need-returns
 returns c =
     let ws : List ℕ = c .before .before .before .before .args .words .now in
@@ -28,4 +19,6 @@ returns c =
 
 pub mekvalgs-leafset-spec : {M : Type 1} → statement M
 mekvalgs-leafset-spec =
-    tie.close (tie.spec node-requires leafset-of-requires number-requires returns)
+    tie.close
+    (tie.spec
+    (λ c κs. search needs) (λ c κs. search needs) (λ c κs. search needs) returns)

@@ -5,19 +5,13 @@ use borrow.Author.Needs.{needs}
 use Rattle.mekvalgs.proofs.mekvalgs_open.Statement.{statement}
 use Rattle.mekvalgs.proofs.mekvalgs_open.Tie as tie
 
-open-requires : tie.Need-open-requires
-open-requires c κs = search needs
-
-number-requires : tie.Need-number-requires
-number-requires c κs = search needs
-
-same-length : tie.Need-same-length
-same-length c = search needs
-
 returns : tie.Need-returns
 returns c =
     let e = c .before .before .before .«open» .ensures in
     (c .number .ensures ∙ ap (λ (w : Written). numberOf (w .answer)) e, ap (λ (w : Written). w .words) e)
 
 pub mekvalgs-open-spec : {M : Type 1} → statement M
-mekvalgs-open-spec = tie.close (tie.spec open-requires number-requires same-length returns)
+mekvalgs-open-spec =
+    tie.close
+    (tie.spec
+    (λ c κs. search needs) (λ c κs. search needs) (λ c. search needs) returns)

@@ -10,18 +10,6 @@ use borrow.Author.Needs.{needs}
 use Rattle.mekvalgs.proofs.mekvalgs_replay.Statement.{statement}
 use Rattle.mekvalgs.proofs.mekvalgs_replay.Tie as tie
 
-replay-requires : tie.Need-replay-requires
-replay-requires c κs = search needs
-
-number-requires : tie.Need-number-requires
-number-requires c κs = search needs
-
-same-length : tie.Need-same-length
-same-length c = search needs
-
-same-length-2 : tie.Need-same-length-2
-same-length-2 c = search needs
-
 module _ {old : List ℕ} {t : Table} {script answers : List ℕ} {a : Answer} {ws' answers' : List ℕ} (done : Replayed old t script answers a ws' answers') where
   opened : a ≡ openBuffer old t .answer
   unfolding replayBuffer
@@ -35,4 +23,6 @@ returns c = let done = c .before .before .before .before .before .replay .ensure
 
 pub mekvalgs-replay-spec : {M : Type 1} → statement M
 mekvalgs-replay-spec =
-    tie.close (tie.spec replay-requires number-requires same-length same-length-2 returns)
+    tie.close
+    (tie.spec
+    (λ c κs. search needs) (λ c κs. search needs) (λ c. search needs) (λ c. search needs) returns)

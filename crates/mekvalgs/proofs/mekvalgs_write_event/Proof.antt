@@ -5,15 +5,6 @@ use borrow.Author.Needs.{needs}
 use Rattle.mekvalgs.proofs.mekvalgs_write_event.Statement.{statement}
 use Rattle.mekvalgs.proofs.mekvalgs_write_event.Tie as tie
 
-make-requires : tie.Need-make-requires
-make-requires c κs = search needs
-
-write-requires : tie.Need-write-requires
-write-requires c κs = search needs
-
-number-requires : tie.Need-number-requires
-number-requires c κs = search needs
-
 returns : tie.Need-returns
 returns c = (
   c .number .ensures ∙ ap numberOf (c .before .write .ensures .0 ∙ ap partsAnswer (c .before .before .make .ensures)),
@@ -22,4 +13,6 @@ returns c = (
 
 pub mekvalgs-write-event-spec : {M : Type 1} → statement M
 mekvalgs-write-event-spec =
-    tie.close (tie.spec make-requires write-requires number-requires returns)
+    tie.close
+    (tie.spec
+    (λ c κs. search needs) (λ c κs. search needs) (λ c κs. search needs) returns)

@@ -3,9 +3,6 @@ use borrow.Author.Needs.{needs}
 use Rattle.mekvalgs.proofs.node.Statement.{statement}
 use Rattle.mekvalgs.proofs.node.Tie as tie
 
-cast-t4 : tie.Need-cast-t4
-cast-t4 c = search needs
-
 returns : tie.Need-returns
 returns c = rw (lt-ltb (c .before .args .x) 64 (c .if1 .taken))
 
@@ -13,4 +10,7 @@ returns-2 : tie.Need-returns-2
 returns-2 c = rw (le-ltb (c .before .args .x) 64 (c .if1 .left))
 
 pub node-spec : {M : Type 1} → statement M
-node-spec = tie.close (tie.spec cast-t4 returns returns-2)
+node-spec =
+    tie.close
+    (tie.spec
+    (λ c. search needs) returns returns-2)

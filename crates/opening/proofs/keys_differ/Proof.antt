@@ -20,15 +20,6 @@ loop-holds : tie.Need-loop-holds Inv-loop μ-loop
 unfolding all
 loop-holds c = (search needs, refl)
 
-key-differs-requires : tie.Need-key-differs-requires Inv-loop μ-loop
-key-differs-requires c κs = search needs
-
-add-x : tie.Need-add-x Inv-loop μ-loop
-add-x c = search needs
-
-loop-less : tie.Need-loop-less Inv-loop μ-loop
-loop-less c = search needs
-
 loop-again : tie.Need-loop-again Inv-loop μ-loop
 loop-again c =
     let l = c .before .before .loop in
@@ -44,4 +35,5 @@ returns c leaf =
 pub keys-differ-spec : {M : Type 1} → statement M
 keys-differ-spec =
     tie.close
-    (tie.spec Inv-loop μ-loop loop-holds key-differs-requires add-x loop-less loop-again returns)
+    (tie.spec
+    Inv-loop μ-loop loop-holds (λ c κs. search needs) (λ c. search needs) (λ c. search needs) loop-again returns)

@@ -14,21 +14,12 @@ returns c =
     let a = c .before .before .before .args in
     refuses (a .words .now) _ _ _ refl (refused-length (a .words .now) (a .leaf) (a .keys .now) (c .if1 .taken))
 
-in-range-requires : tie.Need-in-range-requires
-in-range-requires c κs = search needs
-
 returns-2 : tie.Need-returns-2
 unfolding openBuffer
 returns-2 c =
     let a = c .before .before .before .before .before .args in
     refuses (a .words .now) _ _ _ refl
     (refused-range (a .words .now) (a .leaf) (a .keys .now) (c .before .before .if1 .left) (sym (c .before .in-range .ensures) ∙ not-true _ (c .if2 .taken)))
-
-keys-fit-requires : tie.Need-keys-fit-requires
-keys-fit-requires c κs = search needs
-
-keys-differ-requires : tie.Need-keys-differ-requires
-keys-differ-requires c κs = search needs
 
 returns-3 : tie.Need-returns-3
 unfolding openBuffer
@@ -50,9 +41,6 @@ write-requires c κs =
       key-room (a .words .now) (a .leaf) (a .keys .now) ok,
     )
 
-same-length : tie.Need-same-length
-same-length c = search needs
-
 returns-4 : tie.Need-returns-4
 unfolding openBuffer
 returns-4 c =
@@ -66,12 +54,5 @@ pub open-spec : {M : Type 1} → statement M
 open-spec =
     tie.close
     (tie.spec
-    returns
-    in-range-requires
-    returns-2
-    keys-fit-requires
-    keys-differ-requires
-    returns-3
-    write-requires
-    same-length
-    returns-4)
+    returns (λ c κs. search needs) returns-2 (λ c κs. search needs) (λ c κs. search needs) returns-3 write-requires
+    (λ c. search needs) returns-4)

@@ -8,12 +8,6 @@ use borrow.Author.Needs.{needs}
 use Rattle.questions.proofs.connected.Statement.{statement}
 use Rattle.questions.proofs.connected.Tie as tie
 
-of-nodes-requires : tie.Need-of-nodes-requires
-of-nodes-requires c κs = search needs
-
-number-requires : tie.Need-number-requires
-number-requires c κs = search needs
-
 returns : tie.Need-returns
 returns c =
     let e = c .before .before .of-nodes .ensures in (
@@ -52,9 +46,4 @@ pub connected-spec : {M : Type 1} → statement M
 connected-spec =
     tie.close
     (tie.spec
-    of-nodes-requires
-    number-requires
-    returns
-    nodes-requires
-    connected-requires
-    returns-2)
+    (λ c κs. search needs) (λ c κs. search needs) returns nodes-requires connected-requires returns-2)

@@ -8,12 +8,6 @@ use borrow.Author.Needs.{needs}
 use Rattle.questions.proofs.groups.Statement.{statement}
 use Rattle.questions.proofs.groups.Tie as tie
 
-of-words-requires : tie.Need-of-words-requires
-of-words-requires c κs = search needs
-
-number-requires : tie.Need-number-requires
-number-requires c κs = search needs
-
 returns : tie.Need-returns
 returns c =
     let e = c .before .before .of-words .ensures in
@@ -39,9 +33,4 @@ pub groups-spec : {M : Type 1} → statement M
 groups-spec =
     tie.close
     (tie.spec
-    of-words-requires
-    number-requires
-    returns
-    nodes-requires
-    groups-requires
-    returns-2)
+    (λ c κs. search needs) (λ c κs. search needs) returns nodes-requires groups-requires returns-2)

@@ -7,12 +7,6 @@ use Rattle.questions.proofs.Asked.{node-twice, leafset-refused, leafset
 use Rattle.questions.proofs.leafset_of.Statement.{statement}
 use Rattle.questions.proofs.leafset_of.Tie as tie
 
-of-nodes-requires : tie.Need-of-nodes-requires
-of-nodes-requires c κs = search needs
-
-number-requires : tie.Need-number-requires
-number-requires c κs = search needs
-
 returns : tie.Need-returns
 returns c =
     let start = c .before .before .before .before in
@@ -38,4 +32,7 @@ returns-2 c =
     )
 
 pub leafset-of-spec : {M : Type 1} → statement M
-leafset-of-spec = tie.close (tie.spec of-nodes-requires number-requires returns held-leafset-requires returns-2)
+leafset-of-spec =
+    tie.close
+    (tie.spec
+    (λ c κs. search needs) (λ c κs. search needs) returns held-leafset-requires returns-2)

@@ -16,9 +16,6 @@ use Rattle.switching.proofs.lose.Tie as tie
 messages-requires : tie.Need-messages-requires
 messages-requires c κs = long _ (c .before .before .pre)
 
-same-length : tie.Need-same-length
-same-length c = search needs
-
 returns : tie.Need-returns
 returns c =
     let a = c .before .before .before .before .args in
@@ -28,9 +25,6 @@ remove-requires : tie.Need-remove-requires
 remove-requires c κs =
     let start = c .before .before .before .before .before in
     (long _ (start .pre), omega (arith, room _ (start .pre), c .before .before .messages .ensures .0), omega arith)
-
-same-length-2 : tie.Need-same-length-2
-same-length-2 c = search needs
 
 returns-2 : tie.Need-returns-2
 unfolding after
@@ -45,4 +39,5 @@ returns-2 c =
 pub lose-spec : {M : Type 1} → statement M
 lose-spec =
     tie.close
-    (tie.spec messages-requires same-length returns remove-requires same-length-2 returns-2)
+    (tie.spec
+    messages-requires (λ c. search needs) returns remove-requires (λ c. search needs) returns-2)

@@ -17,12 +17,6 @@ use Rattle.switching.proofs.off.Tie as tie
 nodes-requires : tie.Need-nodes-requires
 nodes-requires c κs = long _ (c .before .before .pre)
 
-cast-if1 : tie.Need-cast-if1
-cast-if1 c = search needs
-
-same-length : tie.Need-same-length
-same-length c = search needs
-
 returns : tie.Need-returns
 returns c =
     let a = c .before .before .before .before .before .args in
@@ -30,9 +24,6 @@ returns c =
 
 is-running-requires : tie.Need-is-running-requires
 is-running-requires c κs = (long _ (c .before .before .before .before .before .before .pre), omega (arith, c .before .before .before .nodes .ensures .0))
-
-same-length-2 : tie.Need-same-length-2
-same-length-2 c = search needs
 
 returns-2 : tie.Need-returns-2
 returns-2 c =
@@ -46,9 +37,6 @@ stop-requires : tie.Need-stop-requires
 stop-requires c κs =
     let start = c .before .before .before .before .before .before .before .before .before in
     (long _ (start .pre), omega (arith, few _ (start .pre), c .before .before .before .before .before .before .nodes .ensures .0), omega (arith, c .before .before .before .before .before .before .nodes .ensures .0))
-
-same-length-3 : tie.Need-same-length-3
-same-length-3 c = search needs
 
 returns-3 : tie.Need-returns-3
 unfolding after
@@ -67,13 +55,5 @@ pub off-spec : {M : Type 1} → statement M
 off-spec =
     tie.close
     (tie.spec
-    nodes-requires
-    cast-if1
-    same-length
-    returns
-    is-running-requires
-    same-length-2
-    returns-2
-    stop-requires
-    same-length-3
-    returns-3)
+    nodes-requires (λ c. search needs) (λ c. search needs) returns is-running-requires (λ c. search needs) returns-2
+    stop-requires (λ c. search needs) returns-3)

@@ -18,12 +18,6 @@ use Rattle.switching.proofs.on.Tie as tie
 nodes-requires : tie.Need-nodes-requires
 nodes-requires c κs = long _ (c .before .before .pre)
 
-cast-if1 : tie.Need-cast-if1
-cast-if1 c = search needs
-
-same-length : tie.Need-same-length
-same-length c = search needs
-
 returns : tie.Need-returns
 returns c =
     let a = c .before .before .before .before .before .args in
@@ -31,9 +25,6 @@ returns c =
 
 is-running-requires : tie.Need-is-running-requires
 is-running-requires c κs = (long _ (c .before .before .before .before .before .before .pre), omega (arith, c .before .before .before .nodes .ensures .0))
-
-same-length-2 : tie.Need-same-length-2
-same-length-2 c = search needs
 
 returns-2 : tie.Need-returns-2
 returns-2 c =
@@ -45,9 +36,6 @@ returns-2 c =
 
 clock-requires : tie.Need-clock-requires
 clock-requires c κs = (long _ (c .before .before .before .before .before .before .before .before .before .pre), omega (arith, c .before .before .before .before .before .before .nodes .ensures .0))
-
-same-length-3 : tie.Need-same-length-3
-same-length-3 c = search needs
 
 returns-3 : tie.Need-returns-3
 returns-3 c =
@@ -71,9 +59,6 @@ start-requires c κs =
       omega (arith, c .before .before .clock .ensures, clock-high _ (start .pre) (start .args .x .0)),
     )
 
-same-length-4 : tie.Need-same-length-4
-same-length-4 c = search needs
-
 returns-4 : tie.Need-returns-4
 unfolding after
 returns-4 c =
@@ -94,17 +79,5 @@ pub on-spec : {M : Type 1} → statement M
 on-spec =
     tie.close
     (tie.spec
-    nodes-requires
-    cast-if1
-    same-length
-    returns
-    is-running-requires
-    same-length-2
-    returns-2
-    clock-requires
-    same-length-3
-    returns-3
-    add-t18
-    start-requires
-    same-length-4
-    returns-4)
+    nodes-requires (λ c. search needs) (λ c. search needs) returns is-running-requires (λ c. search needs) returns-2
+    clock-requires (λ c. search needs) returns-3 add-t18 start-requires (λ c. search needs) returns-4)

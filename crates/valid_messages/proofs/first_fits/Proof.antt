@@ -8,9 +8,6 @@ use Rattle.valid_messages.proofs.MessageTests.{first-test, low-tag, low
 use Rattle.valid_messages.proofs.first_fits.Statement.{statement}
 use Rattle.valid_messages.proofs.first_fits.Tie as tie
 
-subject-fits-requires : tie.Need-subject-fits-requires
-subject-fits-requires c κs = search needs
-
 returns : tie.Need-returns
 unfolding decodeMessage
 returns c ws t k e f g =
@@ -20,4 +17,7 @@ returns c ws t k e f g =
     (c .subject-fits .ensures t (decodeMessage ws k) e (rw (← f, low-tag w) (simp div-one)) (rw (← g, high-subject w))))
 
 pub first-fits-spec : {M : Type 1} → statement M
-first-fits-spec = tie.close (tie.spec subject-fits-requires returns)
+first-fits-spec =
+    tie.close
+    (tie.spec
+    (λ c κs. search needs) returns)

@@ -21,27 +21,6 @@ loop-holds : tie.Need-loop-holds Inv-loop μ-loop
 unfolding all
 loop-holds c = (zero-le, λ ws t from e h. refl)
 
-mul-first-fits : tie.Need-mul-first-fits Inv-loop μ-loop
-mul-first-fits c = search needs
-
-element-copy-out-first-fits : tie.Need-element-copy-out-first-fits Inv-loop μ-loop
-element-copy-out-first-fits c = search needs
-
-mul-first-fits-2 : tie.Need-mul-first-fits-2 Inv-loop μ-loop
-mul-first-fits-2 c = search needs
-
-element-copy-out-first-fits-2 : tie.Need-element-copy-out-first-fits-2 Inv-loop μ-loop
-element-copy-out-first-fits-2 c = search needs
-
-first-fits-requires : tie.Need-first-fits-requires Inv-loop μ-loop
-first-fits-requires c κs = search needs
-
-add-k : tie.Need-add-k Inv-loop μ-loop
-add-k c = search needs
-
-loop-less : tie.Need-loop-less Inv-loop μ-loop
-loop-less c = search needs
-
 loop-again : tie.Need-loop-again Inv-loop μ-loop
 loop-again c =
     let l = c .before .before .before .before .loop in (
@@ -59,15 +38,5 @@ pub halves-fit-spec : {M : Type 1} → statement M
 halves-fit-spec =
     tie.close
     (tie.spec
-    Inv-loop
-    μ-loop
-    loop-holds
-    mul-first-fits
-    element-copy-out-first-fits
-    mul-first-fits-2
-    element-copy-out-first-fits-2
-    first-fits-requires
-    add-k
-    loop-less
-    loop-again
-    returns)
+    Inv-loop μ-loop loop-holds (λ c. search needs) (λ c. search needs) (λ c. search needs) (λ c. search needs)
+    (λ c κs. search needs) (λ c. search needs) (λ c. search needs) loop-again returns)

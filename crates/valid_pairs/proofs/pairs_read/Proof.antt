@@ -18,39 +18,15 @@ Inv-loop words n links spares ok₀ bare₀ x₀ ok bare x = (x ≤ n) × (ok �
 abbrev μ-loop : tie.MeasureT-loop
 μ-loop words n links spares ok₀ bare₀ x₀ ok bare x = n - x
 
-array-write-links : tie.Need-array-write-links Inv-loop μ-loop
-array-write-links c = search needs
-
-array-write-spares : tie.Need-array-write-spares Inv-loop μ-loop
-array-write-spares c = search needs
-
 loop-holds : tie.Need-loop-holds Inv-loop μ-loop
 unfolding all
 loop-holds c = (search needs, refl)
-
-row-reads-requires : tie.Need-row-reads-requires Inv-loop μ-loop
-row-reads-requires c κs = search needs
-
-add-x : tie.Need-add-x Inv-loop μ-loop
-add-x c = search needs
-
-loop-less : tie.Need-loop-less Inv-loop μ-loop
-loop-less c = search needs
 
 loop-again : tie.Need-loop-again Inv-loop μ-loop
 loop-again c =
     let l = c .before .before .before .before .before .loop in
     let a = c .before .before .before .before .before .before .before .args in
     (search needs, all-more (rowReads (now (a .words)) (a .n)) (l .x) _ _ (l .inv .1) (c .before .row-reads .ensures))
-
-mul-clear : tie.Need-mul-clear Inv-loop μ-loop
-mul-clear c = search needs
-
-add-clear : tie.Need-add-clear Inv-loop μ-loop
-add-clear c = search needs
-
-clear-requires : tie.Need-clear-requires Inv-loop μ-loop
-clear-requires c κs = search needs
 
 returns : tie.Need-returns Inv-loop μ-loop
 unfolding pairsRead
@@ -66,16 +42,5 @@ pub pairs-read-spec : {M : Type 1} → statement M
 pairs-read-spec =
     tie.close
     (tie.spec
-    Inv-loop
-    μ-loop
-    array-write-links
-    array-write-spares
-    loop-holds
-    row-reads-requires
-    add-x
-    loop-less
-    loop-again
-    mul-clear
-    add-clear
-    clear-requires
-    returns)
+    Inv-loop μ-loop (λ c. search needs) (λ c. search needs) loop-holds (λ c κs. search needs) (λ c. search needs)
+    (λ c. search needs) loop-again (λ c. search needs) (λ c. search needs) (λ c κs. search needs) returns)

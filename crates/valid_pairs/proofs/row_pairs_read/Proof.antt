@@ -11,54 +11,12 @@ use borrow.Author.Needs.{needs}
 use Rattle.valid_pairs.proofs.row_pairs_read.Statement.{statement}
 use Rattle.valid_pairs.proofs.row_pairs_read.Tie as tie
 
-mul-own : tie.Need-mul-own
-mul-own c = search needs
-
-add-own : tie.Need-add-own
-add-own c = search needs
-
-mul-own-2 : tie.Need-mul-own-2
-mul-own-2 c = search needs
-
-add-own-2 : tie.Need-add-own-2
-add-own-2 c = search needs
-
-mul-if1 : tie.Need-mul-if1
-mul-if1 c = search needs
-
-shared-slice-read-if1 : tie.Need-shared-slice-read-if1
-shared-slice-read-if1 c = search needs
-
-add-if1 : tie.Need-add-if1
-add-if1 c = search needs
-
-mul-if1-2 : tie.Need-mul-if1-2
-mul-if1-2 c = search needs
-
-shared-slice-read-if1-2 : tie.Need-shared-slice-read-if1-2
-shared-slice-read-if1-2 c = search needs
-
 returns : tie.Need-returns
 returns c =
     let start = c .before .before .before .before in
     let ws = now (start .args .words) in
     let x = start .args .x in
     sym (own-not-clear ws (start .args .n) x (start .pre .few) (start .pre .node) (not-true (eqb (bitOr (linkAt ws x x) (spareAt ws x x)) 0) (c .if1 .taken)))
-
-mul-if2 : tie.Need-mul-if2
-mul-if2 c = search needs
-
-add-if2 : tie.Need-add-if2
-add-if2 c = search needs
-
-mul-if2-2 : tie.Need-mul-if2-2
-mul-if2-2 c = search needs
-
-shared-slice-read-if2 : tie.Need-shared-slice-read-if2
-shared-slice-read-if2 c = search needs
-
-off-row-requires : tie.Need-off-row-requires
-off-row-requires c κs = search needs
 
 returns-2 : tie.Need-returns-2
 returns-2 c =
@@ -83,21 +41,7 @@ pub row-pairs-read-spec : {M : Type 1} → statement M
 row-pairs-read-spec =
     tie.close
     (tie.spec
-    mul-own
-    add-own
-    mul-own-2
-    add-own-2
-    mul-if1
-    shared-slice-read-if1
-    add-if1
-    mul-if1-2
-    shared-slice-read-if1-2
-    returns
-    mul-if2
-    add-if2
-    mul-if2-2
-    shared-slice-read-if2
-    off-row-requires
-    returns-2
-    running-pairs-read-requires
-    returns-3)
+    (λ c. search needs) (λ c. search needs) (λ c. search needs) (λ c. search needs) (λ c. search needs)
+    (λ c. search needs) (λ c. search needs) (λ c. search needs) (λ c. search needs) returns (λ c. search needs)
+    (λ c. search needs) (λ c. search needs) (λ c. search needs) (λ c κs. search needs) returns-2
+    running-pairs-read-requires returns-3)

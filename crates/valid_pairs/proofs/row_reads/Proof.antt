@@ -10,36 +10,6 @@ use borrow.Author.Needs.{needs}
 use Rattle.valid_pairs.proofs.row_reads.Statement.{statement}
 use Rattle.valid_pairs.proofs.row_reads.Tie as tie
 
-row-pairs-read-requires : tie.Need-row-pairs-read-requires
-row-pairs-read-requires c κs = search needs
-
-mul-clear : tie.Need-mul-clear
-mul-clear c = search needs
-
-add-clear : tie.Need-add-clear
-add-clear c = search needs
-
-mul-clear-2 : tie.Need-mul-clear-2
-mul-clear-2 c = search needs
-
-add-clear-2 : tie.Need-add-clear-2
-add-clear-2 c = search needs
-
-mul-clear-3 : tie.Need-mul-clear-3
-mul-clear-3 c = search needs
-
-add-clear-3 : tie.Need-add-clear-3
-add-clear-3 c = search needs
-
-mul-clear-4 : tie.Need-mul-clear-4
-mul-clear-4 c = search needs
-
-add-clear-4 : tie.Need-add-clear-4
-add-clear-4 c = search needs
-
-clear-requires : tie.Need-clear-requires
-clear-requires c κs = search needs
-
 returns : tie.Need-returns
 unfolding rowReads
 returns c =
@@ -51,14 +21,5 @@ pub row-reads-spec : {M : Type 1} → statement M
 row-reads-spec =
     tie.close
     (tie.spec
-    row-pairs-read-requires
-    mul-clear
-    add-clear
-    mul-clear-2
-    add-clear-2
-    mul-clear-3
-    add-clear-3
-    mul-clear-4
-    add-clear-4
-    clear-requires
-    returns)
+    (λ c κs. search needs) (λ c. search needs) (λ c. search needs) (λ c. search needs) (λ c. search needs)
+    (λ c. search needs) (λ c. search needs) (λ c. search needs) (λ c. search needs) (λ c κs. search needs) returns)

@@ -8,9 +8,6 @@ use borrow.Author.Needs.{needs}
 use Rattle.valid_pairs.proofs.running_pairs_read.Statement.{statement}
 use Rattle.valid_pairs.proofs.running_pairs_read.Tie as tie
 
-whole-row-requires : tie.Need-whole-row-requires
-whole-row-requires c κs = search needs
-
 returns : tie.Need-returns
 returns c =
     let start = c .before .before .before in
@@ -20,9 +17,6 @@ returns c =
     let p = start .pre .0 in
     let q = start .pre .1 in
     c .whole-row .ensures ∙ whole-reads ws n x (p .few) (p .node) (q .own-link, q .own-spare) (q .runs)
-
-running-row-requires : tie.Need-running-row-requires
-running-row-requires c κs = search needs
 
 returns-2 : tie.Need-returns-2
 returns-2 c =
@@ -49,9 +43,6 @@ returns-3 c =
     let g : sparesRead ws n x (p .few) (p .node) ≡ true = bare-reads ws n x (p .few) (p .node) (sym (c .before .before .before .running-row .ensures .1) ∙ c .if3 .taken) in
     e ∙ (rw (f, g) at (running-reads ws n x (p .few) (p .node) (q .own-link, q .own-spare) (q .runs)))
 
-whole-row-requires-2 : tie.Need-whole-row-requires-2
-whole-row-requires-2 c κs = search needs
-
 returns-4 : tie.Need-returns-4
 returns-4 c =
     let start = c .before .before .before .before .before .before .before in
@@ -66,10 +57,4 @@ pub running-pairs-read-spec : {M : Type 1} → statement M
 running-pairs-read-spec =
     tie.close
     (tie.spec
-    whole-row-requires
-    returns
-    running-row-requires
-    returns-2
-    returns-3
-    whole-row-requires-2
-    returns-4)
+    (λ c κs. search needs) returns (λ c κs. search needs) returns-2 returns-3 (λ c κs. search needs) returns-4)

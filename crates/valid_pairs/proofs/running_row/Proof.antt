@@ -25,90 +25,9 @@ Inv-loop words links spares x n most link₀ late₀ spare₀ z₀ link late spa
 abbrev μ-loop : tie.MeasureT-loop
 μ-loop words links spares x n most link₀ late₀ spare₀ z₀ link late spare z = n - z
 
-mul-most : tie.Need-mul-most Inv-loop μ-loop
-mul-most c = search needs
-
-add-most : tie.Need-add-most Inv-loop μ-loop
-add-most c = search needs
-
-add-most-2 : tie.Need-add-most-2 Inv-loop μ-loop
-add-most-2 c = search needs
-
-mul-most-2 : tie.Need-mul-most-2 Inv-loop μ-loop
-mul-most-2 c = search needs
-
-shared-slice-read-most : tie.Need-shared-slice-read-most Inv-loop μ-loop
-shared-slice-read-most c = search needs
-
-add-most-3 : tie.Need-add-most-3 Inv-loop μ-loop
-add-most-3 c = search needs
-
 loop-holds : tie.Need-loop-holds Inv-loop μ-loop
 unfolding all
 loop-holds c = (search needs, refl, refl, refl, refl)
-
-mul-at : tie.Need-mul-at Inv-loop μ-loop
-mul-at c = search needs
-
-add-at : tie.Need-add-at Inv-loop μ-loop
-add-at c = search needs
-
-mul-at-2 : tie.Need-mul-at-2 Inv-loop μ-loop
-mul-at-2 c = search needs
-
-add-at-2 : tie.Need-add-at-2 Inv-loop μ-loop
-add-at-2 c = search needs
-
-mul-lifted : tie.Need-mul-lifted Inv-loop μ-loop
-mul-lifted c = search needs
-
-shared-slice-read-lifted : tie.Need-shared-slice-read-lifted Inv-loop μ-loop
-shared-slice-read-lifted c = search needs
-
-sub-lifted : tie.Need-sub-lifted Inv-loop μ-loop
-sub-lifted c = search needs
-
-add-lifted : tie.Need-add-lifted Inv-loop μ-loop
-add-lifted c = search needs
-
-mul-lifted-2 : tie.Need-mul-lifted-2 Inv-loop μ-loop
-mul-lifted-2 c = search needs
-
-element-copy-out-lifted : tie.Need-element-copy-out-lifted Inv-loop μ-loop
-element-copy-out-lifted c = search needs
-
-lifted-requires : tie.Need-lifted-requires Inv-loop μ-loop
-lifted-requires c κs = search needs
-
-wrapping-sub-u32-requires : tie.Need-wrapping-sub-u32-requires Inv-loop μ-loop
-wrapping-sub-u32-requires c κs = search needs
-
-add-spare : tie.Need-add-spare Inv-loop μ-loop
-add-spare c = search needs
-
-mul-spare : tie.Need-mul-spare Inv-loop μ-loop
-mul-spare c = search needs
-
-shared-slice-read-spare : tie.Need-shared-slice-read-spare Inv-loop μ-loop
-shared-slice-read-spare c = search needs
-
-sub-spare : tie.Need-sub-spare Inv-loop μ-loop
-sub-spare c = search needs
-
-add-spare-2 : tie.Need-add-spare-2 Inv-loop μ-loop
-add-spare-2 c = search needs
-
-mul-spare-2 : tie.Need-mul-spare-2 Inv-loop μ-loop
-mul-spare-2 c = search needs
-
-element-copy-out-spare : tie.Need-element-copy-out-spare Inv-loop μ-loop
-element-copy-out-spare c = search needs
-
-add-z : tie.Need-add-z Inv-loop μ-loop
-add-z c = search needs
-
-loop-less : tie.Need-loop-less Inv-loop μ-loop
-loop-less c = search needs
 
 loop-again : tie.Need-loop-again Inv-loop μ-loop
 loop-again c =
@@ -143,35 +62,9 @@ pub running-row-spec : {M : Type 1} → statement M
 running-row-spec =
     tie.close
     (tie.spec
-    Inv-loop
-    μ-loop
-    mul-most
-    add-most
-    add-most-2
-    mul-most-2
-    shared-slice-read-most
-    add-most-3
-    loop-holds
-    mul-at
-    add-at
-    mul-at-2
-    add-at-2
-    mul-lifted
-    shared-slice-read-lifted
-    sub-lifted
-    add-lifted
-    mul-lifted-2
-    element-copy-out-lifted
-    lifted-requires
-    wrapping-sub-u32-requires
-    add-spare
-    mul-spare
-    shared-slice-read-spare
-    sub-spare
-    add-spare-2
-    mul-spare-2
-    element-copy-out-spare
-    add-z
-    loop-less
-    loop-again
-    returns)
+    Inv-loop μ-loop (λ c. search needs) (λ c. search needs) (λ c. search needs) (λ c. search needs) (λ c. search needs)
+    (λ c. search needs) loop-holds (λ c. search needs) (λ c. search needs) (λ c. search needs) (λ c. search needs)
+    (λ c. search needs) (λ c. search needs) (λ c. search needs) (λ c. search needs) (λ c. search needs)
+    (λ c. search needs) (λ c κs. search needs) (λ c κs. search needs) (λ c. search needs) (λ c. search needs)
+    (λ c. search needs) (λ c. search needs) (λ c. search needs) (λ c. search needs) (λ c. search needs)
+    (λ c. search needs) (λ c. search needs) loop-again returns)

@@ -8,16 +8,10 @@ use Rattle.valid_rests.proofs.part.Tie as tie
 returns : tie.Need-returns
 returns c = (rw (le-leb (c .before .args .n) (c .before .args .from) (omega arith)), omega arith)
 
-sub-if2 : tie.Need-sub-if2
-sub-if2 c = search needs
-
 returns-2 : tie.Need-returns-2
 returns-2 c =
     let a = c .before .before .args in
     (rw (lt-leb (a .n) (a .from) (omega arith), le-leb 24 (a .n - a .from) (omega arith)), omega arith)
-
-sub-result : tie.Need-sub-result
-sub-result c = search needs
 
 returns-3 : tie.Need-returns-3
 returns-3 c =
@@ -25,4 +19,7 @@ returns-3 c =
     (rw (lt-leb (a .n) (a .from) (omega arith), lt-leb 24 (a .n - a .from) (omega arith)), omega arith)
 
 pub part-spec : {M : Type 1} → statement M
-part-spec = tie.close (tie.spec returns sub-if2 returns-2 sub-result returns-3)
+part-spec =
+    tie.close
+    (tie.spec
+    returns (λ c. search needs) returns-2 (λ c. search needs) returns-3)

@@ -4,15 +4,6 @@ use borrow.Author.Needs.{needs}
 use Rattle.valid_rests.proofs.rests_read.Statement.{statement}
 use Rattle.valid_rests.proofs.rests_read.Tie as tie
 
-of-types-requires : tie.Need-of-types-requires
-of-types-requires c κs = search needs
-
-of-receivers-requires : tie.Need-of-receivers-requires
-of-receivers-requires c κs = search needs
-
-nothing-wrong-requires : tie.Need-nothing-wrong-requires
-nothing-wrong-requires c κs = search needs
-
 returns : tie.Need-returns
 returns c t e =
     let start = c .before .before .before .before .before .before in
@@ -22,4 +13,6 @@ returns c t e =
 
 pub rests-read-spec : {M : Type 1} → statement M
 rests-read-spec =
-    tie.close (tie.spec of-types-requires of-receivers-requires nothing-wrong-requires returns)
+    tie.close
+    (tie.spec
+    (λ c κs. search needs) (λ c κs. search needs) (λ c κs. search needs) returns)

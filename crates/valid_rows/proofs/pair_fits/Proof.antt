@@ -5,9 +5,6 @@ use Rattle.valid_rows.proofs.PairTest.{pair-test}
 use Rattle.valid_rows.proofs.pair_fits.Statement.{statement}
 use Rattle.valid_rows.proofs.pair_fits.Tie as tie
 
-wrapping-sub-u32-requires : tie.Need-wrapping-sub-u32-requires
-wrapping-sub-u32-requires c κs = search needs
-
 returns : tie.Need-returns
 returns c =
     let a = c .before .args in
@@ -15,4 +12,7 @@ returns c =
     pair-test (a .clock) (a .n) (a .x) (a .z) (a .w) (a .p) _ (c .wrapping-sub-u32 .result) _ (p .0) (p .1) (p .2) (p .3) (omega arith) (omega arith) refl (c .wrapping-sub-u32 .ensures) refl
 
 pub pair-fits-spec : {M : Type 1} → statement M
-pair-fits-spec = tie.close (tie.spec wrapping-sub-u32-requires returns)
+pair-fits-spec =
+    tie.close
+    (tie.spec
+    (λ c κs. search needs) returns)

@@ -4,12 +4,6 @@ use Rattle.questions.proofs.Asked.{refused-words, groups-reads, after-w
 use Rattle.questions.proofs.refusals.of_nodes.Statement.{statement}
 use Rattle.questions.proofs.refusals.of_nodes.Tie as tie
 
-of-words-requires : tie.Need-of-words-requires
-of-words-requires c κs = search needs
-
-number-requires : tie.Need-number-requires
-number-requires c κs = search needs
-
 returns : tie.Need-returns
 returns c =
     let start = c .before .before .before .before in
@@ -28,4 +22,7 @@ returns-2 c =
     (asked-accepted (c .before .before .before .of-words .ensures) (c .before .before .number .ensures) (c .before .if1 .left)) (c .of-ring .ensures)
 
 pub of-nodes-spec : {M : Type 1} → statement M
-of-nodes-spec = tie.close (tie.spec of-words-requires number-requires returns of-ring-requires returns-2)
+of-nodes-spec =
+    tie.close
+    (tie.spec
+    (λ c κs. search needs) (λ c κs. search needs) returns of-ring-requires returns-2)

@@ -14,16 +14,10 @@ use Rattle.questions.proofs.refusals.of_ring.Tie as tie
 nodes-requires : tie.Need-nodes-requires
 nodes-requires c κs = long _ (c .before .pre)
 
-cast-if1 : tie.Need-cast-if1
-cast-if1 c = search needs
-
 returns : tie.Need-returns
 returns c =
     let start = c .before .before .before .before in
     sym (here _ _ (out-of-table (start .args .words .now) (start .args .a .0) (omega (arith, c .before .before .nodes .ensures .0))))
-
-cast-if2 : tie.Need-cast-if2
-cast-if2 c = search needs
 
 returns-2 : tie.Need-returns-2
 returns-2 c =
@@ -70,12 +64,5 @@ pub of-ring-spec : {M : Type 1} → statement M
 of-ring-spec =
     tie.close
     (tie.spec
-    nodes-requires
-    cast-if1
-    returns
-    cast-if2
-    returns-2
-    is-running-requires
-    is-running-requires-2
-    returns-3
-    returns-4)
+    nodes-requires (λ c. search needs) returns (λ c. search needs) returns-2 is-running-requires is-running-requires-2
+    returns-3 returns-4)

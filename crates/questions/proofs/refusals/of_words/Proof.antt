@@ -12,9 +12,6 @@ returns : tie.Need-returns
 unfolding groupsAnswer
 returns c = sym (here _ _ (wrong-length (c .before .before .args .words .now) (c .if1 .taken)))
 
-reads-as-ring-requires : tie.Need-reads-as-ring-requires
-reads-as-ring-requires c κs = search needs
-
 returns-2 : tie.Need-returns-2
 unfolding groupsAnswer
 returns-2 c =
@@ -33,4 +30,7 @@ returns-3 c =
     ∙ no-more)
 
 pub of-words-spec : {M : Type 1} → statement M
-of-words-spec = tie.close (tie.spec returns reads-as-ring-requires returns-2 returns-3)
+of-words-spec =
+    tie.close
+    (tie.spec
+    returns (λ c κs. search needs) returns-2 returns-3)
