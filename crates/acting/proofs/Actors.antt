@@ -16,7 +16,7 @@ use Rattle.model.specs.declared.node.NodeRecord.{NodeRecord}
 use Rattle.model.proofs.Answers.{none-applies}
 use Rattle.model.proofs.Decoded.{reads-well}
 use Rattle.model.proofs.Lists.{first, rest}
-use Rattle.pairs.specs.Pairs.{LoadedNode}
+use Rattle.node_records.specs.Loaded.{LoadedNode}
 use Rattle.effects.specs.Effects.{OwnFits}
 use Rattle.effects.proofs.WellFormed as protocol
 use Rattle.acting.specs.Acting.{mayAct}

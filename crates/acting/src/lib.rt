@@ -28,10 +28,10 @@ pub fn may_act(words: &[u32], x: NodeNumber) -> Answer
     if head::nodes(words) <= x.0 as usize {
         return Answer::OutOfTable;
     }
-    if !nodes::is_running(words, x) {
+    if !node_words::is_running(words, x) {
         return Answer::NodeOff;
     }
-    if nodes::clock(words, x).0 == LAST {
+    if node_words::clock(words, x).0 == LAST {
         return Answer::ClockSpent;
     }
     Answer::Accepted
@@ -44,8 +44,8 @@ pub fn load(words: &[u32], x: NodeNumber) -> Actor
 {
     let n = head::nodes(words);
     let m = head::messages(words);
-    let clock = nodes::clock(words, x).0;
-    let own = pairs::load(words, n, x);
+    let clock = node_words::clock(words, x).0;
+    let own = node_records::load(words, n, x);
     Actor {
         n,
         m,

@@ -1,4 +1,27 @@
 // What a call on lent words gives: an answer, and the words.
+ghost use mathlib.Core.Path.{_≡_};
+ghost use Rattle.model.specs.Answers.{numberOf};
+use model::answer::Answer;
 
 // The clock's last value: where it must rise, refusal 10.
 pub const LAST: u32 = 16_777_215;
+
+// Document 01's number of the answer.
+pub fn number(answer: Answer) -> u32
+    ensures { λ r. ⌜ r ≡ numberOf answer ⌝ }
+{
+    match answer {
+        Answer::Accepted => 0,
+        Answer::WrongLength => 1,
+        Answer::OpeningOutOfRange => 2,
+        Answer::BadKey => 3,
+        Answer::NotAnEvent => 4,
+        Answer::SameNode => 5,
+        Answer::NotARing => 6,
+        Answer::OutOfTable => 7,
+        Answer::NodeOff => 8,
+        Answer::AlreadyRunning => 9,
+        Answer::ClockSpent => 10,
+        Answer::PoolFull => 11,
+    }
+}

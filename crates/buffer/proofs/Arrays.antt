@@ -4,10 +4,8 @@ use mathlib.Core.List.{List}
 use Prim.Native.Nat.{ℕ, zero, suc, _+_, _<_, _≤_}
 use native.Mathlib.Omega.{arith}
 use native.Mathlib.Decide.{decLt}
-use lib.ListN.{length, getD, take, set, length-set, replicate}
-use lib.Seq.{ext-getD, getD-take, length-take-le, getD-set-same, getD-set-other}
-use Rattle.model.specs.Leafset.{size, key}
-use Rattle.model.specs.Words.{decodeTable}
+use lib.ListN.{length, getD, set, length-set, replicate}
+use lib.Seq.{getD-set-same, getD-set-other}
 
 -- f k at each k below z, and d from there on
 pub record Filled {A : Type 0} (value : A → ℕ) (l : List A) (d : A) (f : ℕ → ℕ) (z : ℕ) : Type 0 where
@@ -48,10 +46,3 @@ module _ {A : Type 0} (value : A → ℕ) (l : List A) (d : A) (f : ℕ → ℕ)
 
   pub fill-all : ((k : ℕ) → z ≤ k → f k ≡ value d) → (k : ℕ) → value (getD l k d) ≡ f k
   fill-all p k = elim (decLt k z) [ yes y ↦ e .low k y | no y ↦ ap value (e .rest k (omega arith)) ∙ sym (p k (omega arith)) ]
-
--- ---- the keys
-
-pub keys-all : (ws : List ℕ) (n : ℕ) (ks : List ℕ) → n ≡ size (decodeTable ws) → n ≤ 64 → Filled (λ k. k) ks 0 (key (decodeTable ws)) n → take n ks ≡ decodeTable ws .keys
-keys-all ws n ks e h l =
-    let t : length (take n ks) ≡ n = length-take-le n ks (omega (arith, l .long)) in
-    ext-getD 0 (take n ks) (decodeTable ws .keys) (t ∙ e) (λ i k. getD-take n ks i 0 (omega arith) ∙ l .low i (omega arith))

@@ -1,2 +1,2 @@
-// A ring in lent words: what every part of it builds on, and the first word and the keys.
+// A ring in lent words: what every part of it builds on, and the first word.
 pub mod head;

@@ -2,6 +2,7 @@
 use super::command::Command;
 use super::event_word;
 use super::memory;
+use answers::number;
 use model::answer::Answer;
 use model::values::NodeNumber;
 use opening::open;
@@ -17,7 +18,7 @@ pub struct Outcome {
 impl Outcome {
     pub fn new(answer: Answer, value: u64) -> Outcome {
         Outcome {
-            answer: answer.number(),
+            answer: number(answer),
             value,
         }
     }

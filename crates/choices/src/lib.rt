@@ -10,6 +10,8 @@ use leafset::leafset::leafset;
 use model::values::Key;
 use model::values::NodeNumber;
 use nearness::Way;
+use nearness::clockwise;
+use nearness::distance;
 
 // "a stand's successor is its held stand nearest clockwise"; none for a node that holds nobody
 pub fn successor(keys: &[u32], x: NodeNumber, held: u64) -> NodeNumber
@@ -33,7 +35,7 @@ pub fn passes_zero(keys: &[u32], x: NodeNumber, held: u64) -> bool
     let at = x.0 as usize;
     let to = next.0 as usize;
     let from = Key(keys[at]);
-    from.clockwise(Key(0)) < from.clockwise(Key(keys[to]))
+    clockwise(from, Key(0)) < clockwise(from, Key(keys[to]))
 }
 
 // "the member of my leafset, other than a, nearest to a and strictly nearer to a than I am; of two equally near, the
@@ -51,7 +53,7 @@ pub fn closest(keys: &[u32], leaf: u32, x: NodeNumber, held: u64, a: NodeNumber)
     let y = nearness::nearest(keys, Way::Either, from, others);
     let me = x.0 as usize;
     let to = y.0 as usize;
-    if from.distance(Key(keys[to])) < from.distance(Key(keys[me])) {
+    if distance(from, Key(keys[to])) < distance(from, Key(keys[me])) {
         y
     } else {
         NodeNumber::NONE

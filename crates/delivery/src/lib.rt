@@ -15,6 +15,7 @@ ghost use Rattle.effects.specs.Effects.{Replies, Delivered};
 ghost use Rattle.acting.specs.Acting.{mayAct, IsActor};
 ghost use Rattle.answers.specs.Applied.{written, eventOn, applied};
 use acting::Actor;
+use answers::number;
 use buffer::head;
 use effects::reply::Reply;
 use model::answer::Answer;
@@ -32,12 +33,12 @@ pub fn deliver(words: &mut [u32], position: u16) -> Answer
     }
     let message = messages::load(words, k);
     let y = message.receiver;
-    if !nodes::is_running(words, y) {
+    if !node_words::is_running(words, y) {
         messages::remove(words, m, k);
         return Answer::Accepted;
     }
     let answer = acting::may_act(words, y);
-    if answer.number() != 0 {
+    if number(answer) != 0 {
         return answer;
     }
     receive(words, k, message)
@@ -62,7 +63,7 @@ fn step(words: &[u32], actor: Actor, message: MessageRecord) -> Reply
 {
     let n = actor.n;
     let leaf = head::leaf(words);
-    let keys = head::keys(words, n);
+    let keys = table::keys(words, n);
     protocol::deliver::deliver(
         &keys[..n],
         leaf,

@@ -13,6 +13,7 @@ ghost use Rattle.effects.specs.Effects.{OwnFits, Replies, CallsEach};
 ghost use Rattle.acting.specs.Acting.{IsActor};
 ghost use Rattle.answers.specs.Applied.{written, applied, eventOn};
 use acting::Actor;
+use answers::number;
 use buffer::head;
 use effects::reply::Calls;
 use effects::reply::Reply;
@@ -26,7 +27,7 @@ pub fn timer(words: &mut [u32], x: NodeNumber, k: u8) -> Answer
     ensures { λ r. ⌜ written r (now (words .exit)) ≡ eventOn (now (words .entry)) (Timer x k) ⌝ }
 {
     let answer = acting::may_act(words, x);
-    if answer.number() != 0 {
+    if number(answer) != 0 {
         return answer;
     }
     let actor = acting::load(words, x);
@@ -43,7 +44,7 @@ fn fire(words: &mut [u32], x: NodeNumber, k: u8, actor: Actor) -> Answer
     let time = actor.time;
     let own = actor.own;
     let leaf = head::leaf(words);
-    let keys = head::keys(words, n);
+    let keys = table::keys(words, n);
     let table = &keys[..n];
     if k < 3 {
         return applying::calls(words, n, m, x, time, calling(table, leaf, x, own, k));

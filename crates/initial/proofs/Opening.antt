@@ -19,7 +19,7 @@ use Rattle.model.proofs.Laws.{clash}
 use Rattle.spans.specs.Spans.{Patched}
 use Rattle.spans.proofs.Patches.{patched-more}
 use Rattle.buffer.proofs.Holds.{encoded, head-at, cover, pair-yes}
-use Rattle.pairs.specs.Pairs.{Stored}
+use Rattle.pairs.specs.Stored.{Stored}
 use Rattle.pairs.proofs.Stores.{two, row-pair, row-other}
 use Rattle.initial.specs.Rows.{Rows}
 

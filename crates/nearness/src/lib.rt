@@ -1,6 +1,7 @@
 // How far the members of a set lie from a key, and the member that lies nearest.
 ghost use mathlib.Core.Path.{_≡_};
 ghost use lib.ListN.{length};
+ghost use Rattle.model.specs.Key.{clockwise as clockwiseOf, distance as distanceOf};
 ghost use Rattle.model.specs.Sets.{ofBits};
 ghost use Rattle.sets.specs.Within.{Within};
 ghost use Rattle.nearness.specs.Span.{rankOf, spanOf, spanTo, Found};
@@ -14,12 +15,28 @@ pub enum Way {
     Either,
 }
 
+// The clockwise distance. Every distance goes through it.
+pub fn clockwise(from: Key, to: Key) -> u32
+    ensures { λ r. ⌜ r ≡ clockwiseOf (from .0) (to .0) ⌝ }
+{
+    std::num::wrapping_sub_u32(to.0, from.0) % 16_777_216
+}
+
+// The smaller of the two distances between the keys.
+pub fn distance(from: Key, to: Key) -> u32
+    ensures { λ r. ⌜ r ≡ distanceOf (from .0) (to .0) ⌝ }
+{
+    let there = clockwise(from, to);
+    let back = clockwise(to, from);
+    if there <= back { there } else { back }
+}
+
 // By distance; of two equally near, the clockwise one first.
 fn rank(from: Key, to: Key) -> u32
     ensures { λ r. ⌜ r ≡ rankOf (from .0) (to .0) ⌝ }
 {
-    let there = from.clockwise(to);
-    let back = to.clockwise(from);
+    let there = clockwise(from, to);
+    let back = clockwise(to, from);
     if there <= back {
         2 * there
     } else {
@@ -31,8 +48,8 @@ pub fn span(way: Way, from: Key, to: Key) -> u32
     ensures { λ r. ⌜ r ≡ spanOf way (from .0) (to .0) ⌝ }
 {
     match way {
-        Way::Clockwise => from.clockwise(to),
-        Way::CounterClockwise => to.clockwise(from),
+        Way::Clockwise => clockwise(from, to),
+        Way::CounterClockwise => clockwise(to, from),
         Way::Either => rank(from, to),
     }
 }

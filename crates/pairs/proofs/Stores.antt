@@ -10,7 +10,7 @@ use lib.ListN.{length, getD, set, length-set}
 use lib.Seq.{getD-set-same, getD-set-other}
 use Rattle.model.specs.Ring.{Own}
 use Rattle.model.specs.Words.{pairWord, spareWord, pairWords, pairPlace}
-use Rattle.pairs.specs.Pairs.{Stored}
+use Rattle.pairs.specs.Stored.{Stored}
 
 -- two words written side by side
 module _ (l : List ℕ) (p a b : ℕ) where

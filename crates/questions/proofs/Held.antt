@@ -11,7 +11,7 @@ use Rattle.model.specs.Structs.{tableOf}
 use Rattle.model.specs.declared.node.NodeRecord.{NodeRecord}
 use Rattle.model.proofs.Decoded.{reads-well}
 use Rattle.leafset.specs.Table.{InTable}
-use Rattle.pairs.specs.Pairs.{LoadedNode}
+use Rattle.node_records.specs.Loaded.{LoadedNode}
 use Rattle.buffer.proofs.ReadRing.{read-sizes}
 use Rattle.answers.proofs.Valid.{few}
 

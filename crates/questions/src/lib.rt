@@ -10,6 +10,7 @@ ghost use Rattle.model.specs.Questions.{leafsetAnswer, leafsetOf, connectionAns
 
 mod refusals;
 
+use answers::number;
 use buffer::head;
 use leafset::leafset::leafset;
 use model::answer::Answer;
@@ -38,7 +39,7 @@ pub fn leafset_of(words: &[u32], x: NodeNumber) -> LeafsetAnswer
     ensures { λ r. ⌜ (r .answer ≡ leafsetAnswer (now (words .entry)) (x .0)) × (r .set ≡ leafsetOf (now (words .entry)) (x .0)) ⌝ }
 {
     let answer = refusals::of_nodes(words, x, x);
-    if answer.number() != 0 {
+    if number(answer) != 0 {
         return LeafsetAnswer { answer, set: 0 };
     }
     LeafsetAnswer {
@@ -52,7 +53,7 @@ pub fn connected(words: &[u32], a: NodeNumber, b: NodeNumber) -> ConnectionAnswe
     ensures { λ r. ⌜ (r .answer ≡ connectionAnswer (now (words .entry)) (a .0) (b .0)) × (r .connected ≡ connectionOf (now (words .entry)) (a .0) (b .0)) ⌝ }
 {
     let answer = refusals::of_nodes(words, a, b);
-    if answer.number() != 0 {
+    if number(answer) != 0 {
         return ConnectionAnswer {
             answer,
             connected: false,
@@ -70,7 +71,7 @@ pub fn groups(words: &[u32]) -> GroupsAnswer
     ensures { λ r. ⌜ (r .answer ≡ groupsAnswer (now (words .entry))) × (r .groups ≡ groupsOf (now (words .entry))) ⌝ }
 {
     let answer = refusals::of_words(words);
-    if answer.number() != 0 {
+    if number(answer) != 0 {
         return GroupsAnswer { answer, groups: 0 };
     }
     let n = head::nodes(words);
@@ -86,8 +87,8 @@ fn held_leafset(words: &[u32], x: NodeNumber) -> u64
     ensures { λ r. ⌜ r ≡ toBits 64 (model.leafset (decode (now (words .entry)) .table) (x .0) (holds (decode (now (words .entry))) (x .0))) ⌝ }
 {
     let n = head::nodes(words);
-    let keys = head::keys(words, n);
+    let keys = table::keys(words, n);
     let leaf = head::leaf(words);
-    let own = pairs::load(words, n, x);
+    let own = node_records::load(words, n, x);
     leafset(&keys[..n], leaf, x, own.held)
 }

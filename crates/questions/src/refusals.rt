@@ -5,6 +5,7 @@ ghost use Rattle.model.specs.Answers.{firstOf};
 ghost use Rattle.model.specs.Words.{decode, readsAsRing};
 ghost use Rattle.model.specs.Questions.{connectionAnswer, groupsAnswer};
 ghost use Rattle.questions.specs.Asked.{nodesRefusals};
+use answers::number;
 use buffer::head;
 use model::answer::Answer;
 use model::values::NodeNumber;
@@ -34,7 +35,7 @@ fn of_ring(words: &[u32], a: NodeNumber, b: NodeNumber) -> Answer
     if n <= b.0 as usize {
         return Answer::OutOfTable;
     }
-    if !(nodes::is_running(words, a) & nodes::is_running(words, b)) {
+    if !(node_words::is_running(words, a) & node_words::is_running(words, b)) {
         return Answer::NodeOff;
     }
     Answer::Accepted
@@ -45,7 +46,7 @@ pub fn of_nodes(words: &[u32], a: NodeNumber, b: NodeNumber) -> Answer
     ensures { λ r. ⌜ r ≡ connectionAnswer (now (words .entry)) (a .0) (b .0) ⌝ }
 {
     let answer = of_words(words);
-    if answer.number() != 0 {
+    if number(answer) != 0 {
         return answer;
     }
     of_ring(words, a, b)

@@ -1,4 +1,5 @@
 // How a link is handed to a spare: the steps of message types 7 to 10.
+ghost use mathlib.Core.Path.{_≡_};
 ghost use Prim.Native.Nat.{ℕ, _<_, _≤_, _^_};
 ghost use lib.Dec.{ltb};
 ghost use lib.ListN.{length};
@@ -78,6 +79,13 @@ pub fn on_ping_replace(
     Reply::sending(next, answer)
 }
 
+// Whether a stamp is earlier than another of the same clock.
+fn is_before(stamp: Stamp, other: Stamp) -> bool
+    ensures { λ r. ⌜ r ≡ ltb (stamp .0) (other .0) ⌝ }
+{
+    stamp.0 < other.0
+}
+
 // "take y in; then, if z's commit is below the message's stamp, let go of z and set y's commit to now"
 fn replaced(time: Stamp, own: NodeRecord, y: NodeNumber, z: NodeNumber, stamp: Stamp) -> NodeRecord
     requires { ⌜ (time .0 < 2 ^ 24) × (y .0 < 64) × (z .0 < 64) × OwnFits 64 own ⌝ }
@@ -86,7 +94,7 @@ fn replaced(time: Stamp, own: NodeRecord, y: NodeNumber, z: NodeNumber, stamp: S
     let next = hold(own, time, y);
     let at = z.0 as usize;
     let commit = own.commit[at];
-    if !commit.is_before(stamp) {
+    if !is_before(commit, stamp) {
         return next;
     }
     set_commit(release(next, z), y, time)

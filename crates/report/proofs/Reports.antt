@@ -26,7 +26,7 @@ use Rattle.model.specs.declared.node.NodeRecord.{NodeRecord}
 use Rattle.model.proofs.Laws.{and-left, and-right, count-le}
 use Rattle.model.proofs.Words.{reads-out}
 use Rattle.buffer.proofs.ReadRing.{read-sizes}
-use Rattle.pairs.specs.Pairs.{LoadedNode}
+use Rattle.node_records.specs.Loaded.{LoadedNode}
 use Rattle.sets.specs.Rest.{IsRest}
 use Rattle.sets.proofs.Members.{length-members, members-next, count-to, members-to}
 use Rattle.sets.proofs.Bits.{first-bit, members-end}

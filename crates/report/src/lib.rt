@@ -53,7 +53,7 @@ fn put_node(words: &[u32], n: usize, x: NodeNumber, out: &mut [u8], at: usize) -
     requires { ⌜ (length (now words) ≡ ringLength) × (n ≡ size (decodeTable (now words))) × (n ≤ 64) × (x .0 < n) × (at + 1450 ≤ length (now out)) ⌝ }
     ensures { λ r. ⌜ Put (now (out .entry)) (now (out .exit)) at r (lineBytes (nodeLine (decode (now (words .entry))) (x .0))) × (r ≤ at + 1450) ⌝ }
 {
-    let own = pairs::load(words, n, x);
+    let own = node_records::load(words, n, x);
     let first = put_state(words, x, out, at);
     let second = put_held(out, first, own.held);
     lines::put_byte(out, second, NEWLINE)
@@ -65,9 +65,9 @@ fn put_state(words: &[u32], x: NodeNumber, out: &mut [u8], at: usize) -> usize
     ensures { λ r. ⌜ Put (now (out .entry)) (now (out .exit)) at r (stateBytes (decode (now (words .entry))) (x .0)) × (r ≤ at + 84) ⌝ }
 {
     let first = lines::put_number(out, at, x.0 as u64);
-    let second = lines::put_next(out, first, head::key(words, x).0 as u64);
-    let third = lines::put_next(out, second, nodes::is_running(words, x) as u64);
-    lines::put_next(out, third, nodes::clock(words, x).0 as u64)
+    let second = lines::put_next(out, first, table::key(words, x).0 as u64);
+    let third = lines::put_next(out, second, node_words::is_running(words, x) as u64);
+    lines::put_next(out, third, node_words::clock(words, x).0 as u64)
 }
 
 // Puts how many are held, and each of them.

@@ -6,6 +6,7 @@ ghost use Rattle.model.specs.Answers.{numberOf};
 ghost use Rattle.model.specs.Words.{readsAsRing};
 ghost use Rattle.model.specs.Structs.{tableOf};
 ghost use Rattle.ring.specs.Replay.{PlayedUpTo, Replayed};
+use answers::number;
 use model::answer::Answer;
 use opening::open;
 
@@ -14,7 +15,7 @@ fn note(answers: &mut [u8], i: usize, answer: Answer)
     ensures { λ _. ⌜ now (answers .exit) ≡ set (now (answers .entry)) i (numberOf answer) ⌝ }
 {
     if i < answers.len() {
-        answers[i] = answer.number() as u8;
+        answers[i] = number(answer) as u8;
     }
 }
 
@@ -40,7 +41,7 @@ pub fn replay(
     ensures { λ r. ⌜ Replayed (now (words .entry)) (tableOf leaf (now (keys .entry))) (now (script .entry)) (now (answers .entry)) r (now (words .exit)) (now (answers .exit)) ⌝ }
 {
     let opened = open(words, leaf, keys);
-    if opened.number() != 0 {
+    if number(opened) != 0 {
         return opened;
     }
     play_each(words, script, answers);

@@ -17,10 +17,10 @@ pub fn on(words: &mut [u32], x: NodeNumber) -> Answer
     if head::nodes(words) <= x.0 as usize {
         return Answer::OutOfTable;
     }
-    if nodes::is_running(words, x) {
+    if node_words::is_running(words, x) {
         return Answer::AlreadyRunning;
     }
-    let clock = nodes::clock(words, x).0;
+    let clock = node_words::clock(words, x).0;
     if clock == LAST {
         return Answer::ClockSpent;
     }
@@ -36,7 +36,7 @@ pub fn off(words: &mut [u32], x: NodeNumber) -> Answer
     if n <= x.0 as usize {
         return Answer::OutOfTable;
     }
-    if !nodes::is_running(words, x) {
+    if !node_words::is_running(words, x) {
         return Answer::NodeOff;
     }
     nodes::stop(words, n, x);

@@ -4,7 +4,7 @@ use native.Mathlib.Omega.{arith}
 use lib.ListN.{length-set}
 use borrow.Author.Needs.{needs}
 use Rattle.model.specs.Ring.{cleared}
-use Rattle.pairs.specs.Pairs.{Stored}
+use Rattle.pairs.specs.Stored.{Stored}
 use Rattle.pairs.proofs.Stores.{stored-none, stored-more}
 use Rattle.pairs.proofs.clear.Statement.{statement}
 use Rattle.pairs.proofs.clear.Tie as tie

@@ -5,7 +5,7 @@ use lib.ListN.{length-set}
 use borrow.Author.Needs.{needs}
 use Rattle.model.specs.Words.{spareWord}
 use Rattle.model.specs.Structs.{ownOf}
-use Rattle.pairs.specs.Pairs.{Stored}
+use Rattle.pairs.specs.Stored.{Stored}
 use Rattle.sets.proofs.Arrays.{spare-read}
 use Rattle.pairs.proofs.Stores.{stored-none, stored-more}
 use Rattle.pairs.proofs.store.Statement.{statement}
