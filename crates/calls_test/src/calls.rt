@@ -2,7 +2,6 @@
 use super::command::Command;
 use super::event_word;
 use super::memory;
-use answers::number;
 use model::answer::Answer;
 use model::values::NodeNumber;
 use opening::open;
@@ -18,7 +17,7 @@ pub struct Outcome {
 impl Outcome {
     pub fn new(answer: Answer, value: u64) -> Outcome {
         Outcome {
-            answer: number(answer),
+            answer: answers::number(answer),
             value,
         }
     }

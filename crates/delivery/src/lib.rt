@@ -15,7 +15,6 @@ ghost use Rattle.effects.specs.Effects.{Replies, Delivered};
 ghost use Rattle.acting.specs.Acting.{mayAct, IsActor};
 ghost use Rattle.answers.specs.Applied.{written, eventOn, applied};
 use acting::Actor;
-use answers::number;
 use buffer::head;
 use effects::reply::Reply;
 use model::answer::Answer;
@@ -38,7 +37,7 @@ pub fn deliver(words: &mut [u32], position: u16) -> Answer
         return Answer::Accepted;
     }
     let answer = acting::may_act(words, y);
-    if number(answer) != 0 {
+    if answers::number(answer) != 0 {
         return answer;
     }
     receive(words, k, message)

@@ -13,7 +13,6 @@ ghost use Rattle.effects.specs.Effects.{OwnFits, Replies, CallsEach};
 ghost use Rattle.acting.specs.Acting.{IsActor};
 ghost use Rattle.answers.specs.Applied.{written, applied, eventOn};
 use acting::Actor;
-use answers::number;
 use buffer::head;
 use effects::reply::Calls;
 use effects::reply::Reply;
@@ -27,7 +26,7 @@ pub fn timer(words: &mut [u32], x: NodeNumber, k: u8) -> Answer
     ensures { λ r. ⌜ written r (now (words .exit)) ≡ eventOn (now (words .entry)) (Timer x k) ⌝ }
 {
     let answer = acting::may_act(words, x);
-    if number(answer) != 0 {
+    if answers::number(answer) != 0 {
         return answer;
     }
     let actor = acting::load(words, x);

@@ -6,7 +6,6 @@ ghost use Rattle.model.specs.Words.{decode, readsAsRing};
 ghost use Rattle.model.specs.declared.event.Event.the-variants.{Notice, Contact};
 ghost use Rattle.answers.specs.Applied.{written, eventOn};
 ghost use Rattle.meeting.specs.Meeting.{mayMeet};
-use answers::number;
 use buffer::head;
 use model::answer::Answer;
 use model::values::NodeNumber;
@@ -28,7 +27,7 @@ pub fn contact(words: &mut [u32], x: NodeNumber, y: NodeNumber) -> Answer
     ensures { λ r. ⌜ written r (now (words .exit)) ≡ eventOn (now (words .entry)) (Contact x y) ⌝ }
 {
     let answer = may_meet(words, x, y);
-    if number(answer) != 0 {
+    if answers::number(answer) != 0 {
         return answer;
     }
     let a = acting::load(words, x);
@@ -41,7 +40,7 @@ pub fn notice(words: &mut [u32], x: NodeNumber, z: NodeNumber) -> Answer
     ensures { λ r. ⌜ written r (now (words .exit)) ≡ eventOn (now (words .entry)) (Notice x z) ⌝ }
 {
     let answer = may_meet(words, x, z);
-    if number(answer) != 0 {
+    if answers::number(answer) != 0 {
         return answer;
     }
     let a = acting::load(words, x);

@@ -10,7 +10,6 @@ ghost use Rattle.model.specs.Events.{wordAnswer};
 ghost use Rattle.ring.specs.Replay.{Replayed};
 ghost use Rattle.event_parts.specs.Parts.{numbers, readParts, partsAnswer, writeParts};
 ghost use Rattle.mekvalgs.specs.Nodes.{nodeOf};
-use answers::number;
 use model::values::NodeNumber;
 use opening::open;
 use ring::play;
@@ -21,7 +20,7 @@ use ring::replay;
 pub extern "C" fn mekvalgs_open(words: &mut [u32], leaf: u32, keys: &[u32]) -> u32
     ensures { λ r. ⌜ (r ≡ numberOf (openBuffer (now (words .entry)) (tableOf leaf (now (keys .entry))) .answer)) × (now (words .exit) ≡ openBuffer (now (words .entry)) (tableOf leaf (now (keys .entry))) .words) ⌝ }
 {
-    number(open(words, leaf, keys))
+    answers::number(open(words, leaf, keys))
 }
 
 // Plays an event word.
@@ -29,7 +28,7 @@ pub extern "C" fn mekvalgs_open(words: &mut [u32], leaf: u32, keys: &[u32]) -> u
 pub extern "C" fn mekvalgs_play(words: &mut [u32], word: u32) -> u32
     ensures { λ r. ⌜ (r ≡ numberOf (playBuffer (now (words .entry)) word .answer)) × (now (words .exit) ≡ playBuffer (now (words .entry)) word .words) ⌝ }
 {
-    number(play::play(words, word))
+    answers::number(play::play(words, word))
 }
 
 // Opens a ring and plays the script on it; the answers' numbers, as far as there are places for them.
@@ -43,7 +42,7 @@ pub extern "C" fn mekvalgs_replay(
 ) -> u32
     ensures { λ r. ⌜ (r ≡ numberOf (openBuffer (now (words .entry)) (tableOf leaf (now (keys .entry))) .answer)) × Replayed (now (words .entry)) (tableOf leaf (now (keys .entry))) (now (script .entry)) (now (answers .entry)) (openBuffer (now (words .entry)) (tableOf leaf (now (keys .entry))) .answer) (now (words .exit)) (now (answers .exit)) ⌝ }
 {
-    number(replay::replay(words, leaf, keys, script, answers))
+    answers::number(replay::replay(words, leaf, keys, script, answers))
 }
 
 // The leafset of node x in its held set.
@@ -54,7 +53,7 @@ pub extern "C" fn mekvalgs_leafset(words: &[u32], x: u32, set: &mut u64) -> u32
     let asked = questions::leafset_of(words, node(x));
     *set = asked.set;
     let answer = asked.answer;
-    number(answer)
+    answers::number(answer)
 }
 
 // Whether a and b are connected: 1, or 0.
@@ -65,7 +64,7 @@ pub extern "C" fn mekvalgs_connected(words: &[u32], a: u32, b: u32, connected: &
     let asked = questions::connected(words, node(a), node(b));
     *connected = asked.connected as u32;
     let answer = asked.answer;
-    number(answer)
+    answers::number(answer)
 }
 
 // The number of groups.
@@ -76,7 +75,7 @@ pub extern "C" fn mekvalgs_groups(words: &[u32], groups: &mut u32) -> u32
     let asked = questions::groups(words);
     *groups = asked.groups;
     let answer = asked.answer;
-    number(answer)
+    answers::number(answer)
 }
 
 // The event of a word: its kind, its node or position, and its other node or timer.
@@ -95,7 +94,7 @@ pub extern "C" fn mekvalgs_read_event(
     *first = p.first;
     *second = p.second;
     let answer = read.answer;
-    number(answer)
+    answers::number(answer)
 }
 
 // The word of the event with that kind, node or position, and other node or timer.
@@ -106,7 +105,7 @@ pub extern "C" fn mekvalgs_write_event(kind: u32, first: u32, second: u32, word:
     let written = event_parts::write(event_parts::make(kind, first, second));
     *word = written.word;
     let answer = written.answer;
-    number(answer)
+    answers::number(answer)
 }
 
 // The node of a number that may be too big for one: then 64, which is no node either.

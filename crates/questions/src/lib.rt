@@ -10,7 +10,6 @@ ghost use Rattle.model.specs.Questions.{leafsetAnswer, leafsetOf, connectionAns
 
 mod refusals;
 
-use answers::number;
 use buffer::head;
 use leafset::leafset::leafset;
 use model::answer::Answer;
@@ -39,7 +38,7 @@ pub fn leafset_of(words: &[u32], x: NodeNumber) -> LeafsetAnswer
     ensures { λ r. ⌜ (r .answer ≡ leafsetAnswer (now (words .entry)) (x .0)) × (r .set ≡ leafsetOf (now (words .entry)) (x .0)) ⌝ }
 {
     let answer = refusals::of_nodes(words, x, x);
-    if number(answer) != 0 {
+    if answers::number(answer) != 0 {
         return LeafsetAnswer { answer, set: 0 };
     }
     LeafsetAnswer {
@@ -53,7 +52,7 @@ pub fn connected(words: &[u32], a: NodeNumber, b: NodeNumber) -> ConnectionAnswe
     ensures { λ r. ⌜ (r .answer ≡ connectionAnswer (now (words .entry)) (a .0) (b .0)) × (r .connected ≡ connectionOf (now (words .entry)) (a .0) (b .0)) ⌝ }
 {
     let answer = refusals::of_nodes(words, a, b);
-    if number(answer) != 0 {
+    if answers::number(answer) != 0 {
         return ConnectionAnswer {
             answer,
             connected: false,
@@ -71,7 +70,7 @@ pub fn groups(words: &[u32]) -> GroupsAnswer
     ensures { λ r. ⌜ (r .answer ≡ groupsAnswer (now (words .entry))) × (r .groups ≡ groupsOf (now (words .entry))) ⌝ }
 {
     let answer = refusals::of_words(words);
-    if number(answer) != 0 {
+    if answers::number(answer) != 0 {
         return GroupsAnswer { answer, groups: 0 };
     }
     let n = head::nodes(words);

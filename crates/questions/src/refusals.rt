@@ -5,7 +5,6 @@ ghost use Rattle.model.specs.Answers.{firstOf};
 ghost use Rattle.model.specs.Words.{decode, readsAsRing};
 ghost use Rattle.model.specs.Questions.{connectionAnswer, groupsAnswer};
 ghost use Rattle.questions.specs.Asked.{nodesRefusals};
-use answers::number;
 use buffer::head;
 use model::answer::Answer;
 use model::values::NodeNumber;
@@ -46,7 +45,7 @@ pub fn of_nodes(words: &[u32], a: NodeNumber, b: NodeNumber) -> Answer
     ensures { λ r. ⌜ r ≡ connectionAnswer (now (words .entry)) (a .0) (b .0) ⌝ }
 {
     let answer = of_words(words);
-    if number(answer) != 0 {
+    if answers::number(answer) != 0 {
         return answer;
     }
     of_ring(words, a, b)

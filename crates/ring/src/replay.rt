@@ -6,7 +6,6 @@ ghost use Rattle.model.specs.Answers.{numberOf};
 ghost use Rattle.model.specs.Words.{readsAsRing};
 ghost use Rattle.model.specs.Structs.{tableOf};
 ghost use Rattle.ring.specs.Replay.{PlayedUpTo, Replayed};
-use answers::number;
 use model::answer::Answer;
 use opening::open;
 
@@ -15,7 +14,7 @@ fn note(answers: &mut [u8], i: usize, answer: Answer)
     ensures { λ _. ⌜ now (answers .exit) ≡ set (now (answers .entry)) i (numberOf answer) ⌝ }
 {
     if i < answers.len() {
-        answers[i] = number(answer) as u8;
+        answers[i] = answers::number(answer) as u8;
     }
 }
 
@@ -41,7 +40,7 @@ pub fn replay(
     ensures { λ r. ⌜ Replayed (now (words .entry)) (tableOf leaf (now (keys .entry))) (now (script .entry)) (now (answers .entry)) r (now (words .exit)) (now (answers .exit)) ⌝ }
 {
     let opened = open(words, leaf, keys);
-    if number(opened) != 0 {
+    if answers::number(opened) != 0 {
         return opened;
     }
     play_each(words, script, answers);

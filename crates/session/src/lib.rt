@@ -4,7 +4,6 @@ ghost use Prim.Native.Nat.{_+_, _^_, _≤_};
 ghost use lib.ListN.{length};
 ghost use Rattle.model.specs.Words.{ringLength, decode};
 ghost use Rattle.turns.specs.Turns.{firstTurn, wordsTurn, turn, Ready, Stepped};
-use answers::number;
 use buffer::head;
 use script::loading;
 use turns::Session;
@@ -42,7 +41,7 @@ fn begin(script: &[u32], size: usize, words: &mut [u32], out: &mut [u8]) -> Sess
     ensures { λ r. ⌜ Stepped (firstTurn (now (script .entry)) size) (now (words .exit)) (now (out .entry)) (now (out .exit)) r ⌝ }
 {
     let answer = beginning::open_script(script, words);
-    let refusal = number(answer);
+    let refusal = answers::number(answer);
     if refusal != 0 {
         return Session {
             more: false,

@@ -7,7 +7,6 @@ ghost use Rattle.lines.specs.Decimal.{linesBytes};
 ghost use Rattle.lines.specs.Put.{Put};
 ghost use Rattle.model.specs.Words.{ringLength, decode, readsAsRing};
 ghost use Rattle.turns.specs.Turns.{tailLines, endOf, playedTurn, Stepped};
-use answers::number;
 use buffer::head;
 use model::answer::Answer;
 
@@ -66,7 +65,7 @@ fn put_tail(words: &[u32], size: usize, count: u64, out: &mut [u8], at: usize) -
     if size % 4 == 0 {
         return at;
     }
-    let refusal = number(Answer::NotAnEvent) as u64;
+    let refusal = answers::number(Answer::NotAnEvent) as u64;
     lines::put_three(out, at, count + 1, refusal, head::messages(words) as u64)
 }
 
