@@ -2,15 +2,11 @@
 // document 01 demands of them, by an implementation of its own (compare/README.md).
 ghost use mathlib.Core.Path.{_≡_};
 ghost use lib.ListN.{length};
-
-mod calls;
-mod command;
-mod event_word;
-mod line;
-mod memory;
-
-use command::Command;
-use command::Next;
+use call_commands::command;
+use call_commands::command::Command;
+use call_commands::command::Next;
+use call_commands::line;
+use call_commands::memory;
 
 // More commands than any input has.
 const MOST: u32 = 1_000_000;
@@ -22,7 +18,8 @@ fn call(command: Command, words: &mut [u32], list: &[u32], places: &mut [u8])
 {
     let mut before = [0u32; 13442];
     memory::copy(words, &mut before);
-    let outcome = calls::call(command, words, list, places);
+    let end = memory::at_most(command.lent, words);
+    let outcome = calls::call(command, &mut words[..end], list, places);
     let changed = memory::differing(&before, words);
     line::print(command.number, outcome, changed, memory::digest(words));
 }

@@ -1,4 +1,6 @@
 // A session of the bench: a script comes in by chunks of bytes, and what it prints goes out by chunks.
+pub mod chunks;
+
 ghost use mathlib.Core.Path.{_≡_};
 ghost use Prim.Native.Nat.{_+_, _^_, _≤_};
 ghost use lib.ListN.{length};

@@ -4,6 +4,7 @@ ghost use Prim.Native.Nat.{ℕ, _+_, _^_, _≤_};
 ghost use lib.ListN.{length};
 ghost use Rattle.io.specs.Counts.{Counts};
 ghost use Rattle.turns.specs.Turns.{Ready};
+use super::step;
 use turns::Session;
 
 // Reads the next chunk and plays it. What it prints is at the start of `out`.
@@ -18,5 +19,5 @@ pub fn play_next(
     ensures { λ r. ⌜ ((k : ℕ) → session .count ≤ k → Ready (k + 1024) r (now (words .exit))) × Counts (r .end) (now (out .exit)) ⌝ }
 {
     let n = io::read_full(file, bytes);
-    session::step(session, &bytes[..n], words, out)
+    step(session, &bytes[..n], words, out)
 }

@@ -2,8 +2,8 @@ use mathlib.Core.Path.{_≡_}
 use Prim.Native.Nat.{_-_}
 use lib.ListN.{length}
 use borrow.Author.Needs.{needs}
-use Rattle.calls_test.proofs.memory.copy.Statement.{statement}
-use Rattle.calls_test.proofs.memory.copy.Tie as tie
+use Rattle.call_commands.proofs.memory.copy.Statement.{statement}
+use Rattle.call_commands.proofs.memory.copy.Tie as tie
 
 abbrev Inv-loop : tie.InvT-loop
 Inv-loop words to₀ i₀ i-end to i = (i-end ≡ length words) × (length to ≡ length to₀)

@@ -3,9 +3,9 @@ use native.Mathlib.Omega.{arith}
 use borrow.Author.Needs.{needs}
 use lib.ListN.{length-take}
 use Rattle.lines.proofs.Puts.{put-within}
 use Rattle.session.proofs.Sessions.{still-ready}
-use Rattle.chunks.proofs.play_next.Statement.{statement}
-use Rattle.chunks.proofs.play_next.Tie as tie
+use Rattle.session.proofs.chunks.play_next.Statement.{statement}
+use Rattle.session.proofs.chunks.play_next.Tie as tie
 
 returns : tie.Need-returns
 returns c =

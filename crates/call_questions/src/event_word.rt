@@ -1,7 +1,8 @@
 // Reading and writing event words, by a command.
-use super::calls;
-use super::calls::Outcome;
-use super::command::Command;
+use super::node;
+use super::outcome;
+use call_commands::command::Command;
+use call_commands::line::Outcome;
 use event_words::event;
 use event_words::event::EventWord;
 use model::answer::Answer;
@@ -12,8 +13,8 @@ use model::event::Reading;
 pub fn read(word: u32) -> Outcome {
     let reading = event::read_event(word);
     match reading {
-        Reading::Refused(answer) => Outcome::new(answer, 0),
-        Reading::Read(e) => Outcome::new(Answer::Accepted, spelt(e)),
+        Reading::Refused(answer) => outcome(answer, 0),
+        Reading::Read(e) => outcome(Answer::Accepted, spelt(e)),
     }
 }
 
@@ -36,14 +37,14 @@ fn digits(kind: u32, first: u16, second: u16) -> u64 {
 pub fn write(command: Command) -> Outcome {
     let writing = event::write_event(event_of(command));
     let answer = writing.answer;
-    Outcome::new(answer, writing.word as u64)
+    outcome(answer, writing.word as u64)
 }
 
 // The event of kind a with the parts b and c.
 fn event_of(command: Command) -> Event {
     let kind = command.a;
-    let x = calls::node(command.b);
-    let other = calls::node(command.c);
+    let x = node(command.b);
+    let other = node(command.c);
     let position = (command.b % 65536) as u16;
     match kind {
         EventWord::OFF => Event::Off(x),

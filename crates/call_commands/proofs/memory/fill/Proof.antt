@@ -2,8 +2,8 @@ use mathlib.Core.Path.{_≡_}
 use Prim.Native.Nat.{_≤_, _-_}
 use lib.ListN.{length}
 use borrow.Author.Needs.{needs}
-use Rattle.calls_test.proofs.memory.fill.Statement.{statement}
-use Rattle.calls_test.proofs.memory.fill.Tie as tie
+use Rattle.call_commands.proofs.memory.fill.Statement.{statement}
+use Rattle.call_commands.proofs.memory.fill.Tie as tie
 
 abbrev Inv-loop : tie.InvT-loop
 Inv-loop words₀ from to value end i₀ words i = (end ≤ length words₀) × (length words ≡ length words₀)

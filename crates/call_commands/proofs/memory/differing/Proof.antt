@@ -4,8 +4,8 @@ use Prim.Native.Nat.{_≤_, _-_}
 use native.Mathlib.Omega.{arith}
 use lib.ListN.{length}
 use borrow.Author.Needs.{needs}
-use Rattle.calls_test.proofs.memory.differing.Statement.{statement}
-use Rattle.calls_test.proofs.memory.differing.Tie as tie
+use Rattle.call_commands.proofs.memory.differing.Statement.{statement}
+use Rattle.call_commands.proofs.memory.differing.Tie as tie
 
 abbrev Inv-loop : tie.InvT-loop
 Inv-loop before after count₀ i₀ i-end count i = (i-end ≡ length before) × (count ≤ i)
