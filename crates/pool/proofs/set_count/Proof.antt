@@ -1,6 +1,6 @@
 use borrow.Author.Needs.{needs}
-use Rattle.messages.proofs.set_count.Statement.{statement}
-use Rattle.messages.proofs.set_count.Tie as tie
+use Rattle.pool.proofs.set_count.Statement.{statement}
+use Rattle.pool.proofs.set_count.Tie as tie
 
 returns : tie.Need-returns
 returns c = cc

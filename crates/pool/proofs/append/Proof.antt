@@ -3,9 +3,9 @@ use native.Mathlib.Omega.{arith}
 use lib.ListN.{length, length-set}
 use borrow.Author.Needs.{needs}
 use Rattle.spans.proofs.Patches.{patched-five}
-use Rattle.messages.proofs.Queue.{five-words, appended}
-use Rattle.messages.proofs.append.Statement.{statement}
-use Rattle.messages.proofs.append.Tie as tie
+use Rattle.pool.proofs.Queue.{five-words, appended}
+use Rattle.pool.proofs.append.Statement.{statement}
+use Rattle.pool.proofs.append.Tie as tie
 
 slice-write-words-2 : tie.Need-slice-write-words-2
 slice-write-words-2 c = simp length-set (omega arith)

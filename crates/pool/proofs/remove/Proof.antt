@@ -1,7 +1,7 @@
 use borrow.Author.Needs.{needs}
-use Rattle.messages.proofs.Queue.{removed}
-use Rattle.messages.proofs.remove.Statement.{statement}
-use Rattle.messages.proofs.remove.Tie as tie
+use Rattle.pool.proofs.Queue.{removed}
+use Rattle.pool.proofs.remove.Statement.{statement}
+use Rattle.pool.proofs.remove.Tie as tie
 
 returns : tie.Need-returns
 returns c = λ ρ n is.

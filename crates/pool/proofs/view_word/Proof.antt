@@ -4,8 +4,8 @@ use native.Mathlib.Omega.{arith}
 use borrow.Author.Needs.{needs}
 use Rattle.model.specs.Fields.{bits}
 use Rattle.model.specs.Words.{viewWord}
-use Rattle.messages.proofs.view_word.Statement.{statement}
-use Rattle.messages.proofs.view_word.Tie as tie
+use Rattle.pool.proofs.view_word.Statement.{statement}
+use Rattle.pool.proofs.view_word.Tie as tie
 
 returns : tie.Need-returns
 returns c =
