@@ -8,13 +8,11 @@ ghost use Rattle.model.specs.Steps as steps;
 ghost use Rattle.model.specs.Structs.{tableOf, ownOf, messageOf, stampAt, RoomNode, RoomMessage};
 ghost use Rattle.leafset.specs.Table.{InTable};
 ghost use Rattle.effects.specs.Effects.{OwnFits, Owns, Replies};
-use choices::closest;
 use effects::own::hold;
 use effects::own::release;
 use effects::own::set_commit;
 use effects::own::set_spare;
 use effects::reply::Reply;
-use leafset::leafset::leafset;
 use leafset::outside::outside;
 use message_records::naming;
 use message_records::stamped;
@@ -22,6 +20,7 @@ use model::message::MessageRecord;
 use model::node::NodeRecord;
 use model::values::NodeNumber;
 use model::values::Stamp;
+use spare_choice::closest;
 use words::ring::MessageWord;
 
 // "On 7 from a: answer 8 whose subject is the member of my leafset, other than a, nearest to a and strictly nearer to

@@ -8,7 +8,7 @@ use Rattle.model.specs.Structs.{tableOf}
 use Rattle.model.specs.Sets.{ofBits}
 use Rattle.model.specs.Steps as steps
 use Rattle.effects.proofs.Changes.{unchanged}
-use Rattle.choices.proofs.Choices.{closest-room}
+use Rattle.spare_choice.proofs.Spare.{closest-room}
 use Rattle.replacing.proofs.on_ping_ask_repl.Statement.{statement}
 use Rattle.replacing.proofs.on_ping_ask_repl.Tie as tie
 use denote.Ref.{now}

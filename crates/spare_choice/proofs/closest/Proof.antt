@@ -1,12 +1,12 @@
--- `choices::closest` meets its contract.
+-- `spare_choice::closest` meets its contract.
 use mathlib.Core.Path.{subst₂}
 use Prim.Native.Nat.{ℕ, _<_, _≤_}
 use borrow.Author.Needs.{needs}
 use Rattle.sets.proofs.Bits.{none-left, first-bit}
 use Rattle.nearness.proofs.Pick.{found-least}
-use Rattle.choices.proofs.Choices.{others-low, closest-nobody, closest-found, closest-none}
-use Rattle.choices.proofs.closest.Statement.{statement}
-use Rattle.choices.proofs.closest.Tie as tie
+use Rattle.spare_choice.proofs.Spare.{others-low, closest-nobody, closest-found, closest-none}
+use Rattle.spare_choice.proofs.closest.Statement.{statement}
+use Rattle.spare_choice.proofs.closest.Tie as tie
 
 returns : tie.Need-returns
 returns c =
