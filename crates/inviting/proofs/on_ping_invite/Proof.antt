@@ -1,9 +1,9 @@
--- `joining::on_ping_invite` meets its contract.
+-- `inviting::on_ping_invite` meets its contract.
 use borrow.Author.Needs.{needs}
 use Rattle.model.specs.Steps as steps
 use Rattle.effects.proofs.Changes.{unchanged}
-use Rattle.joining.proofs.on_ping_invite.Statement.{statement}
-use Rattle.joining.proofs.on_ping_invite.Tie as tie
+use Rattle.inviting.proofs.on_ping_invite.Statement.{statement}
+use Rattle.inviting.proofs.on_ping_invite.Tie as tie
 
 returns : tie.Need-returns
 unfolding steps.onPingInvite

@@ -1,12 +1,12 @@
--- `joining::on_pong_invite` meets its contract.
+-- `inviting::on_pong_invite` meets its contract.
 use mathlib.Core.Path.{sym, _∙_}
 use borrow.Author.Tests.{not-true, not-false}
 use borrow.Author.Needs.{needs}
 use Rattle.model.specs.Steps as steps
 use Rattle.effects.proofs.Changes.{unchanged}
-use Rattle.joining.proofs.Tests.{with-table, near-test}
-use Rattle.joining.proofs.on_pong_invite.Statement.{statement}
-use Rattle.joining.proofs.on_pong_invite.Tie as tie
+use Rattle.inviting.proofs.Invited.{with-table, near-test}
+use Rattle.inviting.proofs.on_pong_invite.Statement.{statement}
+use Rattle.inviting.proofs.on_pong_invite.Tie as tie
 
 leafset-requires : tie.Need-leafset-requires
 leafset-requires c κs =

@@ -1,10 +1,10 @@
--- `joining::on_ping_ask_inv` meets its contract.
+-- `inviting::on_ping_ask_inv` meets its contract.
 use mathlib.Core.Path.{ap, _∙_}
 use borrow.Author.Needs.{needs}
 use Rattle.model.specs.Steps as steps
 use Rattle.leafset.proofs.Leaves.{leafset-back}
-use Rattle.joining.proofs.on_ping_ask_inv.Statement.{statement}
-use Rattle.joining.proofs.on_ping_ask_inv.Tie as tie
+use Rattle.inviting.proofs.on_ping_ask_inv.Statement.{statement}
+use Rattle.inviting.proofs.on_ping_ask_inv.Tie as tie
 
 returns : tie.Need-returns
 unfolding steps.onPingAskInv

@@ -1,8 +1,8 @@
--- `joining::on_pong_ask_inv` meets its contract.
+-- `inviting::on_pong_ask_inv` meets its contract.
 use borrow.Author.Needs.{needs}
 use Rattle.model.specs.Steps as steps
-use Rattle.joining.proofs.on_pong_ask_inv.Statement.{statement}
-use Rattle.joining.proofs.on_pong_ask_inv.Tie as tie
+use Rattle.inviting.proofs.on_pong_ask_inv.Statement.{statement}
+use Rattle.inviting.proofs.on_pong_ask_inv.Tie as tie
 
 returns : tie.Need-returns
 unfolding steps.onPongAskInv
