@@ -1,11 +1,11 @@
--- `replacing::on_pong_ask_repl` meets its contract.
+-- `offering::on_pong_ask_repl` meets its contract.
 use mathlib.Core.Path.{sym, _∙_}
 use borrow.Author.Tests.{not-true, not-false}
 use borrow.Author.Needs.{needs}
 use Rattle.model.specs.Steps as steps
 use Rattle.effects.proofs.Changes.{unchanged}
-use Rattle.replacing.proofs.on_pong_ask_repl.Statement.{statement}
-use Rattle.replacing.proofs.on_pong_ask_repl.Tie as tie
+use Rattle.offering.proofs.on_pong_ask_repl.Statement.{statement}
+use Rattle.offering.proofs.on_pong_ask_repl.Tie as tie
 
 returns : tie.Need-returns
 unfolding steps.onPongAskRepl

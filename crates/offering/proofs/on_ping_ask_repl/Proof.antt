@@ -1,4 +1,4 @@
--- `replacing::on_ping_ask_repl` meets its contract.
+-- `offering::on_ping_ask_repl` meets its contract.
 use mathlib.Core.Path.{ap, _∙_}
 use Prim.Native.Nat.{_^_, _<_}
 use native.Mathlib.Omega.{arith}
@@ -9,8 +9,8 @@ use Rattle.model.specs.Sets.{ofBits}
 use Rattle.model.specs.Steps as steps
 use Rattle.effects.proofs.Changes.{unchanged}
 use Rattle.spare_choice.proofs.Spare.{closest-room}
-use Rattle.replacing.proofs.on_ping_ask_repl.Statement.{statement}
-use Rattle.replacing.proofs.on_ping_ask_repl.Tie as tie
+use Rattle.offering.proofs.on_ping_ask_repl.Statement.{statement}
+use Rattle.offering.proofs.on_ping_ask_repl.Tie as tie
 use denote.Ref.{now}
 
 naming-requires : tie.Need-naming-requires
