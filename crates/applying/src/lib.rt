@@ -40,7 +40,7 @@ pub fn reply(
     }
     let message = reply.message;
     nodes::store(words, n, x, time, own);
-    messages::append(words, m, message);
+    pool::append(words, m, message);
     Answer::Accepted
 }
 

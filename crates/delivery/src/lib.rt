@@ -33,7 +33,7 @@ pub fn deliver(words: &mut [u32], position: u16) -> Answer
     let message = messages::load(words, k);
     let y = message.receiver;
     if !node_words::is_running(words, y) {
-        messages::remove(words, m, k);
+        pool::remove(words, m, k);
         return Answer::Accepted;
     }
     let answer = acting::may_act(words, y);
@@ -51,7 +51,7 @@ fn receive(words: &mut [u32], k: usize, message: MessageRecord) -> Answer
     let y = message.receiver;
     let actor = acting::load(words, y);
     let reply = step(words, actor, message);
-    messages::remove(words, actor.m, k);
+    pool::remove(words, actor.m, k);
     applying::reply(words, actor.n, actor.m - 1, y, actor.time, reply)
 }
 

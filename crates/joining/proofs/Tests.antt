@@ -5,13 +5,10 @@ use mathlib.Core.List.{List}
 use Prim.Native.Nat.{ℕ, _^_, _<_}
 use lib.Dec.{eqb}
 use lib.ListN.{length}
-use Rattle.model.specs.Sets.{Set, with, ofBits, toBits, some}
-use Rattle.model.specs.Leafset.{leafset}
-use Rattle.model.specs.Structs.{tableOf}
+use Rattle.model.specs.Sets.{ofBits, some}
 use Rattle.model.proofs.Laws.{or-none-right, not-out-false}
 use Rattle.leafset.specs.Table.{InTable}
-use Rattle.leafset.proofs.Leaves.{leafset-back}
-use Rattle.sets.proofs.Bits.{zero-none, within-with}
+use Rattle.sets.proofs.Bits.{zero-none}
 
 module _ (leaf : ℕ) {keys : List ℕ} {x held : ℕ} (q : InTable keys x held) where
   -- "I hold nobody", as the code asks it
@@ -21,11 +18,3 @@ module _ (leaf : ℕ) {keys : List ℕ} {x held : ℕ} (q : InTable keys x held)
 
     pub not-idle : (b || eqb held 0) ≡ false → some (length keys) (ofBits held) ≡ true
     not-idle e = not-out-false (some (length keys) (ofBits held)) (or-none-right b (not (some (length keys) (ofBits held))) (sym idle ∙ e))
-
-  -- held plus y: whether y lies in the leafset
-  module _ (y more : ℕ) (e : ofBits more ≡ with (ofBits held) y) (h : y < length keys) where
-    pub with-table : InTable keys x more
-    with-table = record { few = q .few; node = q .node; within = within-with (length keys) held y more e h (q .within) }
-
-    pub near-test : (near : ℕ) → near ≡ toBits 64 (leafset (tableOf leaf keys) x (ofBits more)) → ofBits near y ≡ leafset (tableOf leaf keys) x (with (ofBits held) y) y
-    near-test near is = ap (λ (S : Set). S y) (leafset-back leaf with-table is ∙ ap (leafset (tableOf leaf keys) x) e)

@@ -1,4 +1,4 @@
-// How a link is handed to a spare: the steps of message types 7 to 10.
+// How a link is handed to a spare: the steps of message types 9 and 10.
 ghost use mathlib.Core.Path.{_≡_};
 ghost use Prim.Native.Nat.{ℕ, _<_, _≤_, _^_};
 ghost use lib.Dec.{ltb};
@@ -9,51 +9,17 @@ ghost use Rattle.model.specs.Steps as steps;
 ghost use Rattle.model.specs.Structs.{tableOf, ownOf, messageOf, stampAt, RoomNode, RoomMessage};
 ghost use Rattle.leafset.specs.Table.{InTable};
 ghost use Rattle.effects.specs.Effects.{OwnFits, Owns, Replies};
-use choices::closest;
 use effects::own::hold;
 use effects::own::release;
 use effects::own::set_commit;
-use effects::own::set_spare;
 use effects::reply::Reply;
-use leafset::leafset::leafset;
 use leafset::outside::outside;
-use message_records::naming;
 use message_records::stamped;
 use model::message::MessageRecord;
 use model::node::NodeRecord;
 use model::values::NodeNumber;
 use model::values::Stamp;
 use words::ring::MessageWord;
-
-// "On 7 from a: answer 8 whose subject is the member of my leafset, other than a, nearest to a and strictly nearer to
-// a than I am; .. else 64."
-pub fn on_ping_ask_repl(
-    keys: &[u32],
-    leaf: u32,
-    me: NodeNumber,
-    own: NodeRecord,
-    message: MessageRecord,
-) -> Reply
-    requires { ⌜ InTable (now keys) (me .0) (own .held) × OwnFits (length (now keys)) own × (leaf ≤ 8) × (message .sender .0 < length (now keys)) ⌝ }
-    ensures { λ r. ⌜ ((time : ℕ) → Replies (length (now (keys .entry))) r (steps.onPingAskRepl (tableOf leaf (now (keys .entry))) (me .0) time (ownOf own) (messageOf message))) ⌝ }
-{
-    let spare = closest(keys, leaf, me, own.held, message.sender);
-    Reply::sending(
-        own,
-        naming(MessageWord::PONG_ASK_REPL, me, message.sender, spare),
-    )
-}
-
-// "On 8: if the sender is held, its spare becomes the subject."
-pub fn on_pong_ask_repl(own: NodeRecord, message: MessageRecord) -> Reply
-    requires { ⌜ RoomNode own × RoomMessage message ⌝ }
-    ensures { λ r. ⌜ ((t : Table) (me time n : ℕ) → OwnFits n own → Replies n r (steps.onPongAskRepl t me time (ownOf own) (messageOf message))) ⌝ }
-{
-    if !sets::has(own.held, message.sender) {
-        return Reply::quiet(own);
-    }
-    Reply::quiet(set_spare(own, message.sender, message.subject))
-}
 
 // "On 9: if z is held, its commit becomes now and I answer 10 with the same subject and stamp."
 pub fn on_ping_replace(

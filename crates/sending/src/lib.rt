@@ -27,7 +27,7 @@ pub fn send_each(words: &mut [u32], m: usize, tag: u8, me: NodeNumber, to: u64) 
     let mut rest = to;
     while rest != 0 {
         let y = sets::lowest(rest);
-        messages::append(words, sent, plain(tag, me, y));
+        pool::append(words, sent, plain(tag, me, y));
         rest = sets::rest(rest);
         sent += 1;
     }
@@ -52,7 +52,7 @@ pub fn send_requests(
     while rest != 0 {
         let z = sets::lowest(rest);
         let at = z.0 as usize;
-        messages::append(
+        pool::append(
             words,
             sent,
             stamped(MessageWord::PING_REPLACE, me, own.spare[at], z, time),

@@ -52,6 +52,6 @@ pub fn lose(words: &mut [u32], position: u16) -> Answer
     if m <= k {
         return Answer::OutOfTable;
     }
-    messages::remove(words, m, k);
+    pool::remove(words, m, k);
     Answer::Accepted
 }

@@ -1,0 +1,75 @@
+// How nodes come to know and hold those near to them: the steps of message types 3 to 6.
+ghost use Prim.Native.Nat.{ℕ, _<_, _≤_, _^_};
+ghost use lib.ListN.{length};
+ghost use Rattle.model.specs.Leafset.{Table};
+ghost use Rattle.model.specs.Steps as steps;
+ghost use Rattle.model.specs.Structs.{tableOf, ownOf, messageOf};
+ghost use Rattle.sets.specs.Within.{Within};
+ghost use Rattle.leafset.specs.Table.{InTable};
+ghost use Rattle.effects.specs.Effects.{OwnFits, Replies};
+use effects::own::add_candidate;
+use effects::own::add_candidates;
+use effects::own::hold;
+use effects::reply::Reply;
+use leafset::leafset::leafset;
+use message_records::plain;
+use message_records::viewing;
+use model::message::MessageRecord;
+use model::node::NodeRecord;
+use model::values::NodeNumber;
+use model::values::Stamp;
+use words::ring::MessageWord;
+
+// "On 3: answer type 4 with view = leafset of the sender in my held set; sender becomes a candidate."
+pub fn on_ping_ask_inv(
+    keys: &[u32],
+    leaf: u32,
+    me: NodeNumber,
+    own: NodeRecord,
+    message: MessageRecord,
+) -> Reply
+    requires { ⌜ InTable (now keys) (message .sender .0) (own .held) × OwnFits (length (now keys)) own × (leaf ≤ 8) × (me .0 < 64) ⌝ }
+    ensures { λ r. ⌜ ((time : ℕ) → Replies (length (now (keys .entry))) r (steps.onPingAskInv (tableOf leaf (now (keys .entry))) (me .0) time (ownOf own) (messageOf message))) ⌝ }
+{
+    let view = leafset(keys, leaf, message.sender, own.held);
+    let next = add_candidate(own, message.sender);
+    Reply::sending(
+        next,
+        viewing(MessageWord::PONG_ASK_INV, me, message.sender, view),
+    )
+}
+
+// "On 4: the view joins the candidates."
+pub fn on_pong_ask_inv(own: NodeRecord, message: MessageRecord) -> Reply
+    ensures { λ r. ⌜ ((t : Table) (me time n : ℕ) → OwnFits n own → Within n (message .view) → Replies n r (steps.onPongAskInv t me time (ownOf own) (messageOf message))) ⌝ }
+{
+    Reply::quiet(add_candidates(own, message.view))
+}
+
+// "On 5: answer 6."
+pub fn on_ping_invite(me: NodeNumber, own: NodeRecord, message: MessageRecord) -> Reply
+    requires { ⌜ (me .0 < 64) × (message .sender .0 < 64) ⌝ }
+    ensures { λ r. ⌜ ((t : Table) (time n : ℕ) → OwnFits n own → Replies n r (steps.onPingInvite t (me .0) time (ownOf own) (messageOf message))) ⌝ }
+{
+    Reply::sending(own, plain(MessageWord::PONG_INVITE, me, message.sender))
+}
+
+// "On 6: take the sender in if it lies in my leafset of held plus sender."
+pub fn on_pong_invite(
+    keys: &[u32],
+    leaf: u32,
+    me: NodeNumber,
+    time: Stamp,
+    own: NodeRecord,
+    message: MessageRecord,
+) -> Reply
+    requires { ⌜ InTable (now keys) (me .0) (own .held) × OwnFits (length (now keys)) own × (leaf ≤ 8) × (time .0 < 2 ^ 24) × (message .sender .0 < length (now keys)) ⌝ }
+    ensures { λ r. ⌜ Replies (length (now (keys .entry))) r (steps.onPongInvite (tableOf leaf (now (keys .entry))) (me .0) (time .0) (ownOf own) (messageOf message)) ⌝ }
+{
+    let y = message.sender;
+    let near = leafset(keys, leaf, me, sets::with(own.held, y));
+    if !sets::has(near, y) {
+        return Reply::quiet(own);
+    }
+    Reply::quiet(hold(own, time, y))
+}
