@@ -1,9 +1,11 @@
+use mathlib.Core.Path.{ap₂, _∙_}
 use borrow.Author.Needs.{needs}
+use Rattle.model.specs.Words.{pairWord}
 use Rattle.pairs.proofs.pair_word.Statement.{statement}
 use Rattle.pairs.proofs.pair_word.Tie as tie
 
 returns : tie.Need-returns
-returns c = cc
+returns c = c .new .ensures ∙ ap₂ (pairWord _) (c .before .before .has .ensures) (c .before .has2 .ensures)
 
 pub pair-word-spec : {M : Type 1} → statement M
 pair-word-spec =
