@@ -112,9 +112,6 @@ module _ (S : Set) (n : ℕ) (low : (y : ℕ) → S y ≡ true → y < n) where
     unfolding members
     members-to = steady (λ k. members k S) n m h (λ k l. rw (none-from k l) (append-nil (members k S)))
 
-    pub lowest-to : lowest n S ≡ lowest m S
-    lowest-to = ap (λ (l : List ℕ). getD l 0 noneNode) members-to
-
     pub toBits-to : toBits n S ≡ toBits m S
     unfolding toBits
     toBits-to = steady (λ k. toBits k S) n m h (λ k l. rw (none-from k l) (add-zero (toBits k S)))
