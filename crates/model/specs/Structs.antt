@@ -6,8 +6,6 @@ use lib.ListN.{length, getD}
 use Rattle.model.specs.Sets.{ofBits, noneNode}
 use Rattle.model.specs.Leafset.{Table}
 use Rattle.model.specs.Ring.{Own, Message}
-use Rattle.model.specs.declared.values.NodeNumber.{NodeNumber}
-use Rattle.model.specs.declared.values.Stamp.{Stamp}
 use Rattle.model.specs.declared.node.NodeRecord.{NodeRecord}
 use Rattle.model.specs.declared.message.MessageRecord.{MessageRecord}
 

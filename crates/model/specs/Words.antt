@@ -5,7 +5,7 @@ use mathlib.Core.List.{List, [], _∷_}
 use lib.ListN.{length, getD}
 use lib.Dec.{ltb, leb, eqb}
 use Rattle.model.specs.Choice.{if_then_else_, _⇒_, every}
-use Rattle.model.specs.Sets.{Set, tabulate, all, toBits, ofBits, noneNode}
+use Rattle.model.specs.Sets.{tabulate, all, toBits, ofBits, noneNode}
 use Rattle.model.specs.Leafset.{Table, size, key}
 use Rattle.model.specs.Ring.{Own, Node, Message, Ring, messageAt}
 use Rattle.model.specs.Fields.{bits, bit, flag, ofKind}
