@@ -1,6 +1,8 @@
 // The lines that the program prints.
+ghost use mathlib.Core.Path.{_≡_};
 ghost use Prim.Native.Nat.{_≤_};
 ghost use lib.ListN.{length};
+use super::memory;
 use libc::STDOUT_FILENO;
 
 const NEWLINE: u8 = 10;
@@ -23,8 +25,13 @@ fn put(out: &mut [u8], numbers: &[u64; 5]) -> usize
     lines::put_byte(out, end, NEWLINE)
 }
 
-pub fn print(number: u32, outcome: Outcome, changed: u64, digest: u64) {
-    let mut out = [0u8; 105];
+// Prints the line of a call: the command's number, the answer, the value, how many words the call changed, and the digest
+// of all words after it.
+pub fn print(number: u32, outcome: Outcome, before: &[u32], words: &[u32])
+    requires { ⌜ length (now before) ≡ length (now words) ⌝ }
+{
+    let changed = memory::differing(before, words);
+    let digest = memory::digest(words);
     let numbers = [
         number as u64,
         outcome.answer as u64,
@@ -32,6 +39,11 @@ pub fn print(number: u32, outcome: Outcome, changed: u64, digest: u64) {
         changed,
         digest,
     ];
-    let end = put(&mut out, &numbers);
+    print_numbers(&numbers);
+}
+
+fn print_numbers(numbers: &[u64; 5]) {
+    let mut out = [0u8; 105];
+    let end = put(&mut out, numbers);
     io::write_all(STDOUT_FILENO, &out[..end]);
 }

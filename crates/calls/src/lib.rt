@@ -1,9 +1,11 @@
 // The public calls, by a command.
+mod ask;
+
+use ask::ask;
 use call_commands::command::Command;
 use call_commands::line::Outcome;
 use call_commands::memory;
-use call_questions::ask;
-use call_questions::outcome;
+use call_events::outcome;
 use opening::open;
 use ring::play;
 use ring::replay;

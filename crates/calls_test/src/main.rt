@@ -11,8 +11,7 @@ use call_commands::memory;
 // More commands than any input has.
 const MOST: u32 = 1_000_000;
 
-// A call, with its line: the command's number, the answer, the value, how many words the call changed, and the digest of
-// all words after it.
+// A call, with its line.
 fn call(command: Command, words: &mut [u32], list: &[u32], places: &mut [u8])
     requires { ⌜ length (now words) ≡ 13442 ⌝ }
 {
@@ -20,8 +19,7 @@ fn call(command: Command, words: &mut [u32], list: &[u32], places: &mut [u8])
     memory::copy(words, &mut before);
     let end = memory::at_most(command.lent, words);
     let outcome = calls::call(command, &mut words[..end], list, places);
-    let changed = memory::differing(&before, words);
-    line::print(command.number, outcome, changed, memory::digest(words));
+    line::print(command.number, outcome, &before, words);
 }
 
 fn run(command: Command, words: &mut [u32], list: &mut [u32], places: &mut [u8])

@@ -1,6 +1,4 @@
 // Reading and writing event words, by a command.
-use super::node;
-use super::outcome;
 use call_commands::command::Command;
 use call_commands::line::Outcome;
 use event_words::event;
@@ -8,6 +6,19 @@ use event_words::event::EventWord;
 use model::answer::Answer;
 use model::event::Event;
 use model::event::Reading;
+use model::values::NodeNumber;
+
+// The answer with its value.
+pub fn outcome(answer: Answer, value: u64) -> Outcome {
+    Outcome {
+        answer: answers::number(answer),
+        value,
+    }
+}
+
+pub fn node(number: u32) -> NodeNumber {
+    NodeNumber((number % 256) as u8)
+}
 
 // The value has the event's kind and its two parts, four decimal digits each.
 pub fn read(word: u32) -> Outcome {

@@ -1,18 +1,9 @@
-// The public calls that leave the words as they are, by a command.
-pub mod event_word;
-
+// The calls that leave the words as they are.
 use call_commands::command::Command;
 use call_commands::line::Outcome;
-use model::answer::Answer;
+use call_events::node;
+use call_events::outcome;
 use model::values::NodeNumber;
-
-// The answer with its value.
-pub fn outcome(answer: Answer, value: u64) -> Outcome {
-    Outcome {
-        answer: answers::number(answer),
-        value,
-    }
-}
 
 pub fn ask(command: Command, words: &[u32]) -> Outcome {
     let number = command.number;
@@ -20,13 +11,9 @@ pub fn ask(command: Command, words: &[u32]) -> Outcome {
         Command::LEAFSET => leafset_of(words, node(command.a)),
         Command::CONNECTED => connected(words, node(command.a), node(command.b)),
         Command::GROUPS => groups(words),
-        Command::READ => event_word::read(command.a),
-        _ => event_word::write(command),
+        Command::READ => call_events::read(command.a),
+        _ => call_events::write(command),
     }
-}
-
-fn node(number: u32) -> NodeNumber {
-    NodeNumber((number % 256) as u8)
 }
 
 fn leafset_of(words: &[u32], x: NodeNumber) -> Outcome {
