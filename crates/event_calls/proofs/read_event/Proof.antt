@@ -6,8 +6,8 @@ use Rattle.model.specs.Answers.{firstOf}
 use Rattle.model.specs.Events.{wordOf, eventOf, partsFit, sameNode, wordAnswer, readEvent}
 use Rattle.model.specs.declared.event.Reading.the-variants.{Read}
 use borrow.Author.Needs.{needs}
-use Rattle.event_words.proofs.event.read_event.Statement.{statement}
-use Rattle.event_words.proofs.event.read_event.Tie as tie
+use Rattle.event_calls.proofs.read_event.Statement.{statement}
+use Rattle.event_calls.proofs.read_event.Tie as tie
 
 returns : tie.Need-returns
 unfolding readEvent wordAnswer firstOf

@@ -4,8 +4,8 @@ use borrow.Author.Tests.{not-true, not-false}
 use Rattle.model.specs.Answers.{firstOf}
 use Rattle.model.specs.Events.{partsFit, sameNode, eventAnswer, writeEvent}
 use borrow.Author.Needs.{needs}
-use Rattle.event_words.proofs.event.write_event.Statement.{statement}
-use Rattle.event_words.proofs.event.write_event.Tie as tie
+use Rattle.event_calls.proofs.write_event.Statement.{statement}
+use Rattle.event_calls.proofs.write_event.Tie as tie
 
 returns : tie.Need-returns
 unfolding eventAnswer writeEvent firstOf

@@ -1,8 +1,8 @@
 use Rattle.model.specs.Events.{partsFit}
 use mathlib.Core.Path.{sym, ap}
 use borrow.Author.Needs.{needs}
-use Rattle.event_words.proofs.event.parts_fit.Statement.{statement}
-use Rattle.event_words.proofs.event.parts_fit.Tie as tie
+use Rattle.event_calls.proofs.parts_fit.Statement.{statement}
+use Rattle.event_calls.proofs.parts_fit.Tie as tie
 
 returns : tie.Need-returns
 returns c = ap partsFit (sym (c .before .before .e .given .1))

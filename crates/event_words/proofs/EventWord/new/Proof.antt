@@ -2,8 +2,8 @@ use Rattle.model.specs.Fields.{ofKind}
 use Rattle.model.specs.Events.{wordOf}
 use mathlib.Core.Path.{sym, ap, _∙_}
 use borrow.Author.Needs.{needs}
-use Rattle.event_words.proofs.event.EventWord.new.Statement.{statement}
-use Rattle.event_words.proofs.event.EventWord.new.Tie as tie
+use Rattle.event_words.proofs.EventWord.new.Statement.{statement}
+use Rattle.event_words.proofs.EventWord.new.Tie as tie
 
 returns : tie.Need-returns
 returns c = c .of-kind .ensures ∙ ap (ofKind 9) (c .before .wide .ensures .0) ∙ ap wordOf (sym (c .before .before .before .e .given .1))

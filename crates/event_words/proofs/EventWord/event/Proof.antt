@@ -1,4 +1,4 @@
--- `event_words::event::EventWord::event` meets its contract.
+-- `event_words::EventWord::event` meets its contract.
 use mathlib.Core.Path.{_≡_, refl, sym, ap, _∙_}
 use mathlib.Core.List.{[], _∷_}
 use Prim.Native.Nat.{ℕ, suc, _-_, _/_, _%_, _^_, _<_}
@@ -10,8 +10,8 @@ use borrow.Author.Needs.{needs}
 use Rattle.model.specs.Fields.{bits, kind}
 use Rattle.model.specs.Events.{eventOf}
 use Rattle.model.specs.declared.event.Event.the-variants.{On, Off, Notice, Contact, Timer, Deliver, Lose}
-use Rattle.event_words.proofs.event.EventWord.event.Statement.{statement}
-use Rattle.event_words.proofs.event.EventWord.event.Tie as tie
+use Rattle.event_words.proofs.EventWord.event.Statement.{statement}
+use Rattle.event_words.proofs.EventWord.event.Tie as tie
 
 -- the lowest part is a remainder
 bits-low : (width w : ℕ) → bits 0 width w ≡ w % 2 ^ width

@@ -1,8 +1,8 @@
 use Rattle.model.specs.Events.{sameNode}
 use mathlib.Core.Path.{sym, ap}
 use borrow.Author.Needs.{needs}
-use Rattle.event_words.proofs.event.same_node.Statement.{statement}
-use Rattle.event_words.proofs.event.same_node.Tie as tie
+use Rattle.event_calls.proofs.same_node.Statement.{statement}
+use Rattle.event_calls.proofs.same_node.Tie as tie
 
 returns : tie.Need-returns
 returns c = ap sameNode (sym (c .enum-told .given .1))
