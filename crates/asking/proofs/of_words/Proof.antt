@@ -5,8 +5,8 @@ use borrow.Author.Tests.{not-true, not-false}
 use Rattle.model.specs.Questions.{groupsAnswer}
 use Rattle.answers.proofs.Refusals.{here, next, no-more, wrong-length, right-length, no-ring, a-ring}
 use borrow.Author.Needs.{needs}
-use Rattle.questions.proofs.refusals.of_words.Statement.{statement}
-use Rattle.questions.proofs.refusals.of_words.Tie as tie
+use Rattle.asking.proofs.of_words.Statement.{statement}
+use Rattle.asking.proofs.of_words.Tie as tie
 
 returns : tie.Need-returns
 unfolding groupsAnswer

@@ -7,9 +7,9 @@ use borrow.Author.Needs.{needs}
 use borrow.Author.Tests.{not-true, not-false}
 use Rattle.answers.proofs.Valid.{long}
 use Rattle.answers.proofs.Refusals.{here, next, in-table, out-of-table}
-use Rattle.questions.proofs.Asked.{one-off, both-on}
-use Rattle.questions.proofs.refusals.of_ring.Statement.{statement}
-use Rattle.questions.proofs.refusals.of_ring.Tie as tie
+use Rattle.asking.proofs.Refused.{one-off, both-on}
+use Rattle.asking.proofs.of_ring.Statement.{statement}
+use Rattle.asking.proofs.of_ring.Tie as tie
 
 nodes-requires : tie.Need-nodes-requires
 nodes-requires c κs = long _ (c .before .pre)

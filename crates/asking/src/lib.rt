@@ -1,10 +1,10 @@
-// The refusals of the questions.
+// Which refusal a question meets.
 ghost use mathlib.Core.Path.{_≡_};
 ghost use mathlib.Core.Bool.{true};
 ghost use Rattle.model.specs.Answers.{firstOf};
 ghost use Rattle.model.specs.Words.{decode, readsAsRing};
 ghost use Rattle.model.specs.Questions.{connectionAnswer, groupsAnswer};
-ghost use Rattle.questions.specs.Asked.{nodesRefusals};
+ghost use Rattle.asking.specs.Asked.{nodesRefusals};
 use buffer::head;
 use model::answer::Answer;
 use model::values::NodeNumber;

@@ -1,8 +1,8 @@
 use borrow.Author.Needs.{needs}
 use Rattle.answers.proofs.Answered.{asked-refused, asked-accepted}
-use Rattle.questions.proofs.Asked.{refused-words, groups-reads, after-words}
-use Rattle.questions.proofs.refusals.of_nodes.Statement.{statement}
-use Rattle.questions.proofs.refusals.of_nodes.Tie as tie
+use Rattle.asking.proofs.Refused.{refused-words, groups-reads, after-words}
+use Rattle.asking.proofs.of_nodes.Statement.{statement}
+use Rattle.asking.proofs.of_nodes.Tie as tie
 
 returns : tie.Need-returns
 returns c =
