@@ -1,8 +1,7 @@
 // Reading and writing event words, by a command.
 use call_commands::command::Command;
 use call_commands::line::Outcome;
-use event_words::event;
-use event_words::event::EventWord;
+use event_words::EventWord;
 use model::answer::Answer;
 use model::event::Event;
 use model::event::Reading;
@@ -22,7 +21,7 @@ pub fn node(number: u32) -> NodeNumber {
 
 // The value has the event's kind and its two parts, four decimal digits each.
 pub fn read(word: u32) -> Outcome {
-    let reading = event::read_event(word);
+    let reading = event_calls::read_event(word);
     match reading {
         Reading::Refused(answer) => outcome(answer, 0),
         Reading::Read(e) => outcome(Answer::Accepted, spelt(e)),
@@ -46,7 +45,7 @@ fn digits(kind: u32, first: u16, second: u16) -> u64 {
 }
 
 pub fn write(command: Command) -> Outcome {
-    let writing = event::write_event(event_of(command));
+    let writing = event_calls::write_event(event_of(command));
     let answer = writing.answer;
     outcome(answer, writing.word as u64)
 }

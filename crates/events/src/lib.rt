@@ -4,7 +4,6 @@ ghost use mathlib.Core.Bool.{true};
 ghost use Rattle.model.specs.Words.{readsAsRing};
 ghost use Rattle.model.specs.Buffer.{playBuffer};
 ghost use Rattle.answers.specs.Applied.{written, eventOn};
-use event_words::event;
 use model::answer::Answer;
 use model::event::Event;
 use model::event::Reading;
@@ -30,7 +29,7 @@ pub fn play_word(words: &mut [u32], word: u32) -> Answer
     requires { ⌜ readsAsRing (now words) ≡ true ⌝ }
     ensures { λ r. ⌜ written r (now (words .exit)) ≡ playBuffer (now (words .entry)) word ⌝ }
 {
-    let reading = event::read_event(word);
+    let reading = event_calls::read_event(word);
     match reading {
         Reading::Refused(answer) => answer,
         Reading::Read(e) => play_event(words, e),

@@ -7,9 +7,6 @@ ghost use Rattle.model.specs.Leafset as model;
 ghost use Rattle.model.specs.Ring.{holds};
 ghost use Rattle.model.specs.Words.{decodeTable, decode, readsAsRing};
 ghost use Rattle.model.specs.Questions.{leafsetAnswer, leafsetOf, connectionAnswer, connectionOf, groupsAnswer, groupsOf};
-
-mod refusals;
-
 use buffer::head;
 use leafset::leafset::leafset;
 use model::answer::Answer;
@@ -37,7 +34,7 @@ pub struct GroupsAnswer {
 pub fn leafset_of(words: &[u32], x: NodeNumber) -> LeafsetAnswer
     ensures { λ r. ⌜ (r .answer ≡ leafsetAnswer (now (words .entry)) (x .0)) × (r .set ≡ leafsetOf (now (words .entry)) (x .0)) ⌝ }
 {
-    let answer = refusals::of_nodes(words, x, x);
+    let answer = asking::of_nodes(words, x, x);
     if answers::number(answer) != 0 {
         return LeafsetAnswer { answer, set: 0 };
     }
@@ -51,7 +48,7 @@ pub fn leafset_of(words: &[u32], x: NodeNumber) -> LeafsetAnswer
 pub fn connected(words: &[u32], a: NodeNumber, b: NodeNumber) -> ConnectionAnswer
     ensures { λ r. ⌜ (r .answer ≡ connectionAnswer (now (words .entry)) (a .0) (b .0)) × (r .connected ≡ connectionOf (now (words .entry)) (a .0) (b .0)) ⌝ }
 {
-    let answer = refusals::of_nodes(words, a, b);
+    let answer = asking::of_nodes(words, a, b);
     if answers::number(answer) != 0 {
         return ConnectionAnswer {
             answer,
@@ -69,7 +66,7 @@ pub fn connected(words: &[u32], a: NodeNumber, b: NodeNumber) -> ConnectionAnswe
 pub fn groups(words: &[u32]) -> GroupsAnswer
     ensures { λ r. ⌜ (r .answer ≡ groupsAnswer (now (words .entry))) × (r .groups ≡ groupsOf (now (words .entry))) ⌝ }
 {
-    let answer = refusals::of_words(words);
+    let answer = asking::of_words(words);
     if answers::number(answer) != 0 {
         return GroupsAnswer { answer, groups: 0 };
     }

@@ -2,7 +2,6 @@
 ghost use mathlib.Core.Path.{_≡_};
 ghost use Rattle.model.specs.Buffer.{playBuffer};
 ghost use Rattle.answers.specs.Applied.{written};
-use event_words::event;
 use model::answer::Answer;
 use model::event::Reading;
 
@@ -13,7 +12,7 @@ pub fn play(words: &mut [u32], word: u32) -> Answer
     if words.len() != 13441 {
         return Answer::WrongLength;
     }
-    let reading = event::read_event(word);
+    let reading = event_calls::read_event(word);
     match reading {
         Reading::Refused(answer) => answer,
         Reading::Read(e) => {

@@ -3,7 +3,8 @@ use Prim.Native.Nat.{ℕ}
 use native.Mathlib.Omega.{arith}
 use Rattle.answers.proofs.Valid.{long, few}
 use Rattle.answers.proofs.Answered.{asked-refused, asked-accepted}
-use Rattle.questions.proofs.Asked.{groups-refused, groups-given, groups-reads}
+use Rattle.asking.proofs.Refused.{groups-reads}
+use Rattle.questions.proofs.Asked.{groups-refused, groups-given}
 use borrow.Author.Needs.{needs}
 use Rattle.questions.proofs.groups.Statement.{statement}
 use Rattle.questions.proofs.groups.Tie as tie
