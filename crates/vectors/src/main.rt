@@ -20,21 +20,13 @@ fn open(name: &[u8], ending: &[u8; 4]) -> i32
     os::open_read(&path[..end])
 }
 
-// Whether the byte is the next one of the file.
-fn is_next(file: i32, byte: u8) -> bool {
-    let mut next = [0u8; 1];
-    let n = io::read_full(file, &mut next);
-    (n == 1) & (next[0] == byte)
-}
-
 // Whether the bytes are the next ones of the file.
-fn are_next(file: i32, bytes: &[u8]) -> bool {
-    for i in 0..bytes.len() {
-        if !is_next(file, bytes[i]) {
-            return false;
-        }
-    }
-    true
+fn are_next(file: i32, bytes: &[u8], room: &mut [u8]) -> bool
+    requires { ⌜ length (now bytes) ≤ length (now room) ⌝ }
+{
+    let size = bytes.len();
+    let n = io::read_full(file, &mut room[..size]);
+    check::same(bytes, &room[..n])
 }
 
 // Whether the file is at its end.
@@ -44,14 +36,21 @@ fn is_at_end(file: i32) -> bool {
 }
 
 // Plays the script, chunk after chunk: whether it prints just what is expected.
-fn compare(script: i32, expected: i32, words: &mut [u32], bytes: &mut [u8], out: &mut [u8]) -> bool
-    requires { ⌜ (length (now words) ≡ 13441) × (length (now bytes) ≡ 4096) × (length (now out) ≡ 160000) ⌝ }
+fn compare(
+    script: i32,
+    expected: i32,
+    words: &mut [u32],
+    bytes: &mut [u8],
+    out: &mut [u8],
+    room: &mut [u8],
+) -> bool
+    requires { ⌜ (length (now words) ≡ 13441) × (length (now bytes) ≡ 4096) × (length (now out) ≡ 160000) × (length (now room) ≡ 160000) ⌝ }
 {
     let mut session = Session::new();
     for _ in 0..MOST {
         session = chunks::play_next(script, session, bytes, words, out);
         let end = session.end;
-        if !are_next(expected, &out[..end]) {
+        if !are_next(expected, &out[..end], room) {
             return false;
         }
         if !session.more {
@@ -68,9 +67,17 @@ fn run(name: &[u8]) -> bool
     let mut words = [0u32; 13441];
     let mut bytes = [0u8; Session::CHUNK];
     let mut out = [0u8; Session::ROOM];
+    let mut room = [0u8; Session::ROOM];
     let script = open(name, b".bin");
     let expected = open(name, b".out");
-    let same = compare(script, expected, &mut words, &mut bytes, &mut out);
+    let same = compare(
+        script,
+        expected,
+        &mut words,
+        &mut bytes,
+        &mut out,
+        &mut room,
+    );
     libc::close(script);
     libc::close(expected);
     same

@@ -1,19 +1,22 @@
-use mathlib.Core.Path.{_≡_}
-use Prim.Native.Nat.{_-_}
+use mathlib.Core.Path.{sym}
+use native.Mathlib.Omega.{arith}
 use borrow.Author.Needs.{needs}
-use lib.ListN.{length}
+use lib.ListN.{length-take, length-append}
 use Rattle.vectors.proofs.are_next.Statement.{statement}
 use Rattle.vectors.proofs.are_next.Tie as tie
 
-abbrev Inv-loop : tie.InvT-loop
-Inv-loop file bytes i₀ i-end i = i-end ≡ length bytes
+slice-aggregate-read-full : tie.Need-slice-aggregate-read-full
+slice-aggregate-read-full c = sym (simp length-take (omega arith))
 
-abbrev μ-loop : tie.MeasureT-loop
-μ-loop file bytes i₀ i-end i = i-end - i
+slice-reshare-prefix-same : tie.Need-slice-reshare-prefix-same
+slice-reshare-prefix-same c = simp length-append (omega (arith, c .before .before .read-full .ensures .0))
+
+slice-aggregate-same : tie.Need-slice-aggregate-same
+slice-aggregate-same c = sym (simp (length-take, length-append) (omega (arith, c .before .before .before .read-full .ensures .0)))
 
 pub are-next-spec : {M : Type 1} → statement M
 are-next-spec =
     tie.close
     (tie.spec
-    Inv-loop μ-loop (λ c. search needs) (λ c. search needs) (λ c κs. search needs) (λ c. search needs) (λ c. search needs)
-    (λ c. search needs) (λ c. search needs) (λ c. search needs))
+    (λ c. search needs) slice-aggregate-read-full (λ c κs. search needs) slice-reshare-prefix-same slice-aggregate-same
+    (λ c κs. search needs) (λ c. search needs) (λ c. search needs))
