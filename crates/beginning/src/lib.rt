@@ -8,8 +8,8 @@ ghost use Rattle.answers.specs.Applied.{written};
 ghost use Rattle.beginning.specs.Beginning.{headFits, sizesFit, keyFits, keysFit, scriptKeys, openScript};
 use model::answer::Answer;
 use opening::open;
-use words::ring::HeadWord;
-use words::ring::KeyWord;
+use word_ring::HeadWord;
+use word_ring::KeyWord;
 
 // Opens a ring over the words, or refuses with 2 or 3.
 pub fn open_script(script: &[u32], words: &mut [u32]) -> Answer

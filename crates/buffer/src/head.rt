@@ -4,7 +4,7 @@ ghost use Prim.Native.Nat.{_^_, _<_};
 ghost use lib.ListN.{length};
 ghost use Rattle.model.specs.Leafset.{size};
 ghost use Rattle.model.specs.Words.{ringLength, decodeTable, decode};
-use words::ring::HeadWord;
+use word_ring::HeadWord;
 
 // L.
 pub fn leaf(words: &[u32]) -> u32

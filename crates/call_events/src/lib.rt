@@ -1,11 +1,11 @@
 // Reading and writing event words, by a command.
 use call_commands::command::Command;
 use call_commands::line::Outcome;
-use event_words::EventWord;
 use model::answer::Answer;
 use model::event::Event;
 use model::event::Reading;
 use model::values::NodeNumber;
+use word_event::word::EventWord;
 
 // The answer with its value.
 pub fn outcome(answer: Answer, value: u64) -> Outcome {
@@ -21,7 +21,7 @@ pub fn node(number: u32) -> NodeNumber {
 
 // The value has the event's kind and its two parts, four decimal digits each.
 pub fn read(word: u32) -> Outcome {
-    let reading = event_calls::read_event(word);
+    let reading = word_event::read_event(word);
     match reading {
         Reading::Refused(answer) => outcome(answer, 0),
         Reading::Read(e) => outcome(Answer::Accepted, spelt(e)),
@@ -45,7 +45,7 @@ fn digits(kind: u32, first: u16, second: u16) -> u64 {
 }
 
 pub fn write(command: Command) -> Outcome {
-    let writing = event_calls::write_event(event_of(command));
+    let writing = word_event::write_event(event_of(command));
     let answer = writing.answer;
     outcome(answer, writing.word as u64)
 }

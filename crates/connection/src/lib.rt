@@ -11,8 +11,8 @@ ghost use Rattle.model.specs.Words.{ringLength, decodeTable, decode};
 ghost use Rattle.model.specs.Connection as model;
 ghost use Rattle.connection.specs.Links.{heldAt, Closed};
 use model::values::NodeNumber;
-use words::ring::KeyWord;
-use words::ring::PairWord;
+use word_ring::KeyWord;
+use word_ring::PairWord;
 
 // The nodes that run.
 fn running(words: &[u32], n: usize) -> u64

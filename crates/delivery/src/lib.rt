@@ -5,11 +5,11 @@ ghost use Prim.Native.Nat.{_<_};
 ghost use lib.ListN.{length};
 ghost use Rattle.model.specs.Answers.{firstOf};
 ghost use Rattle.model.specs.Words.{decode, readsAsRing};
-ghost use Rattle.model.specs.Steps as steps;
 ghost use Rattle.model.specs.Play.{after};
 ghost use Rattle.model.specs.Structs.{ownOf, messageOf};
 ghost use Rattle.model.specs.declared.answer.Answer.the-variants.{Accepted};
 ghost use Rattle.model.specs.declared.event.Event.the-variants.{Deliver};
+ghost use Rattle.model.specs.Steps as steps;
 ghost use Rattle.messages.specs.Loaded.{LoadedMessage};
 ghost use Rattle.effects.specs.Effects.{Replies, Delivered};
 ghost use Rattle.acting.specs.Acting.{mayAct, IsActor};
@@ -19,6 +19,7 @@ use buffer::head;
 use effects::reply::Reply;
 use model::answer::Answer;
 use model::message::MessageRecord;
+use protocol::deliver;
 
 // "Delivery takes the message out first; to a stand that is off, nothing else happens."
 pub fn deliver(words: &mut [u32], position: u16) -> Answer
@@ -63,7 +64,7 @@ fn step(words: &[u32], actor: Actor, message: MessageRecord) -> Reply
     let n = actor.n;
     let leaf = head::leaf(words);
     let keys = table::keys(words, n);
-    protocol::deliver::deliver(
+    deliver::deliver(
         &keys[..n],
         leaf,
         message.receiver,

@@ -3,14 +3,14 @@ ghost use mathlib.Core.Path.{_≡_};
 ghost use mathlib.Core.Bool.{true};
 ghost use Rattle.model.specs.Events.{wordAnswer};
 ghost use Rattle.event_parts.specs.Parts.{numbers, partsOf, readParts, partsAre, eventOfParts, partsAnswer, writeParts};
-use event_calls::read_event;
-use event_calls::write_event;
-use event_words::EventWord;
 use model::answer::Answer;
 use model::event::Event;
 use model::event::Reading;
 use model::event::Writing;
 use model::values::NodeNumber;
+use word_event::read_event;
+use word_event::word::EventWord;
+use word_event::write_event;
 
 // The kind; the node or the position; the other node or the timer, 0 where the event has neither.
 pub struct Parts {

@@ -29,7 +29,7 @@ pub fn play_word(words: &mut [u32], word: u32) -> Answer
     requires { ⌜ readsAsRing (now words) ≡ true ⌝ }
     ensures { λ r. ⌜ written r (now (words .exit)) ≡ playBuffer (now (words .entry)) word ⌝ }
 {
-    let reading = event_calls::read_event(word);
+    let reading = word_event::read_event(word);
     match reading {
         Reading::Refused(answer) => answer,
         Reading::Read(e) => play_event(words, e),

@@ -9,9 +9,9 @@ ghost use Rattle.spans.specs.Spans.{Patched};
 ghost use Rattle.initial.specs.Rows.{Rows};
 use model::values::Key;
 use model::values::Stamp;
-use words::ring::ClockWord;
-use words::ring::HeadWord;
-use words::ring::KeyWord;
+use word_ring::ClockWord;
+use word_ring::HeadWord;
+use word_ring::KeyWord;
 
 // Writes the initial ring over any old words.
 pub fn write(words: &mut [u32], leaf: u32, keys: &[u32])

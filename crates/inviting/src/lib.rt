@@ -2,8 +2,8 @@
 ghost use Prim.Native.Nat.{ℕ, _<_, _≤_, _^_};
 ghost use lib.ListN.{length};
 ghost use Rattle.model.specs.Leafset.{Table};
-ghost use Rattle.model.specs.Steps as steps;
 ghost use Rattle.model.specs.Structs.{tableOf, ownOf, messageOf};
+ghost use Rattle.model.specs.Steps as steps;
 ghost use Rattle.sets.specs.Within.{Within};
 ghost use Rattle.leafset.specs.Table.{InTable};
 ghost use Rattle.effects.specs.Effects.{OwnFits, Replies};
@@ -18,7 +18,7 @@ use model::message::MessageRecord;
 use model::node::NodeRecord;
 use model::values::NodeNumber;
 use model::values::Stamp;
-use words::ring::MessageWord;
+use word_ring::MessageWord;
 
 // "On 3: answer type 4 with view = leafset of the sender in my held set; sender becomes a candidate."
 pub fn on_ping_ask_inv(

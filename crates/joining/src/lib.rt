@@ -2,8 +2,8 @@
 ghost use Prim.Native.Nat.{ℕ, _<_, _^_};
 ghost use lib.ListN.{length};
 ghost use Rattle.model.specs.Leafset.{Table};
-ghost use Rattle.model.specs.Steps as steps;
 ghost use Rattle.model.specs.Structs.{tableOf, ownOf, messageOf, RoomNode};
+ghost use Rattle.model.specs.Steps as steps;
 ghost use Rattle.leafset.specs.Table.{InTable};
 ghost use Rattle.effects.specs.Effects.{OwnFits, Replies};
 use choices::passes_zero;
@@ -17,7 +17,7 @@ use model::message::MessageRecord;
 use model::node::NodeRecord;
 use model::values::NodeNumber;
 use model::values::Stamp;
-use words::ring::MessageWord;
+use word_ring::MessageWord;
 
 // On 1: "its receiver answers type 2".
 pub fn on_ping_contact(me: NodeNumber, own: NodeRecord, message: MessageRecord) -> Reply

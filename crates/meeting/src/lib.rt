@@ -9,7 +9,7 @@ ghost use Rattle.meeting.specs.Meeting.{mayMeet};
 use buffer::head;
 use model::answer::Answer;
 use model::values::NodeNumber;
-use protocol::contact as step;
+use protocol::contact;
 
 // Whether x may act on y: y is in the table too.
 fn may_meet(words: &[u32], x: NodeNumber, y: NodeNumber) -> Answer
@@ -31,7 +31,7 @@ pub fn contact(words: &mut [u32], x: NodeNumber, y: NodeNumber) -> Answer
         return answer;
     }
     let a = acting::load(words, x);
-    let reply = step::contact(x, a.own, y);
+    let reply = contact::contact(x, a.own, y);
     applying::reply(words, a.n, a.m, x, a.time, reply)
 }
 
@@ -44,6 +44,6 @@ pub fn notice(words: &mut [u32], x: NodeNumber, z: NodeNumber) -> Answer
         return answer;
     }
     let a = acting::load(words, x);
-    let reply = step::notice(a.own, z);
+    let reply = contact::notice(a.own, z);
     applying::reply(words, a.n, a.m, x, a.time, reply)
 }

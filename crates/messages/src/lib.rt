@@ -6,9 +6,9 @@ ghost use Rattle.model.specs.Fields.{bits};
 ghost use Rattle.model.specs.Words.{ringLength};
 ghost use Rattle.messages.specs.Loaded.{LoadedMessage};
 use model::message::MessageRecord;
-use words::ring::MessageWord;
-use words::ring::StampWord;
-use words::ring::ViewWord;
+use word_ring::MessageWord;
+use word_ring::StampWord;
+use word_ring::ViewWord;
 
 // The message at position k.
 pub fn load(words: &[u32], k: usize) -> MessageRecord

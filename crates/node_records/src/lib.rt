@@ -4,15 +4,15 @@ ghost use Prim.Native.Nat.{_<_, _≤_};
 ghost use lib.ListN.{length};
 ghost use Rattle.model.specs.Choice.{if_then_else_};
 ghost use Rattle.model.specs.Sets.{ofBits};
-ghost use Rattle.model.specs.Sets as model;
 ghost use Rattle.model.specs.Leafset.{size};
 ghost use Rattle.model.specs.Words.{ringLength, decodeTable};
+ghost use Rattle.model.specs.Sets as model;
 ghost use Rattle.node_records.specs.Loaded.{LoadedNode};
 use model::node::NodeRecord;
 use model::values::NodeNumber;
 use model::values::Stamp;
-use words::ring::PairWord;
-use words::ring::SpareWord;
+use word_ring::PairWord;
+use word_ring::SpareWord;
 
 // The own record of node x, of n.
 pub fn load(words: &[u32], n: usize, x: NodeNumber) -> NodeRecord

@@ -8,8 +8,8 @@ ghost use Rattle.model.specs.Words.{ringLength, decodeTable, decodeNode};
 ghost use Rattle.buffer.specs.Parts.{Is, update, setRunning, setClock};
 use model::values::NodeNumber;
 use model::values::Stamp;
-use words::ring::ClockWord;
-use words::ring::KeyWord;
+use word_ring::ClockWord;
+use word_ring::KeyWord;
 
 // Whether node x runs.
 pub fn is_running(words: &[u32], x: NodeNumber) -> bool

@@ -2,8 +2,8 @@
 ghost use Prim.Native.Nat.{ℕ, _<_, _≤_};
 ghost use lib.ListN.{length};
 ghost use Rattle.model.specs.Leafset.{Table};
-ghost use Rattle.model.specs.Steps as steps;
 ghost use Rattle.model.specs.Structs.{tableOf, ownOf, messageOf, RoomNode, RoomMessage};
+ghost use Rattle.model.specs.Steps as steps;
 ghost use Rattle.leafset.specs.Table.{InTable};
 ghost use Rattle.effects.specs.Effects.{OwnFits, Replies};
 use effects::own::set_spare;
@@ -13,7 +13,7 @@ use model::message::MessageRecord;
 use model::node::NodeRecord;
 use model::values::NodeNumber;
 use spare_choice::closest;
-use words::ring::MessageWord;
+use word_ring::MessageWord;
 
 // "On 7 from a: answer 8 whose subject is the member of my leafset, other than a, nearest to a and strictly nearer to
 // a than I am; .. else 64."

@@ -10,8 +10,8 @@ ghost use Rattle.pairs.specs.Stored.{Stored};
 use model::node::NodeRecord;
 use model::values::NodeNumber;
 use model::values::Stamp;
-use words::ring::PairWord;
-use words::ring::SpareWord;
+use word_ring::PairWord;
+use word_ring::SpareWord;
 
 // Writes the pairs of x and each z from a up to b.
 pub fn store(words: &mut [u32], x: usize, a: usize, b: usize, own: NodeRecord)

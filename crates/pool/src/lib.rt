@@ -10,10 +10,10 @@ ghost use Rattle.model.specs.Play.{setMessages, removeMessage};
 ghost use Rattle.model.specs.Structs.{messageOf, RoomMessage};
 ghost use Rattle.buffer.specs.Parts.{Is};
 use model::message::MessageRecord;
-use words::ring::HeadWord;
-use words::ring::MessageWord;
-use words::ring::StampWord;
-use words::ring::ViewWord;
+use word_ring::HeadWord;
+use word_ring::MessageWord;
+use word_ring::StampWord;
+use word_ring::ViewWord;
 
 // Takes the message at position k out of the m messages.
 pub fn remove(words: &mut [u32], m: usize, k: usize)

@@ -1,15 +1,15 @@
 // The steps of a contact and of a notice.
 ghost use Prim.Native.Nat.{ℕ, _<_};
 ghost use Rattle.model.specs.Leafset.{Table};
-ghost use Rattle.model.specs.Steps as steps;
 ghost use Rattle.model.specs.Structs.{ownOf, RoomNode};
+ghost use Rattle.model.specs.Steps as steps;
 ghost use Rattle.effects.specs.Effects.{OwnFits, Replies};
 use effects::own::release;
 use effects::reply::Reply;
 use message_records::plain;
 use model::node::NodeRecord;
 use model::values::NodeNumber;
-use words::ring::MessageWord;
+use word_ring::MessageWord;
 
 // "Contact y: send type 1 to y"
 pub fn contact(me: NodeNumber, own: NodeRecord, y: NodeNumber) -> Reply

@@ -1,8 +1,8 @@
 // The step of a delivered message.
 ghost use Prim.Native.Nat.{_<_, _≤_, _^_};
 ghost use lib.ListN.{length};
-ghost use Rattle.model.specs.Steps as steps;
 ghost use Rattle.model.specs.Structs.{tableOf, ownOf, messageOf};
+ghost use Rattle.model.specs.Steps as steps;
 ghost use Rattle.leafset.specs.Table.{InTable};
 ghost use Rattle.effects.specs.Effects.{OwnFits, Replies, Delivered};
 use effects::reply::Reply;
@@ -10,7 +10,7 @@ use model::message::MessageRecord;
 use model::node::NodeRecord;
 use model::values::NodeNumber;
 use model::values::Stamp;
-use words::ring::MessageWord;
+use word_ring::MessageWord;
 
 // The step of the message's type; nothing for a number that is no type.
 pub fn deliver(

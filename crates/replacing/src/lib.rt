@@ -5,8 +5,8 @@ ghost use lib.Dec.{ltb};
 ghost use lib.ListN.{length};
 ghost use Rattle.model.specs.Choice.{if_then_else_};
 ghost use Rattle.model.specs.Leafset.{Table};
-ghost use Rattle.model.specs.Steps as steps;
 ghost use Rattle.model.specs.Structs.{tableOf, ownOf, messageOf, stampAt, RoomNode, RoomMessage};
+ghost use Rattle.model.specs.Steps as steps;
 ghost use Rattle.leafset.specs.Table.{InTable};
 ghost use Rattle.effects.specs.Effects.{OwnFits, Owns, Replies};
 use effects::own::hold;
@@ -19,7 +19,7 @@ use model::message::MessageRecord;
 use model::node::NodeRecord;
 use model::values::NodeNumber;
 use model::values::Stamp;
-use words::ring::MessageWord;
+use word_ring::MessageWord;
 
 // "On 9: if z is held, its commit becomes now and I answer 10 with the same subject and stamp."
 pub fn on_ping_replace(

@@ -12,7 +12,7 @@ pub fn play(words: &mut [u32], word: u32) -> Answer
     if words.len() != 13441 {
         return Answer::WrongLength;
     }
-    let reading = event_calls::read_event(word);
+    let reading = word_event::read_event(word);
     match reading {
         Reading::Refused(answer) => answer,
         Reading::Read(e) => {

@@ -7,16 +7,16 @@ ghost use lib.ListN.{length};
 ghost use Rattle.model.specs.Sets.{ofBits, count, members};
 ghost use Rattle.model.specs.Ring.{Ring};
 ghost use Rattle.model.specs.Words.{ringLength};
-ghost use Rattle.model.specs.Steps as steps;
 ghost use Rattle.model.specs.Play.{setMessages};
 ghost use Rattle.model.specs.Structs.{spareAt, RoomNode};
+ghost use Rattle.model.specs.Steps as steps;
 ghost use Rattle.buffer.specs.Parts.{Is};
 use message_records::plain;
 use message_records::stamped;
 use model::node::NodeRecord;
 use model::values::NodeNumber;
 use model::values::Stamp;
-use words::ring::MessageWord;
+use word_ring::MessageWord;
 
 // Sends a message of a type that uses nothing to each of the set, after the m messages. How many there are then.
 pub fn send_each(words: &mut [u32], m: usize, tag: u8, me: NodeNumber, to: u64) -> usize

@@ -3,11 +3,11 @@ ghost use mathlib.Core.Path.{_≡_};
 ghost use Prim.Native.Nat.{_<_, _≤_};
 ghost use lib.ListN.{length, take};
 ghost use Rattle.model.specs.Leafset.{size};
-ghost use Rattle.model.specs.Leafset as model;
 ghost use Rattle.model.specs.Words.{ringLength, decodeTable};
+ghost use Rattle.model.specs.Leafset as model;
 use model::values::Key;
 use model::values::NodeNumber;
-use words::ring::KeyWord;
+use word_ring::KeyWord;
 
 // The key of node x.
 pub fn key(words: &[u32], x: NodeNumber) -> Key

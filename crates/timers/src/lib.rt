@@ -6,8 +6,8 @@ ghost use lib.Dec.{eqb};
 ghost use lib.ListN.{length};
 ghost use Rattle.model.specs.Sets.{ofBits, noneNode};
 ghost use Rattle.model.specs.Leafset.{Table, size};
-ghost use Rattle.model.specs.Steps as steps;
 ghost use Rattle.model.specs.Structs.{tableOf, ownOf, spareAt, RoomNode};
+ghost use Rattle.model.specs.Steps as steps;
 ghost use Rattle.leafset.specs.Table.{InTable};
 ghost use Rattle.effects.specs.Effects.{OwnFits, Replies, CallsEach, RequestsEach};
 use choices::passes_zero;
@@ -20,7 +20,7 @@ use leafset::outside::outside;
 use message_records::naming;
 use model::node::NodeRecord;
 use model::values::NodeNumber;
-use words::ring::MessageWord;
+use word_ring::MessageWord;
 
 // "type 3 to each held stand"
 pub fn timer0(own: NodeRecord) -> Calls

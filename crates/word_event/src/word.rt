@@ -1,0 +1,73 @@
+// An event word as a type: kinds, constructor and readers.
+ghost use mathlib.Core.Path.{_≡_};
+ghost use Prim.Native.Nat.{_<_, _^_};
+ghost use Rattle.model.specs.Fields.{ofKind};
+ghost use Rattle.model.specs.Events.{wordOf, eventOf};
+use model::event::Event;
+use model::values::NodeNumber;
+
+pub struct EventWord(pub u32);
+
+impl EventWord {
+    pub const ON: u32 = 9;
+
+    pub const OFF: u32 = 10;
+
+    pub const NOTICE: u32 = 11;
+
+    pub const CONTACT: u32 = 12;
+
+    pub const TIMER: u32 = 13;
+
+    pub const DELIVER: u32 = 14;
+
+    pub const LOSE: u32 = 15;
+
+    // The word of kind `kind` whose other bits are `parts`.
+    fn of_kind(kind: u32, parts: u32) -> EventWord
+        requires { ⌜ (kind < 16) × (parts < 2 ^ 28) ⌝ }
+        ensures { λ r. ⌜ r .0 ≡ ofKind kind parts ⌝ }
+    {
+        EventWord(kind * 0x1000_0000 + parts)
+    }
+
+    pub fn new(e: Event) -> EventWord
+        ensures { λ r. ⌜ r .0 ≡ wordOf e ⌝ }
+    {
+        match e {
+            Event::On(x) => EventWord::of_kind(EventWord::ON, wide(x)),
+            Event::Off(x) => EventWord::of_kind(EventWord::OFF, wide(x)),
+            Event::Notice(x, z) => EventWord::of_kind(EventWord::NOTICE, wide(z) * 64 + wide(x)),
+            Event::Contact(x, y) => EventWord::of_kind(EventWord::CONTACT, wide(y) * 64 + wide(x)),
+            Event::Timer(x, k) => EventWord::of_kind(EventWord::TIMER, (k as u32) * 4096 + wide(x)),
+            Event::Deliver(i) => EventWord::of_kind(EventWord::DELIVER, i as u32),
+            Event::Lose(i) => EventWord::of_kind(EventWord::LOSE, i as u32),
+        }
+    }
+
+    // The event that the named bits give.
+    pub fn event(self) -> Event
+        ensures { λ r. ⌜ r ≡ eventOf (self .0) ⌝ }
+    {
+        let x = NodeNumber((self.0 % 64) as u8);
+        let other = NodeNumber((self.0 / 64 % 64) as u8);
+        let timer = (self.0 / 4096 % 8) as u8;
+        let position = (self.0 % 1024) as u16;
+        let kind = self.0 / 0x1000_0000;
+        match kind {
+            EventWord::OFF => Event::Off(x),
+            EventWord::NOTICE => Event::Notice(x, other),
+            EventWord::CONTACT => Event::Contact(x, other),
+            EventWord::TIMER => Event::Timer(x, timer),
+            EventWord::DELIVER => Event::Deliver(position),
+            EventWord::LOSE => Event::Lose(position),
+            _ => Event::On(x),
+        }
+    }
+}
+
+fn wide(x: NodeNumber) -> u32
+    ensures { λ r. ⌜ (r ≡ x .0) × (r < 256) ⌝ }
+{
+    x.0 as u32
+}
