@@ -17,8 +17,8 @@ use Rattle.model.proofs.Answers.{none-applies}
 use Rattle.model.proofs.Decoded.{reads-well}
 use Rattle.model.proofs.Lists.{first, rest}
 use Rattle.node_records.specs.Loaded.{LoadedNode}
-use Rattle.effects.specs.Effects.{OwnFits}
-use Rattle.effects.proofs.WellFormed as protocol
+use Rattle.records.specs.Effects.{OwnFits}
+use Rattle.records.proofs.WellFormed as protocol
 use Rattle.acting.specs.Acting.{mayAct}
 use Rattle.answers.proofs.Valid.{few, clock-high}
 

@@ -15,9 +15,9 @@ use Rattle.model.specs.declared.answer.Answer.{Answer}
 use Rattle.leafset.specs.Table.{InTable}
 use Rattle.buffer.specs.Parts.{Is}
 use Rattle.buffer.proofs.ReadRing.{read-is}
-use Rattle.effects.specs.Effects.{OwnFits, Replies, CallsEach}
-use Rattle.effects.specs.declared.reply.Calls.{Calls}
-use Rattle.effects.specs.declared.reply.Reply.{Reply}
+use Rattle.records.specs.Effects.{OwnFits, Replies, CallsEach}
+use Rattle.records.specs.declared.effect.Calls.{Calls}
+use Rattle.records.specs.declared.effect.Reply.{Reply}
 use Rattle.acting.specs.Acting.{IsActor}
 use Rattle.answers.specs.Applied.{written, acted, applied}
 use Rattle.acting.specs.declared.Actor.{Actor}

@@ -10,7 +10,7 @@ use Rattle.model.specs.Answers.{Refusal}
 use Rattle.model.specs.Words.{decodeTable, decode}
 use Rattle.model.specs.Play.{noNode, nodeOff, clockSpent}
 use Rattle.model.specs.Structs.{ownOf, spareAt}
-use Rattle.effects.specs.Effects.{OwnFits}
+use Rattle.records.specs.Effects.{OwnFits}
 use Rattle.acting.specs.declared.Actor.{Actor}
 
 -- the refusals of a node that is to act

@@ -13,8 +13,8 @@ use Rattle.model.specs.Structs.{ownOf, messageOf}
 use Rattle.model.specs.declared.answer.Answer.the-variants.{Accepted, PoolFull}
 use Rattle.sets.proofs.Members.{length-members}
 use Rattle.buffer.specs.Parts.{Is, update, stepped}
-use Rattle.effects.specs.Effects.{replyEffect}
-use Rattle.effects.specs.declared.reply.Reply.{Reply}
+use Rattle.records.specs.Effects.{replyEffect}
+use Rattle.records.specs.declared.effect.Reply.{Reply}
 use Rattle.answers.specs.Applied.{written, acted, applied}
 use Rattle.answers.proofs.Answered.{applied-room, applied-full}
 

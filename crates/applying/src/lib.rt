@@ -8,14 +8,14 @@ ghost use Rattle.model.specs.Ring.{Ring};
 ghost use Rattle.model.specs.Words.{ringLength};
 ghost use Rattle.model.specs.Structs.{spareAt, RoomNode, RoomMessage};
 ghost use Rattle.buffer.specs.Parts.{Is};
-ghost use Rattle.effects.specs.Effects.{replyEffect, callsEffect, requestsEffect};
+ghost use Rattle.records.specs.Effects.{replyEffect, callsEffect, requestsEffect};
 ghost use Rattle.answers.specs.Applied.{written, acted, applied};
-use effects::reply::Calls;
-use effects::reply::Reply;
 use model::answer::Answer;
 use model::node::NodeRecord;
 use model::values::NodeNumber;
 use model::values::Stamp;
+use records::effect::Calls;
+use records::effect::Reply;
 
 // Node x, of n, acts at `time` with one message or none, after the m messages.
 pub fn reply(

@@ -19,9 +19,9 @@ use Rattle.model.specs.declared.message.MessageRecord.{MessageRecord}
 use Rattle.model.proofs.Laws.{if-law}
 use Rattle.messages.specs.Loaded.{LoadedMessage}
 use Rattle.buffer.proofs.ReadRing.{read-message}
-use Rattle.effects.specs.Effects.{replyEffect, Delivered}
-use Rattle.effects.specs.declared.reply.Reply.{Reply}
-use Rattle.effects.proofs.WellFormed.{delivered}
+use Rattle.records.specs.Effects.{replyEffect, Delivered}
+use Rattle.records.specs.declared.effect.Reply.{Reply}
+use Rattle.records.proofs.WellFormed.{delivered}
 use Rattle.answers.specs.Applied.{acted}
 use Rattle.answers.proofs.Valid.{few, message-well}
 use Rattle.answers.proofs.Refusals.{next, no-more, in-table, on as runs, a-message}

@@ -11,15 +11,15 @@ ghost use Rattle.model.specs.declared.answer.Answer.the-variants.{Accepted};
 ghost use Rattle.model.specs.declared.event.Event.the-variants.{Deliver};
 ghost use Rattle.model.specs.Steps as steps;
 ghost use Rattle.messages.specs.Loaded.{LoadedMessage};
-ghost use Rattle.effects.specs.Effects.{Replies, Delivered};
+ghost use Rattle.records.specs.Effects.{Replies, Delivered};
 ghost use Rattle.acting.specs.Acting.{mayAct, IsActor};
 ghost use Rattle.answers.specs.Applied.{written, eventOn, applied};
 use acting::Actor;
 use buffer::head;
-use effects::reply::Reply;
 use model::answer::Answer;
 use model::message::MessageRecord;
 use protocol::deliver;
+use records::effect::Reply;
 
 // "Delivery takes the message out first; to a stand that is off, nothing else happens."
 pub fn deliver(words: &mut [u32], position: u16) -> Answer

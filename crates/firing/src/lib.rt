@@ -3,22 +3,22 @@ ghost use mathlib.Core.Path.{_≡_};
 ghost use mathlib.Core.Bool.{true};
 ghost use Prim.Native.Nat.{ℕ, _≤_, _<_};
 ghost use lib.ListN.{length};
-ghost use Rattle.model.specs.Steps as steps;
 ghost use Rattle.model.specs.Structs.{tableOf, ownOf};
 ghost use Rattle.model.specs.Words.{decode, readsAsRing};
 ghost use Rattle.model.specs.Play.{after};
 ghost use Rattle.model.specs.declared.event.Event.the-variants.{Timer};
+ghost use Rattle.model.specs.Steps as steps;
 ghost use Rattle.leafset.specs.Table.{InTable};
-ghost use Rattle.effects.specs.Effects.{OwnFits, Replies, CallsEach};
+ghost use Rattle.records.specs.Effects.{OwnFits, Replies, CallsEach};
 ghost use Rattle.acting.specs.Acting.{IsActor};
 ghost use Rattle.answers.specs.Applied.{written, applied, eventOn};
 use acting::Actor;
 use buffer::head;
-use effects::reply::Calls;
-use effects::reply::Reply;
 use model::answer::Answer;
 use model::node::NodeRecord;
 use model::values::NodeNumber;
+use records::effect::Calls;
+use records::effect::Reply;
 
 // Timer k at node x. Above 4 no timer has a step: only the clock rises.
 pub fn timer(words: &mut [u32], x: NodeNumber, k: u8) -> Answer

@@ -6,18 +6,18 @@ ghost use Rattle.model.specs.Structs.{tableOf, ownOf, messageOf};
 ghost use Rattle.model.specs.Steps as steps;
 ghost use Rattle.sets.specs.Within.{Within};
 ghost use Rattle.leafset.specs.Table.{InTable};
-ghost use Rattle.effects.specs.Effects.{OwnFits, Replies};
-use effects::own::add_candidate;
-use effects::own::add_candidates;
-use effects::own::hold;
-use effects::reply::Reply;
-use leafset::leafset::leafset;
-use message_records::plain;
-use message_records::viewing;
+ghost use Rattle.records.specs.Effects.{OwnFits, Replies};
+use leafset::leafset;
 use model::message::MessageRecord;
 use model::node::NodeRecord;
 use model::values::NodeNumber;
 use model::values::Stamp;
+use records::effect::Reply;
+use records::message::plain;
+use records::message::viewing;
+use records::own::add_candidate;
+use records::own::add_candidates;
+use records::own::hold;
 use word_ring::MessageWord;
 
 // "On 3: answer type 4 with view = leafset of the sender in my held set; sender becomes a candidate."

@@ -5,18 +5,18 @@ ghost use Rattle.model.specs.Leafset.{Table};
 ghost use Rattle.model.specs.Structs.{tableOf, ownOf, messageOf, RoomNode};
 ghost use Rattle.model.specs.Steps as steps;
 ghost use Rattle.leafset.specs.Table.{InTable};
-ghost use Rattle.effects.specs.Effects.{OwnFits, Replies};
-use choices::passes_zero;
-use choices::successor;
-use effects::own::add_candidate;
-use effects::own::hold;
-use effects::reply::Reply;
-use message_records::naming;
-use message_records::plain;
+ghost use Rattle.records.specs.Effects.{OwnFits, Replies};
+use leafset_choice::passes_zero;
+use leafset_choice::successor;
 use model::message::MessageRecord;
 use model::node::NodeRecord;
 use model::values::NodeNumber;
 use model::values::Stamp;
+use records::effect::Reply;
+use records::message::naming;
+use records::message::plain;
+use records::own::add_candidate;
+use records::own::hold;
 use word_ring::MessageWord;
 
 // On 1: "its receiver answers type 2".

@@ -15,10 +15,10 @@ use Rattle.model.proofs.Bits.{bits-back}
 use Rattle.model.specs.Leafset as model
 use Rattle.leafset.specs.Table.{InTable}
 use Rattle.model.specs.Structs.{tableOf}
-use Rattle.nearness.specs.Span.{spanOf, spanTo}
+use Rattle.leafset_nearest.specs.Span.{spanOf, spanTo}
 use Rattle.leafset.specs.Near.{isNear}
-use Rattle.nearness.specs.declared.Way.{Way}
-use Rattle.nearness.specs.declared.Way.the-variants.{Clockwise, CounterClockwise}
+use Rattle.leafset_nearest.specs.declared.Way.{Way}
+use Rattle.leafset_nearest.specs.declared.Way.the-variants.{Clockwise, CounterClockwise}
 use Rattle.sets.proofs.Members.{count-to}
 use Rattle.sets.proofs.Bits.{toBits-ofBits}
 

@@ -1,2 +1,2 @@
-pub mod Limit
+pub mod Limits
 pub mod Leaves

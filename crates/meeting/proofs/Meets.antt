@@ -20,8 +20,8 @@ use Rattle.model.specs.declared.event.Event.{Event}
 use Rattle.model.proofs.Answers.{none-applies}
 use Rattle.model.proofs.Lists.{first, rest}
 use Rattle.buffer.specs.Parts.{Is}
-use Rattle.effects.specs.Effects.{replyEffect, Replies}
-use Rattle.effects.specs.declared.reply.Reply.{Reply}
+use Rattle.records.specs.Effects.{replyEffect, Replies}
+use Rattle.records.specs.declared.effect.Reply.{Reply}
 use Rattle.answers.specs.Applied.{written, eventOn, acted, applied}
 use Rattle.answers.proofs.Answered.{asked-accepted, event-passed}
 use Rattle.acting.specs.Acting.{mayAct, IsActor}

@@ -5,14 +5,14 @@ ghost use Rattle.model.specs.Leafset.{Table};
 ghost use Rattle.model.specs.Structs.{tableOf, ownOf, messageOf, RoomNode, RoomMessage};
 ghost use Rattle.model.specs.Steps as steps;
 ghost use Rattle.leafset.specs.Table.{InTable};
-ghost use Rattle.effects.specs.Effects.{OwnFits, Replies};
-use effects::own::set_spare;
-use effects::reply::Reply;
-use message_records::naming;
+ghost use Rattle.records.specs.Effects.{OwnFits, Replies};
+use leafset_choice::closest;
 use model::message::MessageRecord;
 use model::node::NodeRecord;
 use model::values::NodeNumber;
-use spare_choice::closest;
+use records::effect::Reply;
+use records::message::naming;
+use records::own::set_spare;
 use word_ring::MessageWord;
 
 // "On 7 from a: answer 8 whose subject is the member of my leafset, other than a, nearest to a and strictly nearer to

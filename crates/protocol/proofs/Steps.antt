@@ -8,8 +8,8 @@ use lib.ListN.{getD, List·getD-eq-default}
 use Rattle.model.specs.Leafset.{Table}
 use Rattle.model.specs.Ring.{Own, Message}
 use Rattle.model.specs.Steps.{Effect, nothing, deliver, onPingContact, onPongContact, onPingAskInv, onPongAskInv, onPingInvite, onPongInvite, onPingAskRepl, onPongAskRepl, onPingReplace, onPongReplace, onPingDeloopy, onPongDeloopy}
-use Rattle.effects.specs.declared.reply.Reply.{Reply}
-use Rattle.effects.specs.Effects.{Replies}
+use Rattle.records.specs.declared.effect.Reply.{Reply}
+use Rattle.records.specs.Effects.{Replies}
 
 module _ (t : Table) (me now : ℕ) (o : Own) (m : Message) where
   abbrev steps : List Effect

@@ -3,12 +3,12 @@ ghost use Prim.Native.Nat.{ℕ, _<_};
 ghost use Rattle.model.specs.Leafset.{Table};
 ghost use Rattle.model.specs.Structs.{ownOf, RoomNode};
 ghost use Rattle.model.specs.Steps as steps;
-ghost use Rattle.effects.specs.Effects.{OwnFits, Replies};
-use effects::own::release;
-use effects::reply::Reply;
-use message_records::plain;
+ghost use Rattle.records.specs.Effects.{OwnFits, Replies};
 use model::node::NodeRecord;
 use model::values::NodeNumber;
+use records::effect::Reply;
+use records::message::plain;
+use records::own::release;
 use word_ring::MessageWord;
 
 // "Contact y: send type 1 to y"

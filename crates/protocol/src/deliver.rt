@@ -4,12 +4,12 @@ ghost use lib.ListN.{length};
 ghost use Rattle.model.specs.Structs.{tableOf, ownOf, messageOf};
 ghost use Rattle.model.specs.Steps as steps;
 ghost use Rattle.leafset.specs.Table.{InTable};
-ghost use Rattle.effects.specs.Effects.{OwnFits, Replies, Delivered};
-use effects::reply::Reply;
+ghost use Rattle.records.specs.Effects.{OwnFits, Replies, Delivered};
 use model::message::MessageRecord;
 use model::node::NodeRecord;
 use model::values::NodeNumber;
 use model::values::Stamp;
+use records::effect::Reply;
 use word_ring::MessageWord;
 
 // The step of the message's type; nothing for a number that is no type.

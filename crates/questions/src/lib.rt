@@ -3,12 +3,12 @@ ghost use mathlib.Core.Path.{_≡_};
 ghost use mathlib.Core.Bool.{true};
 ghost use Prim.Native.Nat.{_<_};
 ghost use Rattle.model.specs.Sets.{toBits};
-ghost use Rattle.model.specs.Leafset as model;
 ghost use Rattle.model.specs.Ring.{holds};
 ghost use Rattle.model.specs.Words.{decodeTable, decode, readsAsRing};
 ghost use Rattle.model.specs.Questions.{leafsetAnswer, leafsetOf, connectionAnswer, connectionOf, groupsAnswer, groupsOf};
+ghost use Rattle.model.specs.Leafset as model;
 use buffer::head;
-use leafset::leafset::leafset;
+use leafset::leafset;
 use model::answer::Answer;
 use model::values::NodeNumber;
 

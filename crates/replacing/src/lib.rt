@@ -8,17 +8,17 @@ ghost use Rattle.model.specs.Leafset.{Table};
 ghost use Rattle.model.specs.Structs.{tableOf, ownOf, messageOf, stampAt, RoomNode, RoomMessage};
 ghost use Rattle.model.specs.Steps as steps;
 ghost use Rattle.leafset.specs.Table.{InTable};
-ghost use Rattle.effects.specs.Effects.{OwnFits, Owns, Replies};
-use effects::own::hold;
-use effects::own::release;
-use effects::own::set_commit;
-use effects::reply::Reply;
-use leafset::outside::outside;
-use message_records::stamped;
+ghost use Rattle.records.specs.Effects.{OwnFits, Owns, Replies};
+use leafset::outside;
 use model::message::MessageRecord;
 use model::node::NodeRecord;
 use model::values::NodeNumber;
 use model::values::Stamp;
+use records::effect::Reply;
+use records::message::stamped;
+use records::own::hold;
+use records::own::release;
+use records::own::set_commit;
 use word_ring::MessageWord;
 
 // "On 9: if z is held, its commit becomes now and I answer 10 with the same subject and stamp."

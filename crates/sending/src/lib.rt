@@ -11,11 +11,11 @@ ghost use Rattle.model.specs.Play.{setMessages};
 ghost use Rattle.model.specs.Structs.{spareAt, RoomNode};
 ghost use Rattle.model.specs.Steps as steps;
 ghost use Rattle.buffer.specs.Parts.{Is};
-use message_records::plain;
-use message_records::stamped;
 use model::node::NodeRecord;
 use model::values::NodeNumber;
 use model::values::Stamp;
+use records::message::plain;
+use records::message::stamped;
 use word_ring::MessageWord;
 
 // Sends a message of a type that uses nothing to each of the set, after the m messages. How many there are then.

@@ -17,7 +17,7 @@ use Rattle.sets.proofs.Members.{members-to}
 use Rattle.sets.proofs.Bits.{or-union, and-both, within-union, within-part}
 use Rattle.leafset.specs.Table.{InTable}
 use Rattle.leafset.proofs.Leaves.{leafset-back}
-use Rattle.effects.specs.Effects.{requestsEffect, Owns, CallsEach}
+use Rattle.records.specs.Effects.{requestsEffect, Owns, CallsEach}
 
 -- a message of one type to each node of a set
 pub calls : {n : ℕ} {q : NodeRecord} {o : Own} (me tag to : ℕ) (S : Set) → n ≤ 64 → Owns n q o → tag < 2 ^ 4 → ofBits to ≡ S → Within n to

@@ -9,17 +9,17 @@ ghost use Rattle.model.specs.Leafset.{Table, size};
 ghost use Rattle.model.specs.Structs.{tableOf, ownOf, spareAt, RoomNode};
 ghost use Rattle.model.specs.Steps as steps;
 ghost use Rattle.leafset.specs.Table.{InTable};
-ghost use Rattle.effects.specs.Effects.{OwnFits, Replies, CallsEach, RequestsEach};
-use choices::passes_zero;
-use choices::successor;
-use effects::own::set_candidates;
-use effects::reply::Calls;
-use effects::reply::Reply;
-use leafset::leafset::leafset;
-use leafset::outside::outside;
-use message_records::naming;
+ghost use Rattle.records.specs.Effects.{OwnFits, Replies, CallsEach, RequestsEach};
+use leafset::leafset;
+use leafset::outside;
+use leafset_choice::passes_zero;
+use leafset_choice::successor;
 use model::node::NodeRecord;
 use model::values::NodeNumber;
+use records::effect::Calls;
+use records::effect::Reply;
+use records::message::naming;
+use records::own::set_candidates;
 use word_ring::MessageWord;
 
 // "type 3 to each held stand"

@@ -4,7 +4,7 @@ use Prim.Native.Nat.{_+_, _≤_}
 use native.Mathlib.Omega.{arith}
 use lib.ListN.{length-append}
 use borrow.Author.Tests.{not-true, not-false}
-use Rattle.effects.specs.Effects.{replyEffect}
+use Rattle.records.specs.Effects.{replyEffect}
 use Rattle.answers.specs.Applied.{acted}
 use Rattle.answers.proofs.Answered.{applied-room, applied-full}
 use Rattle.applying.proofs.Acted.{acted-silent, acted-reply}

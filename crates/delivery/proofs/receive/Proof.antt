@@ -6,7 +6,7 @@ use Rattle.model.specs.Words.{decode}
 use Rattle.model.specs.Play.{removeMessage}
 use Rattle.model.specs.Structs.{messageOf}
 use Rattle.buffer.proofs.ReadRing.{read-is}
-use Rattle.effects.specs.Effects.{replyEffect}
+use Rattle.records.specs.Effects.{replyEffect}
 use Rattle.answers.specs.Applied.{acted}
 use Rattle.answers.proofs.Valid.{long}
 use Rattle.answers.proofs.Answered.{applied-over}

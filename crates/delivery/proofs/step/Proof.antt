@@ -2,7 +2,7 @@ use mathlib.Core.Path.{sym}
 use native.Mathlib.Omega.{arith}
 use Rattle.model.specs.Steps as steps
 use Rattle.model.specs.Structs.{ownOf, messageOf}
-use Rattle.effects.specs.Effects.{Replies}
+use Rattle.records.specs.Effects.{Replies}
 use Rattle.answers.proofs.Valid.{long, leaf-high}
 use Rattle.acting.proofs.Lent.{keys-many, of-table, in-table, own-fits}
 use borrow.Author.Needs.{needs}

@@ -1,5 +1,5 @@
 use native.Mathlib.Omega.{arith}
-use Rattle.effects.specs.Effects.{CallsEach}
+use Rattle.records.specs.Effects.{CallsEach}
 use Rattle.firing.proofs.Fired.{by-number}
 use borrow.Author.Needs.{needs}
 use Rattle.firing.proofs.calling.Statement.{statement}

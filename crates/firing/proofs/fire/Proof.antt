@@ -1,6 +1,6 @@
 use mathlib.Core.Path.{sym}
 use native.Mathlib.Omega.{arith}
-use Rattle.effects.specs.Effects.{RequestsEach}
+use Rattle.records.specs.Effects.{RequestsEach}
 use Rattle.answers.proofs.Valid.{long, leaf-high}
 use Rattle.acting.proofs.Lent.{keys-many, in-table, own-fits, may-write, may-reply, may-call}
 use Rattle.firing.proofs.Fired.{by-number, fired}

@@ -1,6 +1,6 @@
 use mathlib.Core.Path.{refl}
 use native.Mathlib.Omega.{arith}
-use Rattle.effects.specs.Effects.{Replies}
+use Rattle.records.specs.Effects.{Replies}
 use Rattle.firing.proofs.Fired.{by-number, by-no-number}
 use borrow.Author.Needs.{needs}
 use Rattle.firing.proofs.replying.Statement.{statement}

@@ -1,7 +1,7 @@
 -- `inviting::on_ping_invite` meets its contract.
 use borrow.Author.Needs.{needs}
 use Rattle.model.specs.Steps as steps
-use Rattle.effects.proofs.Changes.{unchanged}
+use Rattle.records.proofs.Changes.{unchanged}
 use Rattle.inviting.proofs.on_ping_invite.Statement.{statement}
 use Rattle.inviting.proofs.on_ping_invite.Tie as tie
 

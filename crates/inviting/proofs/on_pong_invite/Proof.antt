@@ -3,7 +3,7 @@ use mathlib.Core.Path.{sym, _∙_}
 use borrow.Author.Tests.{not-true, not-false}
 use borrow.Author.Needs.{needs}
 use Rattle.model.specs.Steps as steps
-use Rattle.effects.proofs.Changes.{unchanged}
+use Rattle.records.proofs.Changes.{unchanged}
 use Rattle.inviting.proofs.Invited.{with-table, near-test}
 use Rattle.inviting.proofs.on_pong_invite.Statement.{statement}
 use Rattle.inviting.proofs.on_pong_invite.Tie as tie

@@ -1,7 +1,7 @@
 -- `joining::on_ping_contact` meets its contract.
 use borrow.Author.Needs.{needs}
 use Rattle.model.specs.Steps as steps
-use Rattle.effects.proofs.Changes.{unchanged}
+use Rattle.records.proofs.Changes.{unchanged}
 use Rattle.joining.proofs.on_ping_contact.Statement.{statement}
 use Rattle.joining.proofs.on_ping_contact.Tie as tie
 

@@ -5,8 +5,8 @@ use native.Mathlib.Omega.{arith}
 use lib.Dec.{eqb}
 use borrow.Author.Needs.{needs}
 use Rattle.model.specs.Steps as steps
-use Rattle.effects.proofs.Changes.{unchanged}
-use Rattle.choices.proofs.Choices.{some-successor}
+use Rattle.records.proofs.Changes.{unchanged}
+use Rattle.leafset_choice.proofs.Choices.{some-successor}
 use Rattle.joining.proofs.Tests.{idle, not-idle}
 use Rattle.joining.proofs.on_ping_deloopy.Statement.{statement}
 use Rattle.joining.proofs.on_ping_deloopy.Tie as tie

@@ -7,8 +7,8 @@ use Rattle.model.specs.Leafset.{closest}
 use Rattle.model.specs.Structs.{tableOf}
 use Rattle.model.specs.Sets.{ofBits}
 use Rattle.model.specs.Steps as steps
-use Rattle.effects.proofs.Changes.{unchanged}
-use Rattle.spare_choice.proofs.Spare.{closest-room}
+use Rattle.records.proofs.Changes.{unchanged}
+use Rattle.leafset_choice.proofs.Spare.{closest-room}
 use Rattle.offering.proofs.on_ping_ask_repl.Statement.{statement}
 use Rattle.offering.proofs.on_ping_ask_repl.Tie as tie
 use denote.Ref.{now}

@@ -12,7 +12,7 @@ use Rattle.model.specs.Steps as steps
 use Rattle.model.specs.Structs.{spareAt, RoomNode}
 use Rattle.model.specs.declared.node.NodeRecord.{NodeRecord}
 use Rattle.sets.proofs.Arrays.{spare-read}
-use Rattle.effects.proofs.Changes.{wider, unchanged}
+use Rattle.records.proofs.Changes.{wider, unchanged}
 use Rattle.replacing.proofs.on_pong_replace.Statement.{statement}
 use Rattle.replacing.proofs.on_pong_replace.Tie as tie
 

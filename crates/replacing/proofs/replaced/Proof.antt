@@ -3,7 +3,7 @@ use mathlib.Core.Path.{sym, _∙_}
 use borrow.Author.Tests.{not-true, not-false}
 use borrow.Author.Needs.{needs}
 use Rattle.model.specs.Steps as steps
-use Rattle.effects.proofs.Changes.{then}
+use Rattle.records.proofs.Changes.{then}
 use Rattle.replacing.proofs.replaced.Statement.{statement}
 use Rattle.replacing.proofs.replaced.Tie as tie
 

@@ -2,7 +2,7 @@
 use mathlib.Core.Path.{refl}
 use lib.Dec.{lit<}
 use Rattle.model.specs.Steps as steps
-use Rattle.effects.proofs.Changes.{unchanged}
+use Rattle.records.proofs.Changes.{unchanged}
 use Rattle.timers.proofs.Calls.{calls}
 use Rattle.timers.proofs.timer0.Statement.{statement}
 use Rattle.timers.proofs.timer0.Tie as tie

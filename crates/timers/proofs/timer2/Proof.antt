@@ -4,7 +4,7 @@ use borrow.Author.Needs.{needs}
 use Rattle.model.specs.Sets.{ofBits}
 use Rattle.model.specs.Steps as steps
 use Rattle.sets.proofs.Bits.{within-part}
-use Rattle.effects.proofs.Changes.{unchanged}
+use Rattle.records.proofs.Changes.{unchanged}
 use Rattle.timers.proofs.Calls.{calls}
 use Rattle.timers.proofs.timer2.Statement.{statement}
 use Rattle.timers.proofs.timer2.Tie as tie

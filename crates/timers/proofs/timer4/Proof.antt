@@ -5,8 +5,8 @@ use native.Mathlib.Omega.{arith}
 use borrow.Author.Tests.{not-true, not-false}
 use borrow.Author.Needs.{needs}
 use Rattle.model.specs.Steps as steps
-use Rattle.effects.proofs.Changes.{unchanged}
-use Rattle.choices.proofs.Choices.{passes-some, some-successor}
+use Rattle.records.proofs.Changes.{unchanged}
+use Rattle.leafset_choice.proofs.Choices.{passes-some, some-successor}
 use Rattle.timers.proofs.timer4.Statement.{statement}
 use Rattle.timers.proofs.timer4.Tie as tie
 

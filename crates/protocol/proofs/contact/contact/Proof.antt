@@ -1,7 +1,7 @@
 -- `protocol::contact::contact` meets its contract.
 use borrow.Author.Needs.{needs}
 use Rattle.model.specs.Steps as steps
-use Rattle.effects.proofs.Changes.{unchanged}
+use Rattle.records.proofs.Changes.{unchanged}
 use Rattle.protocol.proofs.contact.contact.Statement.{statement}
 use Rattle.protocol.proofs.contact.contact.Tie as tie
 

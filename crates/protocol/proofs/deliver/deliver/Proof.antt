@@ -3,7 +3,7 @@ use mathlib.Core.Path.{_≡_}
 use Prim.Native.Nat.{ℕ, suc, _<_}
 use native.Mathlib.Omega.{arith}
 use borrow.Author.Needs.{needs}
-use Rattle.effects.proofs.Changes.{unchanged}
+use Rattle.records.proofs.Changes.{unchanged}
 use Rattle.protocol.proofs.Steps.{by-type, by-no-type}
 use Rattle.protocol.proofs.deliver.deliver.Statement.{statement}
 use Rattle.protocol.proofs.deliver.deliver.Tie as tie

@@ -1,0 +1,13 @@
+-- `choices::successor` meets its contract.
+use borrow.Author.Needs.{needs}
+use Rattle.leafset_choice.proofs.Choices.{successor-found}
+use Rattle.leafset_choice.proofs.successor.Statement.{statement}
+use Rattle.leafset_choice.proofs.successor.Tie as tie
+
+returns : tie.Need-returns
+returns c = λ leaf. successor-found leaf _ _ _ (c .before .before .before .before .pre .within) (c .nearest .ensures)
+
+pub successor-spec : {M : Type 1} → statement M
+successor-spec = tie.close
+    (tie.spec
+    (λ c. search needs) (λ c. search needs) (λ c. search needs) (λ c κs. search needs) returns)
