@@ -16,7 +16,7 @@ pub fn of_words(words: &[u32]) -> Answer
     if words.len() != 13441 {
         return Answer::WrongLength;
     }
-    if !validity::reads_as_ring(words) {
+    if !valid_ring::reads_as_ring(words) {
         return Answer::NotARing;
     }
     Answer::Accepted

@@ -16,7 +16,7 @@ pub fn play(words: &mut [u32], word: u32) -> Answer
     match reading {
         Reading::Refused(answer) => answer,
         Reading::Read(e) => {
-            if !validity::reads_as_ring(words) {
+            if !valid_ring::reads_as_ring(words) {
                 return Answer::NotARing;
             }
             events::play_event(words, e)

@@ -1,1 +1,4 @@
 pub mod MessageTests
+pub mod RestTests
+pub mod Lanes
+pub mod Views

@@ -19,7 +19,7 @@ use Rattle.model.specs.Ring.{Message}
 use Rattle.model.specs.Words.{at, messageWord, messagePlace, decodeMessage, messageFits, ringLength, between, subjectFits, viewFits}
 use Rattle.valid_messages.specs.Messages.{messageReads, messagesRead}
 use Rattle.valid_nodes.specs.Nodes.{clear}
-use Rattle.valid_rests.specs.Rests.{kept, stampFits, restReads}
+use Rattle.valid_messages.specs.Rests.{kept, stampFits, restReads}
 use Rattle.valid_messages.specs.Parts.{firstFits, firstReads, Halves}
 use Rattle.valid_nodes.proofs.Gather.{all-cong, all-both}
 use Rattle.valid_nodes.proofs.Formats.{of-kind, lowest}

@@ -1,2 +1,4 @@
 pub mod Messages
 pub mod Parts
+pub mod Rests
+pub mod Masks

@@ -9,7 +9,7 @@ use Rattle.model.specs.Choice.{_⇒_, every}
 use Rattle.model.specs.Leafset.{Table, size}
 use Rattle.model.specs.Ring.{Message}
 use Rattle.model.specs.Words.{at, messagePlace, decodeMessage, between, subjectFits}
-use Rattle.valid_rests.specs.Rests.{kept}
+use Rattle.valid_messages.specs.Rests.{kept}
 
 -- what `messageFits` asks but for the stamp and the view
 unfoldable pub firstFits : Table → Message → Bool

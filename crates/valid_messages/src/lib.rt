@@ -1,7 +1,9 @@
 // Whether the words of the messages read.
+pub mod rests;
+
 ghost use mathlib.Core.Path.{_≡_};
-ghost use Prim.Native.Nat.{ℕ, _+_, _/_, _%_, _^_, _≤_};
 ghost use mathlib.Core.List.{List};
+ghost use Prim.Native.Nat.{ℕ, _+_, _/_, _%_, _^_, _≤_};
 ghost use lib.ListN.{length};
 ghost use Rattle.model.specs.Sets.{all};
 ghost use Rattle.model.specs.Leafset.{Table, size};
@@ -9,8 +11,8 @@ ghost use Rattle.model.specs.Ring.{Message};
 ghost use Rattle.model.specs.Words.{at, messagePlace, subjectFits};
 ghost use Rattle.valid_messages.specs.Messages.{messagesRead};
 ghost use Rattle.valid_messages.specs.Parts.{firstReads, Halves};
+use rests::rests_read;
 use valid_nodes::clear::clear;
-use valid_rests::rests_read;
 
 // "Of the four that use the subject, only type 8 may have 64 there"
 fn subject_fits(tag: u16, subject: u16, n: u16) -> bool

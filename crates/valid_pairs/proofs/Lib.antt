@@ -1,1 +1,3 @@
-pub mod PairTests
+pub mod RowTests
+pub mod PairFormats
+pub mod PairTest

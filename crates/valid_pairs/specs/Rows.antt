@@ -11,7 +11,7 @@ use Rattle.model.specs.Sets.{all}
 use Rattle.model.specs.Fields.{bits, flag}
 use Rattle.model.specs.Words.{ringLength}
 use Rattle.valid_nodes.specs.Nodes.{keyAt, clockAt}
-use Rattle.valid_rows.specs.Pairs.{linkAt, spareAt}
+use Rattle.valid_pairs.specs.Pairs.{linkAt, spareAt}
 
 -- the first word of a pair that is not held and no candidate, and the second of one that has no spare
 abbrev pub noLink : ℕ

@@ -1,14 +1,16 @@
 // Whether the words of the pairs read, row by row.
+pub mod rows;
+
 ghost use mathlib.Core.Path.{_≡_};
 ghost use mathlib.Core.Bool.{_&&_};
 ghost use Prim.Native.Nat.{_+_, _*_, _/_, _%_, _^_, _≤_};
 ghost use lib.ListN.{length};
 ghost use Rattle.model.specs.Sets.{all};
-ghost use Rattle.valid_rows.specs.Pairs.{pairReads, rowReads, pairsRead};
+ghost use Rattle.valid_pairs.specs.Pairs.{pairReads, rowReads, pairsRead};
 ghost use Rattle.valid_pairs.specs.Rows.{GivenRow, RunningRow, noLinks, noSpares, linksFit};
+use rows::Row;
+use rows::whole_row;
 use valid_nodes::clear::clear;
-use valid_rows::Row;
-use valid_rows::whole_row;
 
 // The first word of a pair that is not held and no candidate, and the second of one that has no spare.
 const NO_LINK: u32 = 0x3000_0000;

@@ -2,7 +2,7 @@ use mathlib.Core.Path.{ap}
 use Prim.Native.Nat.{ℕ, _+_}
 use native.Mathlib.Omega.{arith}
 use lib.Bits.{and-le-r}
-use Rattle.valid_rows.proofs.PairFormats.{without-candidate}
+use Rattle.valid_pairs.proofs.PairFormats.{without-candidate}
 use Rattle.valid_pairs.proofs.lifted.Statement.{statement}
 use Rattle.valid_pairs.proofs.lifted.Tie as tie
 

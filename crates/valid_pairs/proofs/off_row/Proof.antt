@@ -7,8 +7,8 @@ use denote.Ref.{now}
 use borrow.Author.Needs.{needs}
 use Rattle.model.specs.Sets.{all}
 use Rattle.valid_pairs.specs.Rows.{noLink, noSpare, apart, noLinks, noSpares}
-use Rattle.valid_rows.specs.Pairs.{linkAt, spareAt}
-use Rattle.valid_pairs.proofs.PairTests.{table-apart}
+use Rattle.valid_pairs.specs.Pairs.{linkAt, spareAt}
+use Rattle.valid_pairs.proofs.RowTests.{table-apart}
 use Rattle.valid_nodes.proofs.Gather.{or-more}
 use Rattle.valid_pairs.proofs.off_row.Statement.{statement}
 use Rattle.valid_pairs.proofs.off_row.Tie as tie

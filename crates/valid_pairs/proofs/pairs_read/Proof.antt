@@ -7,7 +7,7 @@ use borrow.Author.Needs.{needs}
 use Rattle.model.specs.Words.{pairPlace}
 use Rattle.model.specs.Sets.{all}
 use Rattle.valid_nodes.specs.Nodes.{clear}
-use Rattle.valid_rows.specs.Pairs.{rowReads, pairsRead}
+use Rattle.valid_pairs.specs.Pairs.{rowReads, pairsRead}
 use Rattle.valid_nodes.proofs.Gather.{two, all-more}
 use Rattle.valid_pairs.proofs.pairs_read.Statement.{statement}
 use Rattle.valid_pairs.proofs.pairs_read.Tie as tie

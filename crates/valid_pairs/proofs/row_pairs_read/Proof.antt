@@ -5,8 +5,8 @@ use denote.Ref.{now}
 use borrow.Author.Tests.{not-true, not-false}
 use Rattle.model.specs.Fields.{flag}
 use Rattle.valid_nodes.specs.Nodes.{keyAt}
-use Rattle.valid_rows.specs.Pairs.{linkAt, spareAt}
-use Rattle.valid_pairs.proofs.PairTests.{own-clear, own-not-clear, off-reads}
+use Rattle.valid_pairs.specs.Pairs.{linkAt, spareAt}
+use Rattle.valid_pairs.proofs.RowTests.{own-clear, own-not-clear, off-reads}
 use borrow.Author.Needs.{needs}
 use Rattle.valid_pairs.proofs.row_pairs_read.Statement.{statement}
 use Rattle.valid_pairs.proofs.row_pairs_read.Tie as tie

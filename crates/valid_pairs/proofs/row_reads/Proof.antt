@@ -4,7 +4,7 @@ use denote.Ref.{now}
 use Rattle.model.specs.Words.{pairPlace}
 use Rattle.model.specs.Sets.{all}
 use Rattle.valid_nodes.specs.Nodes.{clear}
-use Rattle.valid_rows.specs.Pairs.{pairReads, rowReads}
+use Rattle.valid_pairs.specs.Pairs.{pairReads, rowReads}
 use Rattle.valid_nodes.proofs.Gather.{two}
 use borrow.Author.Needs.{needs}
 use Rattle.valid_pairs.proofs.row_reads.Statement.{statement}

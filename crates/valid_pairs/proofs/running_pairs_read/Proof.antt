@@ -3,7 +3,7 @@ use mathlib.Core.Bool.{true, false}
 use denote.Ref.{now}
 use borrow.Author.Tests.{not-true, not-false}
 use Rattle.valid_pairs.specs.Rows.{linksFit}
-use Rattle.valid_pairs.proofs.PairTests.{sparesRead, running-reads, whole-reads, bare-reads}
+use Rattle.valid_pairs.proofs.RowTests.{sparesRead, running-reads, whole-reads, bare-reads}
 use borrow.Author.Needs.{needs}
 use Rattle.valid_pairs.proofs.running_pairs_read.Statement.{statement}
 use Rattle.valid_pairs.proofs.running_pairs_read.Tie as tie

@@ -7,9 +7,9 @@ use denote.Ref.{now}
 use borrow.Author.Needs.{needs}
 use Rattle.model.specs.Sets.{all}
 use Rattle.valid_pairs.specs.Rows.{noLink, noSpare, apart, noSpares}
-use Rattle.valid_rows.specs.Pairs.{linkAt, spareAt}
-use Rattle.valid_pairs.proofs.PairTests.{table-apart, lift, links-tests}
-use Rattle.valid_rows.proofs.PairFormats.{wrapped, is-wrapped}
+use Rattle.valid_pairs.specs.Pairs.{linkAt, spareAt}
+use Rattle.valid_pairs.proofs.RowTests.{table-apart, lift, links-tests}
+use Rattle.valid_pairs.proofs.PairFormats.{wrapped, is-wrapped}
 use Rattle.valid_nodes.proofs.Gather.{or-more, above, bit-at}
 use Rattle.valid_pairs.proofs.running_row.Statement.{statement}
 use Rattle.valid_pairs.proofs.running_row.Tie as tie

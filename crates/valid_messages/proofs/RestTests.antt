@@ -1,0 +1,314 @@
+-- The rest of a message under masks: what the code tests is what `restReads` asks.
+use mathlib.Core.Path.{_≡_, refl, sym, ap, ap₂, _∙_}
+use Prim.Native.Nat.{ℕ, zero, suc, _+_, _-_, _*_, _/_, _%_, _^_, _≤_, _<_}
+use native.Mathlib.Omega.{arith}
+use native.Mathlib.Decide.{decLt, ℕ-discrete}
+use mathlib.Core.Bool.{Bool, true, false, not, _&&_, _||_}
+use mathlib.Core.List.{List, [], _∷_}
+use lib.ListN.{getD, set, replicate, length, length-set, length-replicate, getD-replicate}
+use lib.Seq.{getD-set-same, getD-set-other}
+use lib.Pow.{shl-exact}
+use native.Mathlib.Nat.{one-mul, div-one, mod-lt}
+use lib.Bits.{bitOr, bitXor, bitAnd, xor-mod, xor-zero-r, and-zero-r}
+use lib.Dec.{ltb, leb, eqb, lit<}
+use borrow.Author.Tests.{eqb-true, eq-eqb, ne-eqb, lt-ltb, le-ltb, ltb-true, leb-false}
+use lib.Arith.{lt-of-le-ne}
+use Rattle.model.specs.Fields.{bits}
+use Rattle.model.specs.Leafset.{Table, size}
+use Rattle.model.specs.Words.{at, messagePlace, decodeMessage, usesStamp, usesView}
+use Rattle.model.proofs.Laws.{same-test, is-false, and-left, and-right, between-low, between-high, if-law}
+use Rattle.valid_nodes.proofs.Formats.{lowest, xor-test, xor-above}
+use Rattle.valid_messages.proofs.Lanes.{none-above, above-test, number, limited, short, without-receiver}
+use Rattle.valid_messages.proofs.Views.{second-kept, low-kept, middle-kept, high-kept, view-test}
+use Rattle.valid_messages.specs.Rests.{stampFits, restReads}
+use Rattle.model.specs.Choice.{if_then_else_, every}
+use Rattle.model.specs.Sets.{all, ofBits}
+use Rattle.valid_nodes.proofs.Gather.{or-test, or-more, all-both, all-cong}
+use Rattle.valid_messages.specs.Masks.{part, room, above, ofTypes, receiverBit, OfReceivers, Tables, beyond, wrong, nothingWrong, Small}
+
+and-false : (a : Bool) → (a && false) ≡ false
+and-false true = refl
+and-false false = refl
+
+and-true : (a : Bool) → (a && true) ≡ a
+and-true true = refl
+and-true false = refl
+
+-- 1 << b
+pub one-shifted : (b : ℕ) → b ≤ 24 → (1 * 2 ^ b) % 2 ^ 32 ≡ 2 ^ b
+one-shifted b h = shl-exact 1 b 32 (lit< tt) (omega arith) ∙ one-mul (2 ^ b)
+
+-- ---- many rests
+
+-- what was gathered of word i of k rests is 0 exactly where nothing is wrong there
+pub record Met (ws types receivers : List ℕ) (k i empty met : ℕ) : Type 0 where
+  clear : eqb met 0 ≡ all k (λ j. eqb (wrong ws types receivers j i empty) 0)
+  small : (j : ℕ) → j < k → beyond ws j i empty < 2 ^ 32
+
+pub none-met : (ws types receivers : List ℕ) (i empty : ℕ) → Met ws types receivers 0 i empty 0
+unfolding all
+none-met ws types receivers i empty = record { clear = refl; small = λ j h. absurd (omega arith) }
+
+pub more-met : (ws types receivers : List ℕ) (k i empty met v : ℕ) → Met ws types receivers k i empty met → (v ≡ wrong ws types receivers k i empty) × (beyond ws k i empty < 2 ^ 32) → Met ws types receivers (k + 1) i empty (bitOr met v)
+more-met ws types receivers k i empty met v h e =
+    record {
+      clear = or-more (λ w. w) (λ a b. refl) (λ j. eqb (wrong ws types receivers j i empty) 0) k met v (h .clear) (ap (λ (w : ℕ). eqb w 0) (e .0));
+      small = λ j l. elim (ℕ-discrete j k) [ yes q ↦ rw q (e .1) | no d ↦ h .small j (lt-of-le-ne (omega arith) d) ];
+    }
+
+pub met-joined : (ws types receivers : List ℕ) (m a b c d : ℕ) → Met ws types receivers m 0 1879048192 a → Met ws types receivers m 1 2147483648 b → Met ws types receivers m 2 2147483648 c → Met ws types receivers m 3 2147483648 d
+    → ((eqb a 0 && eqb b 0 && eqb c 0 && eqb d 0) ≡ all m (nothingWrong ws types receivers)) × ((k : ℕ) → k < m → Small ws k)
+met-joined ws types receivers m a b c d p q r s = (joined, λ k h. record { stamp = p .small k h; low = q .small k h; middle = r .small k h; high = s .small k h })
+  where
+    at : ℕ → ℕ → ℕ → Bool
+    at i empty k = eqb (wrong ws types receivers k i empty) 0
+
+    joined : (eqb a 0 && eqb b 0 && eqb c 0 && eqb d 0) ≡ all m (nothingWrong ws types receivers)
+    joined =
+        ap₂ _&&_ (ap₂ _&&_ (ap₂ _&&_ (p .clear) (q .clear) ∙ all-both (at 0 1879048192) (at 1 2147483648) m) (r .clear) ∙ all-both (λ k. at 0 1879048192 k && at 1 2147483648 k) (at 2 2147483648) m) (s .clear)
+        ∙ all-both (λ k. at 0 1879048192 k && at 1 2147483648 k && at 2 2147483648 k) (at 3 2147483648) m
+
+-- ---- the table of receivers
+
+-- the receivers x with x % 24 < b have their words
+pub record Filled (table : List ℕ) (b : ℕ) : Type 0 where
+  long : length table ≡ 288
+  bit : (x i : ℕ) → x < 72 → i < 4 → getD table (4 * x + i) 0 ≡ (if ltb (x % 24) b then receiverBit x i else 0)
+
+pub nothing-filled : Filled (replicate 288 0) 0
+nothing-filled = record { long = length-replicate {A = ℕ} 288 0; bit = λ x i h l. getD-replicate {A = ℕ} 288 (4 * x + i) 0 0 (omega arith) ∙ rw (le-ltb (x % 24) 0 (omega arith)) refl }
+
+-- three more: b, 24 + b and 48 + b
+pub more-filled : (table : List ℕ) (b v : ℕ) → b < 24 → v ≡ 2 ^ b → Filled table b → Filled (set (set (set table (4 * b + 1) v) (4 * (24 + b) + 2) v) (4 * (48 + b) + 3) v) (b + 1)
+more-filled table b v hb e f = record { long = simp length-set (f .long); bit = λ x i h l. at-row x i h l }
+  where
+    table₁ : List ℕ
+    table₁ = set table (4 * b + 1) v
+
+    table₂ : List ℕ
+    table₂ = set table₁ (4 * (24 + b) + 2) v
+
+    long₁ : length table₁ ≡ 288
+    long₁ = simp length-set (f .long)
+
+    long₂ : length table₂ ≡ 288
+    long₂ = simp length-set (f .long)
+
+    after₁ : (j : ℕ) → (j ≡ 4 * b + 1 → ⊥) → getD table₁ j 0 ≡ getD table j 0
+    after₁ j d = getD-set-other table (4 * b + 1) j v 0 d
+
+    after₂ : (j : ℕ) → (j ≡ 4 * (24 + b) + 2 → ⊥) → getD table₂ j 0 ≡ getD table₁ j 0
+    after₂ j d = getD-set-other table₁ (4 * (24 + b) + 2) j v 0 d
+
+    after₃ : (j : ℕ) → (j ≡ 4 * (48 + b) + 3 → ⊥) → getD (set table₂ (4 * (48 + b) + 3) v) j 0 ≡ getD table₂ j 0
+    after₃ j d = getD-set-other table₂ (4 * (48 + b) + 3) j v 0 d
+
+    -- an entry that is set, and one that is not
+    here : (x i : ℕ) → x % 24 ≡ b → i ≡ 1 + x / 24 → v ≡ (if ltb (x % 24) (b + 1) then receiverBit x i else 0)
+    here x i p q = rw (lt-ltb (x % 24) (b + 1) (omega arith), eq-eqb i (1 + x / 24) q, p) e
+
+    there : (x i : ℕ) → (x % 24 ≡ b → i ≡ 1 + x / 24 → ⊥) → (if ltb (x % 24) b then receiverBit x i else 0) ≡ (if ltb (x % 24) (b + 1) then receiverBit x i else 0)
+    there x i d =
+        elim (ℕ-discrete (x % 24) b) [
+          | yes p ↦ rw (p, le-ltb b b (omega arith), lt-ltb b (b + 1) (omega arith), ne-eqb i (1 + x / 24) (d p)) refl
+          | no p ↦ ap (λ (t : Bool). if t then receiverBit x i else 0)
+              (same-test (ltb (x % 24) b) (ltb (x % 24) (b + 1)) (λ t. lt-ltb (x % 24) (b + 1) (omega (arith, ltb-true (x % 24) b t))) (λ t. lt-ltb (x % 24) b (lt-of-le-ne (omega (arith, ltb-true (x % 24) (b + 1) t)) p)))
+        ]
+
+    at-row : (x i : ℕ) → x < 72 → i < 4 → getD (set table₂ (4 * (48 + b) + 3) v) (4 * x + i) 0 ≡ (if ltb (x % 24) (b + 1) then receiverBit x i else 0)
+    at-row x i h l =
+        elim (ℕ-discrete (4 * x + i) (4 * (48 + b) + 3)) [
+          | yes p ↦ rw p (getD-set-same table₂ (4 * (48 + b) + 3) v 0 (omega (arith, long₂))) ∙ here x i (omega arith) (omega arith)
+          | no p ↦ after₃ (4 * x + i) p ∙ elim (ℕ-discrete (4 * x + i) (4 * (24 + b) + 2)) [
+            | yes q ↦ rw q (getD-set-same table₁ (4 * (24 + b) + 2) v 0 (omega (arith, long₁))) ∙ here x i (omega arith) (omega arith)
+            | no q ↦ after₂ (4 * x + i) q ∙ elim (ℕ-discrete (4 * x + i) (4 * b + 1)) [
+              | yes r ↦ rw r (getD-set-same table (4 * b + 1) v 0 (omega (arith, f .long))) ∙ here x i (omega arith) (omega arith)
+              | no r ↦ after₁ (4 * x + i) r ∙ f .bit x i h l ∙ there x i (λ s t. elim (decLt x 24) [ yes u ↦ r (omega arith) | no u ↦ elim (decLt x 48) [ yes w ↦ q (omega arith) | no w ↦ p (omega arith) ] ])
+            ]
+          ]
+        ]
+
+pub filled : (table : List ℕ) → Filled table 24 → OfReceivers table
+filled table f = record { bit = λ x i h l. f .bit x i (omega arith) l ∙ rw (lt-ltb (x % 24) 24 (mod-lt x (lit< tt))) refl }
+
+-- ---- the table of types
+
+-- where no entry was set
+unset : (n j : ℕ) → j < 64 → (j ≡ 17 → ⊥) → (j ≡ 18 → ⊥) → (j ≡ 19 → ⊥) → (j ≡ 36 → ⊥) → (j ≡ 40 → ⊥) → getD (ofTypes n) j 0 ≡ 4294967295
+unfolding ofTypes
+unset n j h a b c d e =
+    getD-set-other (set (set (set (set (replicate 64 4294967295) 17 (above (part n 0))) 18 (above (part n 24))) 19 (above (part n 48))) 36 (above 24)) 40 j (above 24) 0 e
+    ∙ getD-set-other (set (set (set (replicate 64 4294967295) 17 (above (part n 0))) 18 (above (part n 24))) 19 (above (part n 48))) 36 j (above 24) 0 d
+    ∙ getD-set-other (set (set (replicate 64 4294967295) 17 (above (part n 0))) 18 (above (part n 24))) 19 j (above (part n 48)) 0 c
+    ∙ getD-set-other (set (replicate 64 4294967295) 17 (above (part n 0))) 18 j (above (part n 24)) 0 b
+    ∙ getD-set-other (replicate 64 4294967295) 17 j (above (part n 0)) 0 a
+    ∙ getD-replicate {A = ℕ} 64 j 4294967295 0 h
+
+-- an entry of the view
+view-entry : (n type i v : ℕ) → type < 16 → i < 3 → (type ≡ 4 → getD (ofTypes n) (4 * 4 + (1 + i)) 0 ≡ above v) → getD (ofTypes n) (4 * type + (1 + i)) 0 ≡ above (if usesView type then v else 0)
+view-entry n type i v h l f =
+    elim (ℕ-discrete type 4) [
+      | yes e ↦ rw (e) (f e)
+      | no d ↦ rw (ne-eqb type 4 d) (unset n (4 * type + (1 + i)) (omega arith) (λ e. omega arith) (λ e. omega arith) (λ e. omega arith) (λ e. omega arith) (λ e. omega arith))
+    ]
+
+type-entry : (n type i : ℕ) → type < 16 → i < 4 → getD (ofTypes n) (4 * type + i) 0 ≡ above (room n type i)
+unfolding ofTypes
+type-entry n type zero h l =
+    elim (ℕ-discrete type 9) [
+      | yes e ↦ rw e refl
+      | no d ↦ elim (ℕ-discrete type 10) [
+        | yes e ↦ rw e refl
+        | no f ↦ let u : usesStamp type ≡ false = is-false (usesStamp type) (λ t. f (omega (arith, d, between-low 9 10 type t, between-high 9 10 type t))) in
+            rw u (unset n (4 * type + 0) (omega arith) (λ e. omega arith) (λ e. omega arith) (λ e. omega arith) (λ e. d (omega arith)) (λ e. f (omega arith)))
+      ]
+    ]
+type-entry n type (suc zero) h l = view-entry n type 0 (part n 0) h (omega arith) (λ e. refl)
+type-entry n type (suc (suc zero)) h l = view-entry n type 1 (part n 24) h (omega arith) (λ e. refl)
+type-entry n type (suc (suc (suc zero))) h l = view-entry n type 2 (part n 48) h (omega arith) (λ e. refl)
+type-entry n type (suc (suc (suc (suc i)))) h l = absurd (omega arith)
+
+part≤ : (n from : ℕ) → part n from ≤ 32
+part≤ n from =
+    if-law (λ v. v ≤ 32) (leb n from) 0 (if leb 24 (n - from) then 24 else n - from) (λ e. omega arith)
+    (λ e. if-law (λ v. v ≤ 32) (leb 24 (n - from)) 24 (n - from) (λ f. omega arith) (λ f. omega (arith, leb-false 24 (n - from) f)))
+
+room≤ : (n type i : ℕ) → room n type i ≤ 32
+room≤ n type zero = if-law (λ v. v ≤ 32) (usesStamp type) 24 0 (λ e. omega arith) (λ e. omega arith)
+room≤ n type (suc i) = if-law (λ v. v ≤ 32) (usesView type) (part n (24 * i)) 0 (λ e. part≤ n (24 * i)) (λ e. omega arith)
+
+-- ---- one rest
+
+module _ (ws types receivers : List ℕ) (n k : ℕ) (given : Tables types receivers n) where
+  abbrev tag : ℕ
+  tag = at ws (messagePlace k) % 16
+
+  abbrev receiver : ℕ
+  receiver = at ws (messagePlace k) / 2 ^ 10 % 64
+
+  -- a word of the rest: short enough, and without the receiver's bit
+  lane : (i empty : ℕ) → i < 4 → beyond ws k i empty < 2 ^ 32
+      → eqb (wrong ws types receivers k i empty) 0 ≡ (ltb (beyond ws k i empty) (2 ^ room n tag i) && eqb (bitAnd (beyond ws k i empty) (receiverBit receiver i)) 0)
+  lane i empty h l =
+      or-test (bitAnd u (getD types (4 * tag + i) 0)) (bitAnd u (getD receivers (4 * receiver + i) 0))
+      ∙ ap₂ _&&_
+      (ap (λ (m : ℕ). eqb (bitAnd u m) 0) (ap (λ (t : List ℕ). getD t (4 * tag + i) 0) (given .of-types) ∙ type-entry n tag i (mod-lt (at ws (messagePlace k)) (lit< tt)) h)
+      ∙ above-test (room n tag i) u (room≤ n tag i) l)
+      (ap (λ (m : ℕ). eqb (bitAnd u m) 0) (given .of-receivers .bit receiver i (mod-lt (at ws (messagePlace k) / 2 ^ 10) (lit< tt)) h))
+    where
+      u : ℕ
+      u = beyond ws k i empty
+
+-- the stamp
+stamp-test : (used : Bool) (w : ℕ) → ltb (bitXor w 1879048192) (2 ^ (if used then 24 else 0)) ≡ (eqb (w / 2 ^ 24) 112 && (used || eqb (bits 0 24 w) 0))
+stamp-test true w = sym (none-above 24 (bitXor w 1879048192)) ∙ xor-above 24 w 1879048192 ∙ sym (and-true (eqb (w / 2 ^ 24) 112))
+stamp-test false w =
+    sym (none-above 0 (bitXor w 1879048192)) ∙ ap (λ (v : ℕ). eqb v 0) (div-one (bitXor w 1879048192)) ∙ xor-test w 1879048192
+    ∙ same-test (eqb w 1879048192) (eqb (w / 2 ^ 24) 112 && eqb (bits 0 24 w) 0)
+    (λ e. rw (eqb-true w 1879048192 e) refl)
+    (λ e. let q = eqb-true (w / 2 ^ 24) 112 (and-left (eqb (w / 2 ^ 24) 112) (eqb (bits 0 24 w) 0) e) in
+    let r : w % 2 ^ 24 ≡ 0 = sym (lowest 24 w) ∙ eqb-true (bits 0 24 w) 0 (and-right (eqb (w / 2 ^ 24) 112) (eqb (bits 0 24 w) 0) e) in
+    eq-eqb w 1879048192 (omega arith))
+
+-- a word of the view
+kind-test : (width q w : ℕ) → 2147483648 / 2 ^ width ≡ q → eqb (w / 2 ^ width) q ≡ ltb (bitXor w 2147483648) (2 ^ width)
+kind-test width q w e = ap (eqb (w / 2 ^ width)) (sym e) ∙ sym (xor-above width w 2147483648) ∙ none-above width (bitXor w 2147483648)
+
+value : (width w : ℕ) → 2147483648 % 2 ^ width ≡ 0 → bits 0 width w ≡ bitXor w 2147483648 % 2 ^ width
+value width w e = lowest width w ∙ sym (xor-mod w 2147483648 width ∙ ap (bitXor (w % 2 ^ width)) e ∙ xor-zero-r (w % 2 ^ width))
+
+-- the tests in another order; that of the receiver's bit is needed only of a view in format
+regroup : (a p q r x y z : Bool) → ((a && (p && x)) && (q && y) && (r && z)) ≡ (a && ((p && q && r) && (x && y && z)))
+regroup false p q r x y z = refl
+regroup true false q r x y z = refl
+regroup true true false r false y z = refl
+regroup true true false r true y z = refl
+regroup true true true false false y z = refl
+regroup true true true false true false z = refl
+regroup true true true false true true z = refl
+regroup true true true true false y z = refl
+regroup true true true true true false z = refl
+regroup true true true true true true z = refl
+
+joined : (a s p q r limit bit fits clear : Bool) → fits ≡ (p && q && r && limit) → ((p && q && r) ≡ true → clear ≡ bit)
+    → ((a && s) && (fits && clear)) ≡ every (a ∷ p ∷ q ∷ r ∷ s ∷ every (limit ∷ bit ∷ []) ∷ [])
+joined false s p q r limit bit fits clear e f = refl
+joined true s false q r limit bit fits clear e f = rw e (and-false s)
+joined true s true false r limit bit fits clear e f = rw e (and-false s)
+joined true s true true false limit bit fits clear e f = rw e (and-false s)
+joined true s true true true limit bit fits clear e f = rw (e, f refl) (last s limit bit)
+  where
+    last : (s limit bit : Bool) → (s && (limit && bit)) ≡ every (s ∷ every (limit ∷ bit ∷ []) ∷ [])
+    last false limit bit = refl
+    last true false bit = refl
+    last true true false = refl
+    last true true true = refl
+
+stamp-lane : (ws : List ℕ) (n k r : ℕ)
+    → (ltb (beyond ws k 0 1879048192) (2 ^ room n (at ws (messagePlace k) % 16) 0) && eqb (bitAnd (beyond ws k 0 1879048192) (receiverBit r 0)) 0) ≡ (eqb (at ws (messagePlace k + 1) / 2 ^ 24) 112 && stampFits (decodeMessage ws k))
+unfolding decodeMessage
+stamp-lane ws n k r =
+    rw (ne-eqb 0 (1 + r / 24) (λ i. omega arith), and-zero-r (beyond ws k 0 1879048192), lowest 4 (at ws (messagePlace k)))
+    (and-true (ltb (beyond ws k 0 1879048192) (2 ^ room n (at ws (messagePlace k) % 16) 0)) ∙ stamp-test (usesStamp (at ws (messagePlace k) % 16)) (at ws (messagePlace k + 1)))
+
+-- what was tested, in the words of `restReads`
+as-words : (ws : List ℕ) (t : Table) (k n : ℕ) → size t ≡ n → n ≤ 64
+    → every
+    (eqb (at ws (messagePlace k + 1) / 2 ^ 24) 112
+    ∷ ltb (beyond ws k 1 2147483648) (2 ^ 24)
+    ∷ ltb (beyond ws k 2 2147483648) (2 ^ 24)
+    ∷ ltb (beyond ws k 3 2147483648) (2 ^ 16)
+    ∷ stampFits (decodeMessage ws k)
+    ∷ every
+    (leb (number (beyond ws k 1 2147483648) (beyond ws k 2 2147483648) (beyond ws k 3 2147483648)) (if usesView (at ws (messagePlace k) % 16) then 2 ^ n - 1 else 0)
+    ∷ not (ofBits (number (beyond ws k 1 2147483648) (beyond ws k 2 2147483648) (beyond ws k 3 2147483648)) (at ws (messagePlace k) / 2 ^ 10 % 64))
+    ∷ [])
+    ∷ [])
+    ≡ restReads ws t k
+unfolding restReads
+as-words ws t k n e few =
+    rw (
+      second-kept ws k,
+      low-kept ws k ∙ kind-test 24 128 (at ws (messagePlace k + 2)) refl,
+      middle-kept ws k ∙ kind-test 24 128 (at ws (messagePlace k + 3)) refl,
+      high-kept ws k ∙ kind-test 16 32768 (at ws (messagePlace k + 4)) refl,
+      view-test ws k t (rw e few),
+      value 24 (at ws (messagePlace k + 2)) refl,
+      value 24 (at ws (messagePlace k + 3)) refl,
+      value 16 (at ws (messagePlace k + 4)) refl,
+      e,
+    )
+    refl
+
+pub rest-test : (ws types receivers : List ℕ) (t : Table) (n k : ℕ) → Tables types receivers n → size t ≡ n → n ≤ 64 → Small ws k → nothingWrong ws types receivers k ≡ restReads ws t k
+unfolding restReads
+rest-test ws types receivers t n k given e few s =
+    ap₂ _&&_ (ap₂ _&&_ (ap₂ _&&_ (lane ws types receivers n k given 0 1879048192 (omega arith) (s .stamp) ∙ stamp-lane ws n k (at ws (messagePlace k) / 2 ^ 10 % 64)) (lane ws types receivers n k given 1 2147483648 (omega arith) (s .low))) (lane ws types receivers n k given 2 2147483648 (omega arith) (s .middle))) (lane ws types receivers n k given 3 2147483648 (omega arith) (s .high))
+    ∙ regroup (eqb (at ws (messagePlace k + 1) / 2 ^ 24) 112 && stampFits (decodeMessage ws k)) (ltb a (2 ^ room n type 1)) (ltb b (2 ^ room n type 2)) (ltb c (2 ^ room n type 3)) (eqb (bitAnd a (receiverBit to 1)) 0) (eqb (bitAnd b (receiverBit to 2)) 0) (eqb (bitAnd c (receiverBit to 3)) 0)
+    ∙ joined (eqb (at ws (messagePlace k + 1) / 2 ^ 24) 112) (stampFits (decodeMessage ws k)) (ltb a (2 ^ 24)) (ltb b (2 ^ 24)) (ltb c (2 ^ 16)) (leb (number a b c) (if usesView type then 2 ^ n - 1 else 0)) (not (ofBits (number a b c) to))
+    (ltb a (2 ^ room n type 1) && ltb b (2 ^ room n type 2) && ltb c (2 ^ room n type 3))
+    (eqb (bitAnd a (receiverBit to 1)) 0 && eqb (bitAnd b (receiverBit to 2)) 0 && eqb (bitAnd c (receiverBit to 3)) 0)
+    (limited (usesView type) n a b c few)
+    (λ h. without-receiver to a b c (mod-lt (at ws (messagePlace k) / 2 ^ 10) (lit< tt)) (short a b c h))
+    ∙ as-words ws t k n e few
+  where
+    a : ℕ
+    a = beyond ws k 1 2147483648
+
+    b : ℕ
+    b = beyond ws k 2 2147483648
+
+    c : ℕ
+    c = beyond ws k 3 2147483648
+
+    type : ℕ
+    type = at ws (messagePlace k) % 16
+
+    to : ℕ
+    to = at ws (messagePlace k) / 2 ^ 10 % 64
+
+-- ---- all of them
+
+pub rests-test : (ws types receivers : List ℕ) (t : Table) (n m : ℕ) (r : Bool) → Tables types receivers n → size t ≡ n → n ≤ 64 → ((k : ℕ) → k < m → Small ws k) → r ≡ all m (nothingWrong ws types receivers) → r ≡ all m (restReads ws t)
+rests-test ws types receivers t n m r given e few s f =
+    f ∙ all-cong (nothingWrong ws types receivers) (restReads ws t) m (λ k h. rest-test ws types receivers t n k given e few (s k h))

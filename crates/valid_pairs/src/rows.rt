@@ -1,0 +1,63 @@
+// The row of a running node in one pass, spares and all: the quicker way where it has spares.
+ghost use mathlib.Core.Path.{_≡_};
+ghost use mathlib.Core.Bool.{_&&_};
+ghost use Prim.Native.Nat.{_^_, _≤_, _<_};
+ghost use lib.ListN.{length};
+ghost use Rattle.model.specs.Choice.{if_then_else_};
+ghost use Rattle.model.specs.Sets.{all};
+ghost use Rattle.valid_pairs.specs.Pairs.{linkAt, linkReads, spareReads, othersRead};
+
+// What is seen of a row: whether it reads, and a guess whether the next one has no spare.
+pub struct Row {
+    pub fits: bool,
+    pub bare: bool,
+}
+
+// The words w and p of the pair of x with another z.
+fn pair_fits(w: u32, p: u32, clock: u32, n: u32, x: u32, z: u32) -> bool
+    requires { ⌜ (clock < 2 ^ 24) × (n ≤ 64) × (x < 64) × (z < 64) ⌝ }
+    ensures { λ r. ⌜ r ≡ linkReads clock w && spareReads n x z w p ⌝ }
+{
+    let link = w & 0xFDFF_FFFF;
+    let held = std::num::wrapping_sub_u32(link, 0x3100_0001) < clock;
+    let spare = p ^ 0x4000_0000;
+    let none = p == 0x4000_0040;
+    let named = (spare < n) & !(spare == x) & !(spare == z);
+    ((link == 0x3000_0000) & none) | (held & (none | named))
+}
+
+fn one_if(b: bool) -> u32
+    ensures { λ r. ⌜ (r ≡ (if b then 1 else 0)) × (r ≤ 1) ⌝ }
+{
+    if b {
+        return 1;
+    }
+    0
+}
+
+// The pairs of a running x with the other nodes: all of them fit, and that of x with itself, which is 0, does not.
+pub fn whole_row(words: &[u32], x: usize, n: usize) -> Row
+    requires { ⌜ (length (now words) ≡ 13441) × (n ≤ 64) × (x < n) × (linkAt (now words) x x ≡ 0) ⌝ }
+    ensures { λ r. ⌜ r .fits ≡ all n (othersRead (now (words .entry)) n x) ⌝ }
+{
+    let clock = words[1 + 2 * x + 1] % 0x100_0000;
+    let mut fit = 0;
+    let mut met = 0;
+    for z in 0..n {
+        let at = 129 + 2 * (64 * x + z);
+        fit = fit
+            + one_if(pair_fits(
+                words[at],
+                words[at + 1],
+                clock,
+                n as u32,
+                x as u32,
+                z as u32,
+            ));
+        met = met | words[at + 1];
+    }
+    Row {
+        fits: fit + 1 == n as u32,
+        bare: met == 0x4000_0040,
+    }
+}

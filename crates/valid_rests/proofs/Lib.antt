@@ -1,3 +1,0 @@
-pub mod RestTests
-pub mod Lanes
-pub mod Views

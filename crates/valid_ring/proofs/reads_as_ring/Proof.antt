@@ -1,0 +1,64 @@
+use mathlib.Core.Bool.{_&&_}
+use mathlib.Core.Path.{ap, ap₂, sym, _∙_}
+use native.Mathlib.Omega.{arith}
+use denote.Ref.{now}
+use borrow.Author.Tests.{not-true, not-false}
+use borrow.Author.Needs.{needs}
+use Rattle.model.specs.Words.{at, decodeTable}
+use Rattle.valid_nodes.specs.Nodes.{nodesRead}
+use Rattle.valid_pairs.specs.Pairs.{pairsRead}
+use Rattle.valid_messages.specs.Messages.{messagesRead}
+use Rattle.valid_nodes.proofs.NodeTests.{size-is}
+use Rattle.valid_ring.proofs.Regions.{head-ranges, head-fails, after-head}
+use Rattle.valid_ring.proofs.reads_as_ring.Statement.{statement}
+use Rattle.valid_ring.proofs.reads_as_ring.Tie as tie
+
+returns : tie.Need-returns
+returns c =
+    let ws = now (c .before .before .before .before .args .words) in
+    head-fails ws (c .before .before .before .before .pre) (sym (c .before .head-reads .ensures) ∙ not-true (c .before .head-reads .result) (c .if1 .taken))
+
+nodes-read-requires : tie.Need-nodes-read-requires
+nodes-read-requires c κs =
+    let h = head-ranges (at (now (c .before .before .before .before .before .before .args .words)) 0) (sym (c .before .before .before .head-reads .ensures) ∙ not-false (c .before .before .before .head-reads .result) (c .before .before .if1 .left)) in
+    let e = c .before .size .ensures in
+    (c .before .before .before .before .before .before .pre, omega arith)
+
+keys-differ-requires : tie.Need-keys-differ-requires
+keys-differ-requires c κs =
+    let h = head-ranges (at (now (c .before .before .before .before .before .before .before .args .words)) 0) (sym (c .before .before .before .before .head-reads .ensures) ∙ not-false (c .before .before .before .before .head-reads .result) (c .before .before .before .if1 .left)) in
+    let e = c .before .before .size .ensures in
+    (c .before .before .before .before .before .before .before .pre, omega arith, e)
+
+pairs-read-requires : tie.Need-pairs-read-requires
+pairs-read-requires c κs =
+    let h = head-ranges (at (now (c .before .before .before .before .before .before .before .before .args .words)) 0) (sym (c .before .before .before .before .before .head-reads .ensures) ∙ not-false (c .before .before .before .before .before .head-reads .result) (c .before .before .before .before .if1 .left)) in
+    let e = c .before .before .before .size .ensures in
+    (c .before .before .before .before .before .before .before .before .pre, omega arith)
+
+messages-read-requires : tie.Need-messages-read-requires
+messages-read-requires c κs =
+    let h = head-ranges (at (now (c .before .before .before .before .before .before .before .before .before .args .words)) 0) (sym (c .before .before .before .before .before .before .head-reads .ensures) ∙ not-false (c .before .before .before .before .before .before .head-reads .result) (c .before .before .before .before .before .if1 .left)) in
+    let e = c .before .before .before .before .size .ensures in
+    let f = c .before .before .before .count .ensures in
+    (c .before .before .before .before .before .before .before .before .before .pre, omega arith, omega arith, omega arith)
+
+returns-2 : tie.Need-returns-2
+returns-2 c =
+    let ws = now (c .before .before .before .before .before .before .before .before .before .before .args .words) in
+    let e = c .before .before .before .before .before .size .ensures in
+    let f = c .before .before .before .before .count .ensures in
+    ap₂ _&&_ (ap₂ _&&_ (ap₂ _&&_
+    (c .before .before .before .nodes-read .ensures ∙ ap (nodesRead ws) e)
+    (c .before .before .keys-differ .ensures))
+    (c .before .pairs-read .ensures ∙ ap (pairsRead ws) e))
+    (c .messages-read .ensures (decodeTable ws) (size-is ws ∙ sym e) ∙ ap (messagesRead ws (decodeTable ws)) f)
+    ∙ after-head ws (c .before .before .before .before .before .before .before .before .before .before .pre) (sym (c .before .before .before .before .before .before .before .head-reads .ensures) ∙ not-false (c .before .before .before .before .before .before .before .head-reads .result) (c .before .before .before .before .before .before .if1 .left))
+
+pub reads-as-ring-spec : {M : Type 1} → statement M
+reads-as-ring-spec =
+    tie.close
+    (tie.spec
+    (λ c. search needs) (λ c κs. search needs) returns (λ c κs. search needs) (λ c κs. search needs)
+    (λ c. search needs) nodes-read-requires (λ c. search needs) keys-differ-requires (λ c. search needs)
+    pairs-read-requires (λ c. search needs) messages-read-requires returns-2)

@@ -1,0 +1,20 @@
+-- The regions of words that read as a ring: word 0, the nodes, the pairs and the messages.
+use mathlib.Core.Bool.{Bool}
+use mathlib.Core.List.{List, [], _∷_}
+use Prim.Native.Nat.{ℕ}
+use Rattle.model.specs.Choice.{every}
+use Rattle.model.specs.Words.{at, keysDiffer, decodeTable}
+use Rattle.valid_nodes.specs.Nodes.{sizeOf, countOf, headReads, nodesRead}
+use Rattle.valid_pairs.specs.Pairs.{pairsRead}
+use Rattle.valid_messages.specs.Messages.{messagesRead}
+
+-- region by region
+unfoldable pub regionsRead : List ℕ → Bool
+regionsRead ws =
+    every
+    (headReads (at ws 0)
+    ∷ nodesRead ws (sizeOf ws)
+    ∷ keysDiffer (decodeTable ws)
+    ∷ pairsRead ws (sizeOf ws)
+    ∷ messagesRead ws (decodeTable ws) (countOf ws)
+    ∷ [])

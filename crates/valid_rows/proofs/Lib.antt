@@ -1,2 +1,0 @@
-pub mod PairFormats
-pub mod PairTest
