@@ -16,7 +16,7 @@ use Rattle.model.specs.declared.node.NodeRecord.{NodeRecord}
 use Rattle.model.proofs.Answers.{none-applies}
 use Rattle.model.proofs.Decoded.{reads-well}
 use Rattle.model.proofs.Lists.{first, rest}
-use Rattle.node_records.specs.Loaded.{LoadedNode}
+use Rattle.ring_pairs.specs.Loaded.{LoadedNode}
 use Rattle.records.specs.Effects.{OwnFits}
 use Rattle.records.proofs.WellFormed as protocol
 use Rattle.acting.specs.Acting.{mayAct}

@@ -13,8 +13,8 @@ use Rattle.model.specs.Play.{act}
 use Rattle.model.specs.Structs.{tableOf, ownOf, RoomNode, RoomMessage}
 use Rattle.model.specs.declared.answer.Answer.{Answer}
 use Rattle.leafset.specs.Table.{InTable}
-use Rattle.buffer.specs.Parts.{Is}
-use Rattle.buffer.proofs.ReadRing.{read-is}
+use Rattle.ring_head.specs.Parts.{Is}
+use Rattle.ring_head.proofs.ReadRing.{read-is}
 use Rattle.records.specs.Effects.{OwnFits, Replies, CallsEach}
 use Rattle.records.specs.declared.effect.Calls.{Calls}
 use Rattle.records.specs.declared.effect.Reply.{Reply}

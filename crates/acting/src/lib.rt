@@ -6,7 +6,6 @@ ghost use Rattle.model.specs.Words.{decode, readsAsRing};
 ghost use Rattle.model.specs.declared.answer.Answer.the-variants.{Accepted};
 ghost use Rattle.acting.specs.Acting.{mayAct, IsActor};
 use answers::LAST;
-use buffer::head;
 use model::answer::Answer;
 use model::node::NodeRecord;
 use model::values::NodeNumber;
@@ -25,13 +24,13 @@ pub fn may_act(words: &[u32], x: NodeNumber) -> Answer
     requires { ⌜ readsAsRing (now words) ≡ true ⌝ }
     ensures { λ r. ⌜ r ≡ firstOf (mayAct (decode (now (words .entry))) (x .0)) ⌝ }
 {
-    if head::nodes(words) <= x.0 as usize {
+    if ring_head::nodes(words) <= x.0 as usize {
         return Answer::OutOfTable;
     }
-    if !node_words::is_running(words, x) {
+    if !ring_nodes::is_running(words, x) {
         return Answer::NodeOff;
     }
-    if node_words::clock(words, x).0 == LAST {
+    if ring_nodes::clock(words, x).0 == LAST {
         return Answer::ClockSpent;
     }
     Answer::Accepted
@@ -42,10 +41,10 @@ pub fn load(words: &[u32], x: NodeNumber) -> Actor
     requires { ⌜ (readsAsRing (now words) ≡ true) × (firstOf (mayAct (decode (now words)) (x .0)) ≡ Accepted) ⌝ }
     ensures { λ r. ⌜ IsActor (now (words .entry)) (x .0) r ⌝ }
 {
-    let n = head::nodes(words);
-    let m = head::messages(words);
-    let clock = node_words::clock(words, x).0;
-    let own = node_records::load(words, n, x);
+    let n = ring_head::nodes(words);
+    let m = ring_head::messages(words);
+    let clock = ring_nodes::clock(words, x).0;
+    let own = ring_pairs::load(words, n, x);
     Actor {
         n,
         m,

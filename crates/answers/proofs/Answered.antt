@@ -16,7 +16,7 @@ use Rattle.model.specs.declared.answer.Answer.the-variants.{Accepted, PoolFull}
 use Rattle.model.specs.declared.event.Event.{Event}
 use Rattle.model.specs.declared.event.Event.the-variants.{On, Off, Notice, Contact, Timer, Deliver, Lose}
 use Rattle.model.proofs.Answers.{accepted-is, none-applies}
-use Rattle.buffer.specs.Parts.{Is}
+use Rattle.ring_head.specs.Parts.{Is}
 use Rattle.answers.specs.Applied.{written, eventOn, applied}
 use Rattle.answers.proofs.Refusals.{stays, passes}
 

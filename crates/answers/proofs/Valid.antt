@@ -11,7 +11,7 @@ use Rattle.model.specs.WellFormed.{WellFormedMessage}
 use Rattle.model.proofs.Lists.{each-at}
 use Rattle.model.proofs.Words.{reads-out}
 use Rattle.model.proofs.Decoded.{reads-well}
-use Rattle.buffer.proofs.ReadRing.{read-sizes}
+use Rattle.ring_head.proofs.ReadRing.{read-sizes}
 
 module _ (ws : List ℕ) (reads : readsAsRing ws ≡ true) where
   pub long : length ws ≡ ringLength

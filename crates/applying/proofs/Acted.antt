@@ -12,7 +12,7 @@ use Rattle.model.specs.Play.{setMessages}
 use Rattle.model.specs.Structs.{ownOf, messageOf}
 use Rattle.model.specs.declared.answer.Answer.the-variants.{Accepted, PoolFull}
 use Rattle.sets.proofs.Members.{length-members}
-use Rattle.buffer.specs.Parts.{Is, update, stepped}
+use Rattle.ring_head.specs.Parts.{Is, update, stepped}
 use Rattle.records.specs.Effects.{replyEffect}
 use Rattle.records.specs.declared.effect.Reply.{Reply}
 use Rattle.answers.specs.Applied.{written, acted, applied}

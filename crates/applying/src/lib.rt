@@ -7,7 +7,7 @@ ghost use Rattle.model.specs.Sets.{ofBits};
 ghost use Rattle.model.specs.Ring.{Ring};
 ghost use Rattle.model.specs.Words.{ringLength};
 ghost use Rattle.model.specs.Structs.{spareAt, RoomNode, RoomMessage};
-ghost use Rattle.buffer.specs.Parts.{Is};
+ghost use Rattle.ring_head.specs.Parts.{Is};
 ghost use Rattle.records.specs.Effects.{replyEffect, callsEffect, requestsEffect};
 ghost use Rattle.answers.specs.Applied.{written, acted, applied};
 use model::answer::Answer;
@@ -32,15 +32,15 @@ pub fn reply(
 {
     let own = reply.own;
     if !reply.sends {
-        nodes::store(words, n, x, time, own);
+        ring_nodes::store(words, n, x, time, own);
         return Answer::Accepted;
     }
     if m == 1024 {
         return Answer::PoolFull;
     }
     let message = reply.message;
-    nodes::store(words, n, x, time, own);
-    pool::append(words, m, message);
+    ring_nodes::store(words, n, x, time, own);
+    ring_messages::append(words, m, message);
     Answer::Accepted
 }
 
@@ -62,8 +62,8 @@ pub fn calls(
     if 1024 < m + sets::size(to) as usize {
         return Answer::PoolFull;
     }
-    nodes::store(words, n, x, time, own);
-    sending::send_each(words, m, calls.tag, x, to);
+    ring_nodes::store(words, n, x, time, own);
+    ring_messages::send_each(words, m, calls.tag, x, to);
     Answer::Accepted
 }
 
@@ -85,7 +85,7 @@ pub fn requests(
     if 1024 < m + more {
         return Answer::PoolFull;
     }
-    nodes::store(words, n, x, time, own);
-    sending::send_requests(words, m, x, time, own, to);
+    ring_nodes::store(words, n, x, time, own);
+    ring_messages::send_requests(words, m, x, time, own, to);
     Answer::Accepted
 }

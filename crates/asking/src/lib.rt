@@ -5,7 +5,6 @@ ghost use Rattle.model.specs.Answers.{firstOf};
 ghost use Rattle.model.specs.Words.{decode, readsAsRing};
 ghost use Rattle.model.specs.Questions.{connectionAnswer, groupsAnswer};
 ghost use Rattle.asking.specs.Asked.{nodesRefusals};
-use buffer::head;
 use model::answer::Answer;
 use model::values::NodeNumber;
 
@@ -27,14 +26,14 @@ fn of_ring(words: &[u32], a: NodeNumber, b: NodeNumber) -> Answer
     requires { ⌜ readsAsRing (now words) ≡ true ⌝ }
     ensures { λ r. ⌜ r ≡ firstOf (nodesRefusals (decode (now (words .entry))) (a .0) (b .0)) ⌝ }
 {
-    let n = head::nodes(words);
+    let n = ring_head::nodes(words);
     if n <= a.0 as usize {
         return Answer::OutOfTable;
     }
     if n <= b.0 as usize {
         return Answer::OutOfTable;
     }
-    if !(node_words::is_running(words, a) & node_words::is_running(words, b)) {
+    if !(ring_nodes::is_running(words, a) & ring_nodes::is_running(words, b)) {
         return Answer::NodeOff;
     }
     Answer::Accepted

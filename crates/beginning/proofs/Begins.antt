@@ -27,7 +27,7 @@ use Rattle.model.proofs.RoundTrip.{round-trip}
 use Rattle.model.proofs.Fits.{encoded-reads}
 use Rattle.model.proofs.WellFormedPlay.{table-well, initial-well}
 use Rattle.answers.specs.Applied.{written}
-use Rattle.buffer.proofs.Arrays.{Filled}
+use Rattle.ring_head.proofs.Arrays.{Filled}
 use Rattle.beginning.specs.Beginning.{headFits, sizesFit, keyFits, keysFit, scriptKeys, openScript}
 
 -- no words, no head

@@ -17,8 +17,8 @@ use Rattle.model.specs.declared.answer.Answer.the-variants.{Accepted}
 use Rattle.model.specs.declared.event.Event.the-variants.{Deliver}
 use Rattle.model.specs.declared.message.MessageRecord.{MessageRecord}
 use Rattle.model.proofs.Laws.{if-law}
-use Rattle.messages.specs.Loaded.{LoadedMessage}
-use Rattle.buffer.proofs.ReadRing.{read-message}
+use Rattle.ring_messages.specs.Loaded.{LoadedMessage}
+use Rattle.ring_head.proofs.ReadRing.{read-message}
 use Rattle.records.specs.Effects.{replyEffect, Delivered}
 use Rattle.records.specs.declared.effect.Reply.{Reply}
 use Rattle.records.proofs.WellFormed.{delivered}

@@ -10,12 +10,11 @@ ghost use Rattle.model.specs.Structs.{ownOf, messageOf};
 ghost use Rattle.model.specs.declared.answer.Answer.the-variants.{Accepted};
 ghost use Rattle.model.specs.declared.event.Event.the-variants.{Deliver};
 ghost use Rattle.model.specs.Steps as steps;
-ghost use Rattle.messages.specs.Loaded.{LoadedMessage};
+ghost use Rattle.ring_messages.specs.Loaded.{LoadedMessage};
 ghost use Rattle.records.specs.Effects.{Replies, Delivered};
 ghost use Rattle.acting.specs.Acting.{mayAct, IsActor};
 ghost use Rattle.answers.specs.Applied.{written, eventOn, applied};
 use acting::Actor;
-use buffer::head;
 use model::answer::Answer;
 use model::message::MessageRecord;
 use protocol::deliver;
@@ -26,15 +25,15 @@ pub fn deliver(words: &mut [u32], position: u16) -> Answer
     requires { ⌜ readsAsRing (now words) ≡ true ⌝ }
     ensures { λ r. ⌜ written r (now (words .exit)) ≡ eventOn (now (words .entry)) (Deliver position) ⌝ }
 {
-    let m = head::messages(words);
+    let m = ring_head::messages(words);
     let k = position as usize;
     if m <= k {
         return Answer::OutOfTable;
     }
-    let message = messages::load(words, k);
+    let message = ring_messages::load(words, k);
     let y = message.receiver;
-    if !node_words::is_running(words, y) {
-        pool::remove(words, m, k);
+    if !ring_nodes::is_running(words, y) {
+        ring_messages::remove(words, m, k);
         return Answer::Accepted;
     }
     let answer = acting::may_act(words, y);
@@ -52,7 +51,7 @@ fn receive(words: &mut [u32], k: usize, message: MessageRecord) -> Answer
     let y = message.receiver;
     let actor = acting::load(words, y);
     let reply = step(words, actor, message);
-    pool::remove(words, actor.m, k);
+    ring_messages::remove(words, actor.m, k);
     applying::reply(words, actor.n, actor.m - 1, y, actor.time, reply)
 }
 
@@ -62,8 +61,8 @@ fn step(words: &[u32], actor: Actor, message: MessageRecord) -> Reply
     ensures { λ r. ⌜ Replies (actor .n) r (steps.deliver (decode (now (words .entry)) .table) (message .receiver .0) (actor .time .0) (ownOf (actor .own)) (messageOf message)) ⌝ }
 {
     let n = actor.n;
-    let leaf = head::leaf(words);
-    let keys = table::keys(words, n);
+    let leaf = ring_head::leaf(words);
+    let keys = ring_head::keys(words, n);
     deliver::deliver(
         &keys[..n],
         leaf,

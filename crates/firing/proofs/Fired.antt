@@ -13,7 +13,7 @@ use Rattle.model.specs.Structs.{tableOf, ownOf}
 use Rattle.model.specs.declared.answer.Answer.{Answer}
 use Rattle.model.specs.declared.event.Event.the-variants.{Timer}
 use Rattle.model.specs.declared.values.NodeNumber.{NodeNumber}
-use Rattle.buffer.specs.Parts.{Is}
+use Rattle.ring_head.specs.Parts.{Is}
 use Rattle.answers.specs.Applied.{written, acted, applied}
 use Rattle.acting.specs.Acting.{IsActor}
 use Rattle.acting.specs.declared.Actor.{Actor}

@@ -13,7 +13,6 @@ ghost use Rattle.records.specs.Effects.{OwnFits, Replies, CallsEach};
 ghost use Rattle.acting.specs.Acting.{IsActor};
 ghost use Rattle.answers.specs.Applied.{written, applied, eventOn};
 use acting::Actor;
-use buffer::head;
 use model::answer::Answer;
 use model::node::NodeRecord;
 use model::values::NodeNumber;
@@ -42,8 +41,8 @@ fn fire(words: &mut [u32], x: NodeNumber, k: u8, actor: Actor) -> Answer
     let m = actor.m;
     let time = actor.time;
     let own = actor.own;
-    let leaf = head::leaf(words);
-    let keys = table::keys(words, n);
+    let leaf = ring_head::leaf(words);
+    let keys = ring_head::keys(words, n);
     let table = &keys[..n];
     if k < 3 {
         return applying::calls(words, n, m, x, time, calling(table, leaf, x, own, k));

@@ -19,7 +19,7 @@ use Rattle.model.specs.declared.answer.Answer.the-variants.{Accepted, OutOfTabl
 use Rattle.model.specs.declared.event.Event.{Event}
 use Rattle.model.proofs.Answers.{none-applies}
 use Rattle.model.proofs.Lists.{first, rest}
-use Rattle.buffer.specs.Parts.{Is}
+use Rattle.ring_head.specs.Parts.{Is}
 use Rattle.records.specs.Effects.{replyEffect, Replies}
 use Rattle.records.specs.declared.effect.Reply.{Reply}
 use Rattle.answers.specs.Applied.{written, eventOn, acted, applied}

@@ -6,7 +6,6 @@ ghost use Rattle.model.specs.Words.{decode, readsAsRing};
 ghost use Rattle.model.specs.declared.event.Event.the-variants.{Notice, Contact};
 ghost use Rattle.answers.specs.Applied.{written, eventOn};
 ghost use Rattle.meeting.specs.Meeting.{mayMeet};
-use buffer::head;
 use model::answer::Answer;
 use model::values::NodeNumber;
 use protocol::contact;
@@ -16,7 +15,7 @@ fn may_meet(words: &[u32], x: NodeNumber, y: NodeNumber) -> Answer
     requires { ⌜ readsAsRing (now words) ≡ true ⌝ }
     ensures { λ r. ⌜ r ≡ firstOf (mayMeet (decode (now (words .entry))) (x .0) (y .0)) ⌝ }
 {
-    if head::nodes(words) <= y.0 as usize {
+    if ring_head::nodes(words) <= y.0 as usize {
         return Answer::OutOfTable;
     }
     acting::may_act(words, x)

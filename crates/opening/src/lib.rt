@@ -23,7 +23,7 @@ pub fn open(words: &mut [u32], leaf: u32, keys: &[u32]) -> Answer
     if !(keys_fit(keys) & keys_differ(keys)) {
         return Answer::BadKey;
     }
-    initial::write(words, leaf, keys);
+    ring_initial::write(words, leaf, keys);
     Answer::Accepted
 }
 

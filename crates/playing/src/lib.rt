@@ -5,7 +5,6 @@ ghost use Prim.Native.Nat.{_+_, _*_, _^_, _<_, _≤_};
 ghost use lib.ListN.{length};
 ghost use Rattle.model.specs.Words.{readsAsRing};
 ghost use Rattle.playing.specs.Playing.{OnePlayed, AllPlayed};
-use buffer::head;
 use ring::play;
 use script::Next;
 
@@ -20,7 +19,7 @@ fn play_word(words: &mut [u32], word: u32, number: u64, out: &mut [u8], at: usiz
         at,
         number,
         answers::number(answer) as u64,
-        head::messages(words) as u64,
+        ring_head::messages(words) as u64,
     )
 }
 

@@ -11,8 +11,8 @@ use Rattle.model.specs.Structs.{tableOf}
 use Rattle.model.specs.declared.node.NodeRecord.{NodeRecord}
 use Rattle.model.proofs.Decoded.{reads-well}
 use Rattle.leafset.specs.Table.{InTable}
-use Rattle.node_records.specs.Loaded.{LoadedNode}
-use Rattle.buffer.proofs.ReadRing.{read-sizes}
+use Rattle.ring_pairs.specs.Loaded.{LoadedNode}
+use Rattle.ring_head.proofs.ReadRing.{read-sizes}
 use Rattle.answers.proofs.Valid.{few}
 
 module _ (ws : List ℕ) (reads : readsAsRing ws ≡ true) where

@@ -7,7 +7,6 @@ ghost use Rattle.model.specs.Ring.{holds};
 ghost use Rattle.model.specs.Words.{decodeTable, decode, readsAsRing};
 ghost use Rattle.model.specs.Questions.{leafsetAnswer, leafsetOf, connectionAnswer, connectionOf, groupsAnswer, groupsOf};
 ghost use Rattle.model.specs.Leafset as model;
-use buffer::head;
 use leafset::leafset;
 use model::answer::Answer;
 use model::values::NodeNumber;
@@ -55,10 +54,10 @@ pub fn connected(words: &[u32], a: NodeNumber, b: NodeNumber) -> ConnectionAnswe
             connected: false,
         };
     }
-    let n = head::nodes(words);
+    let n = ring_head::nodes(words);
     ConnectionAnswer {
         answer,
-        connected: connection::connected(words, n, a, b),
+        connected: ring_connection::connected(words, n, a, b),
     }
 }
 
@@ -70,10 +69,10 @@ pub fn groups(words: &[u32]) -> GroupsAnswer
     if answers::number(answer) != 0 {
         return GroupsAnswer { answer, groups: 0 };
     }
-    let n = head::nodes(words);
+    let n = ring_head::nodes(words);
     GroupsAnswer {
         answer,
-        groups: connection::groups(words, n),
+        groups: ring_connection::groups(words, n),
     }
 }
 
@@ -82,9 +81,9 @@ fn held_leafset(words: &[u32], x: NodeNumber) -> u64
     requires { ⌜ (readsAsRing (now words) ≡ true) × (x .0 < model.size (decodeTable (now words))) ⌝ }
     ensures { λ r. ⌜ r ≡ toBits 64 (model.leafset (decode (now (words .entry)) .table) (x .0) (holds (decode (now (words .entry))) (x .0))) ⌝ }
 {
-    let n = head::nodes(words);
-    let keys = table::keys(words, n);
-    let leaf = head::leaf(words);
-    let own = node_records::load(words, n, x);
+    let n = ring_head::nodes(words);
+    let keys = ring_head::keys(words, n);
+    let leaf = ring_head::leaf(words);
+    let own = ring_pairs::load(words, n, x);
     leafset(&keys[..n], leaf, x, own.held)
 }

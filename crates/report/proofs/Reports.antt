@@ -25,8 +25,8 @@ use Rattle.model.specs.Bench.{nodeLine}
 use Rattle.model.specs.declared.node.NodeRecord.{NodeRecord}
 use Rattle.model.proofs.Laws.{and-left, and-right, count-le}
 use Rattle.model.proofs.Words.{reads-out}
-use Rattle.buffer.proofs.ReadRing.{read-sizes}
-use Rattle.node_records.specs.Loaded.{LoadedNode}
+use Rattle.ring_head.proofs.ReadRing.{read-sizes}
+use Rattle.ring_pairs.specs.Loaded.{LoadedNode}
 use Rattle.sets.specs.Rest.{IsRest}
 use Rattle.sets.proofs.Members.{length-members, members-next, count-to, members-to}
 use Rattle.sets.proofs.Bits.{first-bit, members-end}

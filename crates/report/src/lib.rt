@@ -4,14 +4,13 @@ ghost use mathlib.Core.Bool.{true};
 ghost use mathlib.Core.List.{_∷_};
 ghost use Prim.Native.Nat.{_+_, _*_, _<_, _≤_};
 ghost use lib.ListN.{length};
-ghost use Rattle.lines.specs.Decimal.{spaced, lineBytes, linesBytes};
-ghost use Rattle.lines.specs.Put.{Put};
 ghost use Rattle.model.specs.Sets.{ofBits, count, members, tabulate};
 ghost use Rattle.model.specs.Leafset.{size};
 ghost use Rattle.model.specs.Words.{ringLength, decodeTable, decode, readsAsRing};
 ghost use Rattle.model.specs.Bench.{nodeLine};
+ghost use Rattle.lines.specs.Decimal.{spaced, lineBytes, linesBytes};
+ghost use Rattle.lines.specs.Put.{Put};
 ghost use Rattle.report.specs.Report.{groupsBytes, endBytes, stateBytes};
-use buffer::head;
 use model::values::NodeNumber;
 
 const NEWLINE: u8 = 10;
@@ -21,7 +20,7 @@ pub fn put_end(words: &[u32], out: &mut [u8], at: usize) -> usize
     requires { ⌜ (readsAsRing (now words) ≡ true) × (at + 93000 ≤ length (now out)) ⌝ }
     ensures { λ r. ⌜ Put (now (out .entry)) (now (out .exit)) at r (endBytes (decode (now (words .entry)))) × (r ≤ at + 93000) ⌝ }
 {
-    let end = put_nodes(words, head::nodes(words), out, at);
+    let end = put_nodes(words, ring_head::nodes(words), out, at);
     let reply = questions::groups(words);
     put_groups(out, end, reply.groups)
 }
@@ -53,7 +52,7 @@ fn put_node(words: &[u32], n: usize, x: NodeNumber, out: &mut [u8], at: usize) -
     requires { ⌜ (length (now words) ≡ ringLength) × (n ≡ size (decodeTable (now words))) × (n ≤ 64) × (x .0 < n) × (at + 1450 ≤ length (now out)) ⌝ }
     ensures { λ r. ⌜ Put (now (out .entry)) (now (out .exit)) at r (lineBytes (nodeLine (decode (now (words .entry))) (x .0))) × (r ≤ at + 1450) ⌝ }
 {
-    let own = node_records::load(words, n, x);
+    let own = ring_pairs::load(words, n, x);
     let first = put_state(words, x, out, at);
     let second = put_held(out, first, own.held);
     lines::put_byte(out, second, NEWLINE)
@@ -65,9 +64,9 @@ fn put_state(words: &[u32], x: NodeNumber, out: &mut [u8], at: usize) -> usize
     ensures { λ r. ⌜ Put (now (out .entry)) (now (out .exit)) at r (stateBytes (decode (now (words .entry))) (x .0)) × (r ≤ at + 84) ⌝ }
 {
     let first = lines::put_number(out, at, x.0 as u64);
-    let second = lines::put_next(out, first, table::key(words, x).0 as u64);
-    let third = lines::put_next(out, second, node_words::is_running(words, x) as u64);
-    lines::put_next(out, third, node_words::clock(words, x).0 as u64)
+    let second = lines::put_next(out, first, ring_head::key(words, x).0 as u64);
+    let third = lines::put_next(out, second, ring_nodes::is_running(words, x) as u64);
+    lines::put_next(out, third, ring_nodes::clock(words, x).0 as u64)
 }
 
 // Puts how many are held, and each of them.

@@ -6,7 +6,6 @@ ghost use Prim.Native.Nat.{_+_, _^_, _≤_};
 ghost use lib.ListN.{length};
 ghost use Rattle.model.specs.Words.{ringLength, decode};
 ghost use Rattle.turns.specs.Turns.{firstTurn, wordsTurn, turn, Ready, Stepped};
-use buffer::head;
 use script::loading;
 use turns::Session;
 
@@ -52,6 +51,6 @@ fn begin(script: &[u32], size: usize, words: &mut [u32], out: &mut [u8]) -> Sess
             end: lines::put_three(out, 0, 0, refusal as u64, 0),
         };
     }
-    let first = 1 + head::nodes(words);
+    let first = 1 + ring_head::nodes(words);
     turns::play(0, &script[first..], size, words, out)
 }

@@ -5,7 +5,6 @@ ghost use Rattle.model.specs.Words.{readsAsRing};
 ghost use Rattle.model.specs.declared.event.Event.the-variants.{On, Off, Lose};
 ghost use Rattle.answers.specs.Applied.{written, eventOn};
 use answers::LAST;
-use buffer::head;
 use model::answer::Answer;
 use model::values::NodeNumber;
 use model::values::Stamp;
@@ -14,17 +13,17 @@ pub fn on(words: &mut [u32], x: NodeNumber) -> Answer
     requires { ⌜ readsAsRing (now words) ≡ true ⌝ }
     ensures { λ r. ⌜ written r (now (words .exit)) ≡ eventOn (now (words .entry)) (On x) ⌝ }
 {
-    if head::nodes(words) <= x.0 as usize {
+    if ring_head::nodes(words) <= x.0 as usize {
         return Answer::OutOfTable;
     }
-    if node_words::is_running(words, x) {
+    if ring_nodes::is_running(words, x) {
         return Answer::AlreadyRunning;
     }
-    let clock = node_words::clock(words, x).0;
+    let clock = ring_nodes::clock(words, x).0;
     if clock == LAST {
         return Answer::ClockSpent;
     }
-    nodes::start(words, x, Stamp(clock + 1));
+    ring_nodes::start(words, x, Stamp(clock + 1));
     Answer::Accepted
 }
 
@@ -32,14 +31,14 @@ pub fn off(words: &mut [u32], x: NodeNumber) -> Answer
     requires { ⌜ readsAsRing (now words) ≡ true ⌝ }
     ensures { λ r. ⌜ written r (now (words .exit)) ≡ eventOn (now (words .entry)) (Off x) ⌝ }
 {
-    let n = head::nodes(words);
+    let n = ring_head::nodes(words);
     if n <= x.0 as usize {
         return Answer::OutOfTable;
     }
-    if !node_words::is_running(words, x) {
+    if !ring_nodes::is_running(words, x) {
         return Answer::NodeOff;
     }
-    nodes::stop(words, n, x);
+    ring_nodes::stop(words, n, x);
     Answer::Accepted
 }
 
@@ -47,11 +46,11 @@ pub fn lose(words: &mut [u32], position: u16) -> Answer
     requires { ⌜ readsAsRing (now words) ≡ true ⌝ }
     ensures { λ r. ⌜ written r (now (words .exit)) ≡ eventOn (now (words .entry)) (Lose position) ⌝ }
 {
-    let m = head::messages(words);
+    let m = ring_head::messages(words);
     let k = position as usize;
     if m <= k {
         return Answer::OutOfTable;
     }
-    pool::remove(words, m, k);
+    ring_messages::remove(words, m, k);
     Answer::Accepted
 }

@@ -3,11 +3,10 @@ ghost use mathlib.Core.Path.{_≡_};
 ghost use mathlib.Core.Bool.{true, false};
 ghost use Prim.Native.Nat.{_+_, _^_, _<_, _≤_};
 ghost use lib.ListN.{length};
+ghost use Rattle.model.specs.Words.{ringLength, decode, readsAsRing};
 ghost use Rattle.lines.specs.Decimal.{linesBytes};
 ghost use Rattle.lines.specs.Put.{Put};
-ghost use Rattle.model.specs.Words.{ringLength, decode, readsAsRing};
 ghost use Rattle.turns.specs.Turns.{tailLines, endOf, playedTurn, Stepped};
-use buffer::head;
 use model::answer::Answer;
 
 // How a session stands: whether there is more to come, whether a ring is open, how many events were played, and where
@@ -66,7 +65,13 @@ fn put_tail(words: &[u32], size: usize, count: u64, out: &mut [u8], at: usize) -
         return at;
     }
     let refusal = answers::number(Answer::NotAnEvent) as u64;
-    lines::put_three(out, at, count + 1, refusal, head::messages(words) as u64)
+    lines::put_three(
+        out,
+        at,
+        count + 1,
+        refusal,
+        ring_head::messages(words) as u64,
+    )
 }
 
 // The end of the output, unless there is more to come.

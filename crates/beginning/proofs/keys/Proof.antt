@@ -4,7 +4,7 @@ use native.Mathlib.Omega.{arith}
 use borrow.Author.Needs.{needs}
 use lib.ListN.{getD}
 use Rattle.model.specs.Fields.{bits}
-use Rattle.buffer.proofs.Arrays.{Filled, fill-none, fill-more}
+use Rattle.ring_head.proofs.Arrays.{Filled, fill-none, fill-more}
 use Rattle.beginning.proofs.Begins.{keys-loaded}
 use Rattle.beginning.proofs.keys.Statement.{statement}
 use Rattle.beginning.proofs.keys.Tie as tie

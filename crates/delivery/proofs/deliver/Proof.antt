@@ -9,7 +9,7 @@ use Rattle.model.specs.Ring.{Node}
 use Rattle.model.specs.Words.{decodeNode, decode}
 use Rattle.model.specs.Structs.{messageOf}
 use Rattle.model.specs.declared.event.Event.the-variants.{Deliver}
-use Rattle.buffer.proofs.ReadRing.{read-is, read-node}
+use Rattle.ring_head.proofs.ReadRing.{read-is, read-node}
 use Rattle.answers.proofs.Valid.{long, room}
 use Rattle.answers.proofs.Answered.{asked-accepted, applied-room, event-refused, event-asked, event-passed}
 use Rattle.answers.proofs.Refusals

@@ -5,7 +5,7 @@ use Rattle.model.specs.Ring.{Ring}
 use Rattle.model.specs.Words.{decode}
 use Rattle.model.specs.Play.{removeMessage}
 use Rattle.model.specs.Structs.{messageOf}
-use Rattle.buffer.proofs.ReadRing.{read-is}
+use Rattle.ring_head.proofs.ReadRing.{read-is}
 use Rattle.records.specs.Effects.{replyEffect}
 use Rattle.answers.specs.Applied.{acted}
 use Rattle.answers.proofs.Valid.{long}

@@ -5,7 +5,7 @@ use native.Mathlib.Omega.{arith}
 use Rattle.model.specs.Words.{decode}
 use Rattle.model.specs.Play.{after}
 use Rattle.model.specs.declared.event.Event.the-variants.{Lose}
-use Rattle.buffer.proofs.ReadRing.{read-is}
+use Rattle.ring_head.proofs.ReadRing.{read-is}
 use Rattle.answers.proofs.Valid.{long, room}
 use Rattle.answers.proofs.Answered.{applied-room, event-refused, event-passed}
 use Rattle.answers.proofs.Refusals

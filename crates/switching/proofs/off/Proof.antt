@@ -6,7 +6,7 @@ use borrow.Author.Tests.{not-true, not-false}
 use Rattle.model.specs.Words.{decode}
 use Rattle.model.specs.Play.{after}
 use Rattle.model.specs.declared.event.Event.the-variants.{Off}
-use Rattle.buffer.proofs.ReadRing.{read-is}
+use Rattle.ring_head.proofs.ReadRing.{read-is}
 use Rattle.answers.proofs.Valid.{long, few, room}
 use Rattle.answers.proofs.Answered.{applied-room, event-refused, event-passed}
 use Rattle.answers.proofs.Refusals

@@ -7,7 +7,7 @@ use Rattle.model.specs.Ring.{Node}
 use Rattle.model.specs.Words.{decodeTable, decode}
 use Rattle.model.specs.Play.{after}
 use Rattle.model.specs.declared.event.Event.the-variants.{On}
-use Rattle.buffer.proofs.ReadRing.{read-is, read-node}
+use Rattle.ring_head.proofs.ReadRing.{read-is, read-node}
 use Rattle.answers.proofs.Valid.{long, few, room, clock-high}
 use Rattle.answers.proofs.Answered.{applied-room, event-refused, event-passed}
 use Rattle.answers.proofs.Refusals

@@ -1,4 +1,0 @@
-pub mod Decoded
-pub mod Holds
-pub mod Arrays
-pub mod ReadRing

@@ -1,2 +1,0 @@
-// A ring in lent words: what every part of it builds on, and the first word.
-pub mod head;

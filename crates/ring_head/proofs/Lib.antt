@@ -1,0 +1,5 @@
+pub mod Decoded
+pub mod Holds
+pub mod Arrays
+pub mod ReadRing
+mod AllKeys

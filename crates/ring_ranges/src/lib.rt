@@ -1,0 +1,26 @@
+// A span of a ring's words, moved or cleared.
+ghost use mathlib.Core.Path.{_≡_};
+ghost use Prim.Native.Nat.{_+_, _≤_};
+ghost use lib.ListN.{length, getD};
+ghost use Rattle.model.specs.Words.{ringLength};
+ghost use Rattle.ring_ranges.specs.Spans.{Patched};
+
+// Moves the words from `from + 5` on, up to `to + 5`, down by five.
+pub fn move_down(words: &mut [u32], from: usize, to: usize)
+    requires { ⌜ (length (now words) ≡ ringLength) × (from ≤ to) × (to + 5 ≤ ringLength) ⌝ }
+    ensures { λ _. ⌜ Patched (now (words .entry)) (now (words .exit)) from to (λ i. getD (now (words .entry)) (i + 5) 0) ⌝ }
+{
+    for i in from..to {
+        words[i] = words[i + 5];
+    }
+}
+
+// Writes 0 from `from` up to `to`.
+pub fn clear(words: &mut [u32], from: usize, to: usize)
+    requires { ⌜ (length (now words) ≡ ringLength) × (from ≤ to) × (to ≤ ringLength) ⌝ }
+    ensures { λ _. ⌜ Patched (now (words .entry)) (now (words .exit)) from to (λ i. 0) ⌝ }
+{
+    for i in from..to {
+        words[i] = 0;
+    }
+}
