@@ -19,7 +19,7 @@ pub fn play(words: &mut [u32], word: u32) -> Answer
             if !valid_ring::reads_as_ring(words) {
                 return Answer::NotARing;
             }
-            events::play_event(words, e)
+            event_play::play_event(words, e)
         }
     }
 }

@@ -24,7 +24,7 @@ fn play_each(words: &mut [u32], script: &[u32], answers: &mut [u8])
     ensures { λ _. ⌜ PlayedUpTo (length (now (script .entry))) (now (words .entry)) (now (script .entry)) (now (answers .entry)) (now (words .exit)) (now (answers .exit)) ⌝ }
 {
     for i in 0..script.len() {
-        let answer = events::play_word(words, script[i]);
+        let answer = event_play::play_word(words, script[i]);
         note(answers, i, answer);
     }
 }

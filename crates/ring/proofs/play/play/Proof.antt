@@ -1,7 +1,7 @@
 use mathlib.Core.Path.{sym, _∙_}
 use borrow.Author.Needs.{needs}
 use borrow.Author.Tests.{not-true, not-false}
-use Rattle.events.proofs.Plays.{not-as-long, not-an-event, not-a-ring, an-event}
+use Rattle.event_play.proofs.Plays.{not-as-long, not-an-event, not-a-ring, an-event}
 use Rattle.ring.proofs.play.play.Statement.{statement}
 use Rattle.ring.proofs.play.play.Tie as tie
 

@@ -1,2 +1,0 @@
-pub mod Actors
-pub mod Lent

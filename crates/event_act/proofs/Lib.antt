@@ -1,0 +1,3 @@
+pub mod Actors
+pub mod Lent
+pub mod Acted
