@@ -6,8 +6,8 @@ ghost use lib.ListN.{length, take};
 ghost use Rattle.model.specs.Words.{ringLength};
 ghost use Rattle.answers.specs.Applied.{written};
 ghost use Rattle.beginning.specs.Beginning.{headFits, sizesFit, keyFits, keysFit, scriptKeys, openScript};
+use call_open::open;
 use model::answer::Answer;
-use opening::open;
 use word_ring::HeadWord;
 use word_ring::KeyWord;
 

@@ -17,19 +17,19 @@ pub fn ask(command: Command, words: &[u32]) -> Outcome {
 }
 
 fn leafset_of(words: &[u32], x: NodeNumber) -> Outcome {
-    let reply = questions::leafset_of(words, x);
+    let reply = call_questions::leafset_of(words, x);
     let answer = reply.answer;
     outcome(answer, reply.set)
 }
 
 fn connected(words: &[u32], a: NodeNumber, b: NodeNumber) -> Outcome {
-    let reply = questions::connected(words, a, b);
+    let reply = call_questions::connected(words, a, b);
     let answer = reply.answer;
     outcome(answer, reply.connected as u64)
 }
 
 fn groups(words: &[u32]) -> Outcome {
-    let reply = questions::groups(words);
+    let reply = call_questions::groups(words);
     let answer = reply.answer;
     outcome(answer, reply.groups as u64)
 }

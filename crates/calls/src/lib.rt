@@ -1,20 +1,18 @@
 // The public calls, by a command.
-mod ask;
+pub mod ask;
 
 use ask::ask;
 use call_commands::command::Command;
 use call_commands::line::Outcome;
 use call_commands::memory;
 use call_events::outcome;
-use opening::open;
-use ring::play;
-use ring::replay;
+use call_open::open;
 
 pub fn call(command: Command, words: &mut [u32], list: &[u32], places: &mut [u8]) -> Outcome {
     let number = command.number;
     match number {
         Command::OPEN => opened(words, command, list),
-        Command::PLAY => outcome(play::play(words, command.a), 0),
+        Command::PLAY => outcome(call_play::play(words, command.a), 0),
         Command::LEAFSET..=Command::WRITE => ask(command, words),
         _ => replayed(words, command, list, places),
     }
@@ -30,6 +28,6 @@ fn replayed(words: &mut [u32], command: Command, list: &[u32], places: &mut [u8]
     let n = memory::at_most(command.b, list);
     let rest = &list[n..];
     let end = memory::at_most(command.c, rest);
-    let answer = replay::replay(words, command.a, &list[..n], &rest[..end], places);
+    let answer = call_play::replay(words, command.a, &list[..n], &rest[..end], places);
     outcome(answer, memory::digest_bytes(places))
 }

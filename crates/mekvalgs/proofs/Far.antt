@@ -17,7 +17,7 @@ use Rattle.model.proofs.Laws.{decide, is-false}
 use Rattle.model.proofs.Answers.{accepted-is}
 use Rattle.answers.proofs.Valid.{few}
 use Rattle.answers.proofs.Refusals.{here, later, no-ring, out-of-table}
-use Rattle.questions.proofs.Asked
+use Rattle.call_questions.proofs.Asked
 use Rattle.mekvalgs.specs.Nodes.{nodeOf}
 
 -- a law of 64 for every number from 64 on is one of the cut number

@@ -7,13 +7,11 @@ ghost use Rattle.model.specs.Structs.{tableOf};
 ghost use Rattle.model.specs.Buffer.{openBuffer, playBuffer};
 ghost use Rattle.model.specs.Questions.{leafsetAnswer, leafsetOf, connectionAnswer, connectionOf, groupsAnswer, groupsOf};
 ghost use Rattle.model.specs.Events.{wordAnswer};
-ghost use Rattle.ring.specs.Replay.{Replayed};
-ghost use Rattle.event_parts.specs.Parts.{numbers, readParts, partsAnswer, writeParts};
+ghost use Rattle.call_play.specs.Replay.{Replayed};
+ghost use Rattle.mekvalgs_event.specs.Parts.{numbers, readParts, partsAnswer, writeParts};
 ghost use Rattle.mekvalgs.specs.Nodes.{nodeOf};
+use call_open::open;
 use model::values::NodeNumber;
-use opening::open;
-use ring::play;
-use ring::replay;
 
 // Writes the initial ring of `leaf` and the keys.
 #[no_mangle]
@@ -28,7 +26,7 @@ pub extern "C" fn mekvalgs_open(words: &mut [u32], leaf: u32, keys: &[u32]) -> u
 pub extern "C" fn mekvalgs_play(words: &mut [u32], word: u32) -> u32
     ensures { λ r. ⌜ (r ≡ numberOf (playBuffer (now (words .entry)) word .answer)) × (now (words .exit) ≡ playBuffer (now (words .entry)) word .words) ⌝ }
 {
-    answers::number(play::play(words, word))
+    answers::number(call_play::play(words, word))
 }
 
 // Opens a ring and plays the script on it; the answers' numbers, as far as there are places for them.
@@ -42,7 +40,7 @@ pub extern "C" fn mekvalgs_replay(
 ) -> u32
     ensures { λ r. ⌜ (r ≡ numberOf (openBuffer (now (words .entry)) (tableOf leaf (now (keys .entry))) .answer)) × Replayed (now (words .entry)) (tableOf leaf (now (keys .entry))) (now (script .entry)) (now (answers .entry)) (openBuffer (now (words .entry)) (tableOf leaf (now (keys .entry))) .answer) (now (words .exit)) (now (answers .exit)) ⌝ }
 {
-    answers::number(replay::replay(words, leaf, keys, script, answers))
+    answers::number(call_play::replay(words, leaf, keys, script, answers))
 }
 
 // The leafset of node x in its held set.
@@ -50,7 +48,7 @@ pub extern "C" fn mekvalgs_replay(
 pub extern "C" fn mekvalgs_leafset(words: &[u32], x: u32, set: &mut u64) -> u32
     ensures { λ r. ⌜ (r ≡ numberOf (leafsetAnswer (now (words .entry)) x)) × (now (set .exit) ≡ leafsetOf (now (words .entry)) x) ⌝ }
 {
-    let asked = questions::leafset_of(words, node(x));
+    let asked = call_questions::leafset_of(words, node(x));
     *set = asked.set;
     let answer = asked.answer;
     answers::number(answer)
@@ -61,7 +59,7 @@ pub extern "C" fn mekvalgs_leafset(words: &[u32], x: u32, set: &mut u64) -> u32
 pub extern "C" fn mekvalgs_connected(words: &[u32], a: u32, b: u32, connected: &mut u32) -> u32
     ensures { λ r. ⌜ (r ≡ numberOf (connectionAnswer (now (words .entry)) a b)) × (now (connected .exit) ≡ bit (connectionOf (now (words .entry)) a b)) ⌝ }
 {
-    let asked = questions::connected(words, node(a), node(b));
+    let asked = call_questions::connected(words, node(a), node(b));
     *connected = asked.connected as u32;
     let answer = asked.answer;
     answers::number(answer)
@@ -72,7 +70,7 @@ pub extern "C" fn mekvalgs_connected(words: &[u32], a: u32, b: u32, connected: &
 pub extern "C" fn mekvalgs_groups(words: &[u32], groups: &mut u32) -> u32
     ensures { λ r. ⌜ (r ≡ numberOf (groupsAnswer (now (words .entry)))) × (now (groups .exit) ≡ groupsOf (now (words .entry))) ⌝ }
 {
-    let asked = questions::groups(words);
+    let asked = call_questions::groups(words);
     *groups = asked.groups;
     let answer = asked.answer;
     answers::number(answer)
@@ -88,7 +86,7 @@ pub extern "C" fn mekvalgs_read_event(
 ) -> u32
     ensures { λ r. ⌜ (r ≡ numberOf (wordAnswer word)) × (numbers (now (kind .exit)) (now (first .exit)) (now (second .exit)) ≡ readParts word) ⌝ }
 {
-    let read = event_parts::read(word);
+    let read = mekvalgs_event::read(word);
     let p = read.parts;
     *kind = p.kind;
     *first = p.first;
@@ -102,7 +100,7 @@ pub extern "C" fn mekvalgs_read_event(
 pub extern "C" fn mekvalgs_write_event(kind: u32, first: u32, second: u32, word: &mut u32) -> u32
     ensures { λ r. ⌜ (r ≡ numberOf (partsAnswer (numbers kind first second))) × (now (word .exit) ≡ writeParts (numbers kind first second)) ⌝ }
 {
-    let written = event_parts::write(event_parts::make(kind, first, second));
+    let written = mekvalgs_event::write(mekvalgs_event::make(kind, first, second));
     *word = written.word;
     let answer = written.answer;
     answers::number(answer)

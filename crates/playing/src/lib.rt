@@ -5,7 +5,6 @@ ghost use Prim.Native.Nat.{_+_, _*_, _^_, _<_, _≤_};
 ghost use lib.ListN.{length};
 ghost use Rattle.model.specs.Words.{readsAsRing};
 ghost use Rattle.playing.specs.Playing.{OnePlayed, AllPlayed};
-use ring::play;
 use script::Next;
 
 // Plays the word, event `number`, and puts its line from `at` on. Where the line ends.
@@ -13,7 +12,7 @@ fn play_word(words: &mut [u32], word: u32, number: u64, out: &mut [u8], at: usiz
     requires { ⌜ (readsAsRing (now words) ≡ true) × (at + 63 ≤ length (now out)) ⌝ }
     ensures { λ r. ⌜ OnePlayed (now (words .entry)) word number (now (words .exit)) (now (out .entry)) (now (out .exit)) at r ⌝ }
 {
-    let answer = play::play(words, word);
+    let answer = call_play::play(words, word);
     lines::put_three(
         out,
         at,

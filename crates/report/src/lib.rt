@@ -21,7 +21,7 @@ pub fn put_end(words: &[u32], out: &mut [u8], at: usize) -> usize
     ensures { λ r. ⌜ Put (now (out .entry)) (now (out .exit)) at r (endBytes (decode (now (words .entry)))) × (r ≤ at + 93000) ⌝ }
 {
     let end = put_nodes(words, ring_head::nodes(words), out, at);
-    let reply = questions::groups(words);
+    let reply = call_questions::groups(words);
     put_groups(out, end, reply.groups)
 }
 

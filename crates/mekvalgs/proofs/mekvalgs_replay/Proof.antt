@@ -5,7 +5,7 @@ use Rattle.model.specs.Leafset.{Table}
 use Rattle.model.specs.Answers.{numberOf}
 use Rattle.model.specs.Buffer.{Written, openBuffer}
 use Rattle.model.specs.declared.answer.Answer.{Answer}
-use Rattle.ring.specs.Replay.{replayBuffer, Replayed}
+use Rattle.call_play.specs.Replay.{replayBuffer, Replayed}
 use borrow.Author.Needs.{needs}
 use Rattle.mekvalgs.proofs.mekvalgs_replay.Statement.{statement}
 use Rattle.mekvalgs.proofs.mekvalgs_replay.Tie as tie

@@ -1,6 +1,6 @@
 use mathlib.Core.Path.{ap, _∙_}
 use Rattle.model.specs.Answers.{numberOf}
-use Rattle.event_parts.specs.Parts.{partsAnswer, writeParts}
+use Rattle.mekvalgs_event.specs.Parts.{partsAnswer, writeParts}
 use borrow.Author.Needs.{needs}
 use Rattle.mekvalgs.proofs.mekvalgs_write_event.Statement.{statement}
 use Rattle.mekvalgs.proofs.mekvalgs_write_event.Tie as tie

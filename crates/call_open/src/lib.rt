@@ -1,0 +1,69 @@
+// Opening: the initial ring written over a lent buffer.
+ghost use mathlib.Core.Path.{_≡_};
+ghost use Prim.Native.Nat.{ℕ, _<_};
+ghost use lib.ListN.{length};
+ghost use Rattle.model.specs.Words.{keysDiffer, inRange};
+ghost use Rattle.model.specs.Structs.{tableOf};
+ghost use Rattle.model.specs.Buffer.{openBuffer};
+ghost use Rattle.answers.specs.Applied.{written};
+ghost use Rattle.call_open.specs.Keys.{keyDiffers, keysFit};
+use model::answer::Answer;
+
+// "Opening takes L and a list of n keys, stand 0's first, and writes a fresh ring over the lent buffer, whose old words
+// don't matter."
+pub fn open(words: &mut [u32], leaf: u32, keys: &[u32]) -> Answer
+    ensures { λ r. ⌜ written r (now (words .exit)) ≡ openBuffer (now (words .entry)) (tableOf leaf (now (keys .entry))) ⌝ }
+{
+    if words.len() != 13441 {
+        return Answer::WrongLength;
+    }
+    if !in_range(leaf, keys) {
+        return Answer::OpeningOutOfRange;
+    }
+    if !(keys_fit(keys) & keys_differ(keys)) {
+        return Answer::BadKey;
+    }
+    ring_initial::write(words, leaf, keys);
+    Answer::Accepted
+}
+
+// "L is 1 to 8"; "table size n (1 to 64)"
+fn in_range(leaf: u32, keys: &[u32]) -> bool
+    ensures { λ r. ⌜ r ≡ inRange (tableOf leaf (now (keys .entry))) ⌝ }
+{
+    (1 <= leaf) & (leaf <= 8) & (1 <= keys.len()) & (keys.len() <= 64)
+}
+
+// No key is above 16,777,215.
+fn keys_fit(keys: &[u32]) -> bool
+    ensures { λ r. ⌜ r ≡ keysFit (now (keys .entry)) ⌝ }
+{
+    let mut ok = true;
+    for s in 0..keys.len() {
+        ok = ok & (keys[s] <= 16_777_215);
+    }
+    ok
+}
+
+// The key of node x differs from that of every other node.
+fn key_differs(keys: &[u32], x: usize) -> bool
+    requires { ⌜ x < length (now keys) ⌝ }
+    ensures { λ r. ⌜ r ≡ keyDiffers (now (keys .entry)) x ⌝ }
+{
+    let mut ok = true;
+    for y in 0..keys.len() {
+        ok = ok & ((x == y) | !(keys[x] == keys[y]));
+    }
+    ok
+}
+
+// "keys differ"
+fn keys_differ(keys: &[u32]) -> bool
+    ensures { λ r. ⌜ ((leaf : ℕ) → r ≡ keysDiffer (tableOf leaf (now (keys .entry)))) ⌝ }
+{
+    let mut ok = true;
+    for x in 0..keys.len() {
+        ok = ok & key_differs(keys, x);
+    }
+    ok
+}

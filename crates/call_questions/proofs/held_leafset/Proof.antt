@@ -1,0 +1,59 @@
+use mathlib.Core.Path.{sym}
+use mathlib.Core.List.{List}
+use Prim.Native.Nat.{ℕ}
+use native.Mathlib.Omega.{arith}
+use lib.ListN.{length-take}
+use Rattle.answers.proofs.Valid.{long, few}
+use Rattle.call_questions.proofs.Held.{leaf-high, held-in-table, held-leafset}
+use Rattle.call_questions.proofs.held_leafset.Statement.{statement}
+use Rattle.call_questions.proofs.held_leafset.Tie as tie
+
+nodes-requires : tie.Need-nodes-requires
+nodes-requires c κs = long (c .before .args .words .now) (c .before .pre .0)
+
+keys-requires : tie.Need-keys-requires
+keys-requires c κs =
+    let ws : List ℕ = c .before .before .args .words .now in
+    let e = c .nodes .ensures .0 in
+    (long ws (c .before .before .pre .0), e, omega (arith, few ws (c .before .before .pre .0)))
+
+leaf-requires : tie.Need-leaf-requires
+leaf-requires c κs = long (c .before .before .before .args .words .now) (c .before .before .before .pre .0)
+
+load-requires : tie.Need-load-requires
+load-requires c κs =
+    let ws : List ℕ = c .before .before .before .before .args .words .now in
+    let e = c .before .before .nodes .ensures .0 in
+    (long ws (c .before .before .before .before .pre .0), e, omega (arith, few ws (c .before .before .before .before .pre .0)), omega (arith, c .before .before .before .before .pre .1))
+
+array-share-prefix-keys : tie.Need-array-share-prefix-keys
+array-share-prefix-keys c = omega (arith, few (c .before .before .before .before .before .args .words .now) (c .before .before .before .before .before .pre .0), c .before .before .keys .ensures .0, c .before .before .before .nodes .ensures .0)
+
+slice-aggregate-leafset : tie.Need-slice-aggregate-leafset
+slice-aggregate-leafset c = sym (simp length-take (omega (arith, few (c .before .before .before .before .before .before .args .words .now) (c .before .before .before .before .before .before .pre .0), c .before .before .before .keys .ensures .0, c .before .before .before .before .nodes .ensures .0)))
+
+leafset-requires : tie.Need-leafset-requires
+leafset-requires c κs =
+    let ws : List ℕ = c .before .before .before .before .before .before .args .words .now in
+    let reads = c .before .before .before .before .before .before .pre .0 in (
+      held-in-table ws reads (c .before .before .before .before .before .before .args .x .0) (c .before .before .before .keys .ensures .1) (c .before .load .ensures) (c .before .before .before .before .before .before .pre .1),
+      leaf-high ws reads (c .before .before .leaf .ensures),
+    )
+
+returns : tie.Need-returns
+returns c =
+    held-leafset (c .before .before .before .before .before .before .before .args .words .now) (c .before .before .before .before .before .before .before .pre .0) (c .before .before .before .before .before .before .before .args .x .0) (c .before .before .before .before .keys .ensures .1) (c .before .before .load .ensures)
+    (c .before .before .before .leaf .ensures) (c .leafset .ensures)
+
+pub held-leafset-spec : {M : Type 1} → statement M
+held-leafset-spec =
+    tie.close
+    (tie.spec
+    nodes-requires
+    keys-requires
+    leaf-requires
+    load-requires
+    array-share-prefix-keys
+    slice-aggregate-leafset
+    leafset-requires
+    returns)

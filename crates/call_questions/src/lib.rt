@@ -1,0 +1,89 @@
+// The questions about a ring: a node's leafset, whether two nodes are connected, and the number of groups.
+ghost use mathlib.Core.Path.{_≡_};
+ghost use mathlib.Core.Bool.{true};
+ghost use Prim.Native.Nat.{_<_};
+ghost use Rattle.model.specs.Sets.{toBits};
+ghost use Rattle.model.specs.Ring.{holds};
+ghost use Rattle.model.specs.Words.{decodeTable, decode, readsAsRing};
+ghost use Rattle.model.specs.Questions.{leafsetAnswer, leafsetOf, connectionAnswer, connectionOf, groupsAnswer, groupsOf};
+ghost use Rattle.model.specs.Leafset as model;
+use leafset::leafset;
+use model::answer::Answer;
+use model::values::NodeNumber;
+
+// "A refused leafset question returns the empty set", bit s for node s.
+pub struct LeafsetAnswer {
+    pub answer: Answer,
+    pub set: u64,
+}
+
+// A refused "connection question no".
+pub struct ConnectionAnswer {
+    pub answer: Answer,
+    pub connected: bool,
+}
+
+// The number of groups, 0 where refused.
+pub struct GroupsAnswer {
+    pub answer: Answer,
+    pub groups: u32,
+}
+
+// "The leafset question is about one stand's leafset in its held set"
+pub fn leafset_of(words: &[u32], x: NodeNumber) -> LeafsetAnswer
+    ensures { λ r. ⌜ (r .answer ≡ leafsetAnswer (now (words .entry)) (x .0)) × (r .set ≡ leafsetOf (now (words .entry)) (x .0)) ⌝ }
+{
+    let answer = call_refusals::of_nodes(words, x, x);
+    if answers::number(answer) != 0 {
+        return LeafsetAnswer { answer, set: 0 };
+    }
+    LeafsetAnswer {
+        answer,
+        set: held_leafset(words, x),
+    }
+}
+
+// "The connection question is about two stands, which may be the same one."
+pub fn connected(words: &[u32], a: NodeNumber, b: NodeNumber) -> ConnectionAnswer
+    ensures { λ r. ⌜ (r .answer ≡ connectionAnswer (now (words .entry)) (a .0) (b .0)) × (r .connected ≡ connectionOf (now (words .entry)) (a .0) (b .0)) ⌝ }
+{
+    let answer = call_refusals::of_nodes(words, a, b);
+    if answers::number(answer) != 0 {
+        return ConnectionAnswer {
+            answer,
+            connected: false,
+        };
+    }
+    let n = ring_head::nodes(words);
+    ConnectionAnswer {
+        answer,
+        connected: ring_connection::connected(words, n, a, b),
+    }
+}
+
+// "the number of connected groups of running stands"
+pub fn groups(words: &[u32]) -> GroupsAnswer
+    ensures { λ r. ⌜ (r .answer ≡ groupsAnswer (now (words .entry))) × (r .groups ≡ groupsOf (now (words .entry))) ⌝ }
+{
+    let answer = call_refusals::of_words(words);
+    if answers::number(answer) != 0 {
+        return GroupsAnswer { answer, groups: 0 };
+    }
+    let n = ring_head::nodes(words);
+    GroupsAnswer {
+        answer,
+        groups: ring_connection::groups(words, n),
+    }
+}
+
+// The leafset of node x in its held set.
+fn held_leafset(words: &[u32], x: NodeNumber) -> u64
+    requires { ⌜ (readsAsRing (now words) ≡ true) × (x .0 < model.size (decodeTable (now words))) ⌝ }
+    ensures { λ r. ⌜ r ≡ toBits 64 (model.leafset (decode (now (words .entry)) .table) (x .0) (holds (decode (now (words .entry))) (x .0))) ⌝ }
+{
+    let n = ring_head::nodes(words);
+    let keys = ring_head::keys(words, n);
+    let leaf = ring_head::leaf(words);
+    let own = ring_pairs::load(words, n, x);
+    leafset(&keys[..n], leaf, x, own.held)
+}

@@ -1,0 +1,125 @@
+-- Laws of events as three numbers: by their kind, and of what is read and written.
+use mathlib.Core.Path.{_≡_, refl, sym, ap, _∙_}
+use mathlib.Core.Logic.{_⊎_, ⊎-elim}
+use mathlib.Core.Bool.{Bool, true, false, _&&_, _||_}
+use Prim.Native.Nat.{ℕ, suc, _-_, _≤_, _<_}
+use native.Mathlib.Omega.{arith}
+use native.Mathlib.Decide.{decLt, ℕ-discrete}
+use lib.Dec.{ltb, leb, eqb}
+use borrow.Author.Tests.{ltb-true, leb-true}
+use Rattle.model.specs.Choice.{if_then_else_}
+use Rattle.model.specs.Words.{between}
+use Rattle.model.specs.Answers.{firstOf, isAccepted}
+use Rattle.model.specs.Events.{eventOf, partsFit, eventAnswer, writeEvent, wordAnswer, readEvent}
+use Rattle.model.specs.declared.answer.Answer.{Answer}
+use Rattle.model.specs.declared.answer.Answer.the-variants.{Accepted, NotAnEvent}
+use Rattle.model.specs.declared.event.Event.{Event}
+use Rattle.model.specs.declared.event.Reading.the-variants.{Read, Refused}
+use Rattle.model.proofs.Answers.{accepted-is}
+use Rattle.model.proofs.Laws.{and-left, and-right, between-low, between-high, is-false}
+use Rattle.mekvalgs_event.specs.Parts.{numbers, partsOf, readParts, eventOfParts, partsAre, partsAnswer, writeParts}
+use Rattle.mekvalgs_event.specs.declared.Parts.{Parts}
+
+-- ---- by the kind
+
+-- one of two kinds in a row
+either : (P : ℕ → Type 0) (a k : ℕ) → a ≤ k → k ≤ suc a → P a → P (suc a) → P k
+either P a k l h p q =
+    elim (ℕ-discrete k a) [
+      | yes e ↦ rw e p
+      | no d ↦ let e : k ≡ suc a = omega arith in rw e q
+    ]
+
+module _ (k first second : ℕ) where
+  abbrev p : Parts
+  p = record { kind = k; first = first; second = second }
+
+  pub of-node : 9 ≤ k → k ≤ 10 → partsAre p ≡ (eqb second 0 && ltb first 64)
+  unfolding partsAre eventOfParts
+  of-node l h = either (λ k. partsAre (record { kind = k; first = first; second = second }) ≡ (eqb second 0 && ltb first 64)) 9 k l h refl refl
+
+  pub of-nodes : 11 ≤ k → k ≤ 12 → partsAre p ≡ (ltb first 64 && ltb second 64)
+  unfolding partsAre eventOfParts
+  of-nodes l h = either (λ k. partsAre (record { kind = k; first = first; second = second }) ≡ (ltb first 64 && ltb second 64)) 11 k l h refl refl
+
+  pub of-timer : k ≡ 13 → partsAre p ≡ (ltb first 64 && leb second 4)
+  unfolding partsAre eventOfParts
+  of-timer e = rw e
+
+  pub of-position : 14 ≤ k → k ≤ 15 → partsAre p ≡ (eqb second 0 && ltb first 1024)
+  unfolding partsAre eventOfParts
+  of-position l h = either (λ k. partsAre (record { kind = k; first = first; second = second }) ≡ (eqb second 0 && ltb first 1024)) 14 k l h refl refl
+
+  kind-fits : partsAre p ≡ true → between 9 15 k ≡ true
+  unfolding partsAre
+  kind-fits t =
+      and-left (between 9 15 k) (between 11 13 k || eqb second 0) (and-left (between 9 15 k && (between 11 13 k || eqb second 0)) (partsFit (eventOfParts p)) t)
+
+  pub of-none : (k < 9) ⊎ (15 < k) → false ≡ partsAre p
+  of-none out =
+      sym (is-false (partsAre p) (λ t.
+      let l = between-low 9 15 k (kind-fits t) in
+      let h = between-high 9 15 k (kind-fits t) in
+      ⊎-elim (λ o. omega arith) (λ o. omega arith) out))
+
+  -- ---- the room of numbers that are an event's
+
+  module _ (t : partsAre p ≡ true) where
+    pub kind-low : 9 ≤ k
+    kind-low = between-low 9 15 k (kind-fits t)
+
+    pub kind-high : k ≤ 15
+    kind-high = between-high 9 15 k (kind-fits t)
+
+    pub node-low : k ≤ 13 → first < 64
+    node-low h =
+        elim (decLt k 11) [
+          | yes l ↦ ltb-true first 64 (and-right (eqb second 0) (ltb first 64) (sym (of-node kind-low (omega arith)) ∙ t))
+          | no l ↦ elim (decLt k 13) [
+            | yes m ↦ ltb-true first 64 (and-left (ltb first 64) (ltb second 64) (sym (of-nodes (omega arith) (omega arith)) ∙ t))
+            | no m ↦ ltb-true first 64 (and-left (ltb first 64) (leb second 4) (sym (of-timer (omega arith)) ∙ t))
+          ]
+        ]
+
+    pub other-low : 11 ≤ k → k ≤ 12 → second < 64
+    other-low l h = ltb-true second 64 (and-right (ltb first 64) (ltb second 64) (sym (of-nodes l h) ∙ t))
+
+    pub timer-low : k ≡ 13 → second ≤ 4
+    timer-low e = leb-true second 4 (and-right (ltb first 64) (leb second 4) (sym (of-timer e) ∙ t))
+
+    pub position-low : 14 ≤ k → first < 1024
+    position-low l = ltb-true first 1024 (and-right (eqb second 0) (ltb first 1024) (sym (of-position l kind-high) ∙ t))
+
+  fits : partsAre p ≡ true → partsFit (eventOfParts p) ≡ true
+  unfolding partsAre
+  fits t = and-right (between 9 15 k && (between 11 13 k || eqb second 0)) (partsFit (eventOfParts p)) t
+
+  -- ---- writing
+
+  pub write-refused : partsAre p ≡ false → (NotAnEvent ≡ partsAnswer p) × (0 ≡ writeParts p)
+  unfolding partsAnswer writeParts firstOf
+  write-refused e = (rw e, rw e)
+
+  pub write-given : partsAre p ≡ true → (eventAnswer (eventOfParts p) ≡ partsAnswer p) × (writeEvent (eventOfParts p) ≡ writeParts p)
+  unfolding partsAnswer writeParts eventAnswer writeEvent firstOf
+  write-given t = (rw (t, fits t), rw (t, fits t))
+
+-- ---- reading
+
+pub read-given : (w : ℕ) (e : Event) → readEvent w ≡ Read e → (Accepted ≡ wordAnswer w) × (partsOf e ≡ readParts w)
+unfolding readEvent readParts
+read-given w e h = by-answer (isAccepted (wordAnswer w)) refl h
+  where
+    by-answer : (b : Bool) → isAccepted (wordAnswer w) ≡ b → (if b then Read (eventOf w) else Refused (wordAnswer w)) ≡ Read e
+        → (Accepted ≡ wordAnswer w) × (partsOf e ≡ (if b then partsOf (eventOf w) else numbers 0 0 0))
+    by-answer true a q = let i : eventOf w ≡ e = cc in (sym (accepted-is (wordAnswer w) a), ap partsOf (sym i))
+    by-answer false a q = absurd (let z : _≡_ {A = ℕ} 0 1 = cc in omega arith)
+
+pub read-refused : (w : ℕ) (a : Answer) → readEvent w ≡ Refused a → (a ≡ wordAnswer w) × (numbers 0 0 0 ≡ readParts w)
+unfolding readEvent readParts
+read-refused w a h = by-answer (isAccepted (wordAnswer w)) h
+  where
+    by-answer : (b : Bool) → (if b then Read (eventOf w) else Refused (wordAnswer w)) ≡ Refused a
+        → (a ≡ wordAnswer w) × (numbers 0 0 0 ≡ (if b then partsOf (eventOf w) else numbers 0 0 0))
+    by-answer true q = absurd (let z : _≡_ {A = ℕ} 0 1 = cc in omega arith)
+    by-answer false q = let i : wordAnswer w ≡ a = cc in (sym i, refl)
