@@ -1,10 +1,10 @@
 // The bench program: plays the script on standard input, and prints what came of it.
 ghost use mathlib.Core.Path.{_≡_};
 ghost use lib.ListN.{length};
+use bench_session::chunks;
+use bench_session::turn::Session;
 use libc::STDIN_FILENO;
 use libc::STDOUT_FILENO;
-use session::chunks;
-use turns::Session;
 
 // More chunks than any script has.
 const MOST: u64 = 0x1000_0000_0000;

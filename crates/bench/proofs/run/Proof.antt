@@ -3,8 +3,8 @@ use Prim.Native.Nat.{_*_, _-_, _≤_}
 use native.Mathlib.Omega.{arith}
 use borrow.Author.Needs.{needs}
 use lib.ListN.{length}
-use Rattle.turns.specs.Turns.{Ready}
-use Rattle.session.proofs.Sessions.{ready-first, ready-within}
+use Rattle.bench_session.specs.Turns.{Ready}
+use Rattle.bench_session.proofs.Sessions.{ready-first, ready-within}
 use Rattle.bench.proofs.run.Statement.{statement}
 use Rattle.bench.proofs.run.Tie as tie
 

@@ -1,0 +1,4 @@
+pub mod Plays
+pub mod Sessions
+pub mod Joined
+pub mod Parts

@@ -1,2 +1,0 @@
-pub mod Sessions
-pub mod Joined

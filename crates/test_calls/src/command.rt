@@ -1,0 +1,64 @@
+// Commands: five words each, the number, a, b, c, and how many words of the buffer are lent to the call.
+use bench_script::loading;
+use libc::STDIN_FILENO;
+
+pub struct Command {
+    pub number: u32,
+    pub a: u32,
+    pub b: u32,
+    pub c: u32,
+    pub lent: u32,
+}
+
+impl Command {
+    // Words a up to b of the buffer become c.
+    pub const FILL_WORDS: u32 = 0;
+
+    // Words a up to b of the list become c.
+    pub const FILL_LIST: u32 = 1;
+
+    // Opens with L = a and the first b words of the list.
+    pub const OPEN: u32 = 2;
+
+    // Plays the word a.
+    pub const PLAY: u32 = 3;
+
+    // The leafset of node a.
+    pub const LEAFSET: u32 = 4;
+
+    // Whether nodes a and b are connected.
+    pub const CONNECTED: u32 = 5;
+
+    // The number of groups.
+    pub const GROUPS: u32 = 6;
+
+    // Reads the event word a.
+    pub const READ: u32 = 7;
+
+    // Writes the event of kind a with the parts b and c.
+    pub const WRITE: u32 = 8;
+
+    // Every other number replays: opens as above, and plays the c words of the list after the keys.
+}
+
+pub enum Next {
+    Command(Command),
+    End,
+}
+
+// The next command of standard input.
+pub fn read() -> Next {
+    let mut bytes = [0u8; 20];
+    if io::read_full(STDIN_FILENO, &mut bytes) < 20 {
+        return Next::End;
+    }
+    let mut words = [0u32; 5];
+    loading::load(&bytes, &mut words);
+    Next::Command(Command {
+        number: words[0],
+        a: words[1],
+        b: words[2],
+        c: words[3],
+        lent: words[4],
+    })
+}

@@ -1,0 +1,58 @@
+// The commands of calls_test, the words that they work on, and the lines that it prints.
+mod ask;
+mod calls;
+mod command;
+mod events;
+mod line;
+mod memory;
+
+ghost use mathlib.Core.Path.{_≡_};
+ghost use lib.ListN.{length};
+use command::Command;
+use command::Next;
+
+// More commands than any input has.
+const MOST: u32 = 1_000_000;
+
+// A call, with its line.
+fn call(command: Command, words: &mut [u32], list: &[u32], places: &mut [u8])
+    requires { ⌜ length (now words) ≡ 13442 ⌝ }
+{
+    let mut before = [0u32; 13442];
+    memory::copy(words, &mut before);
+    let end = memory::at_most(command.lent, words);
+    let outcome = calls::call(command, &mut words[..end], list, places);
+    line::print(command.number, outcome, &before, words);
+}
+
+fn run(command: Command, words: &mut [u32], list: &mut [u32], places: &mut [u8])
+    requires { ⌜ length (now words) ≡ 13442 ⌝ }
+{
+    let number = command.number;
+    match number {
+        Command::FILL_WORDS => memory::fill(words, command.a, command.b, command.c),
+        Command::FILL_LIST => memory::fill(list, command.a, command.b, command.c),
+        _ => call(command, words, list, places),
+    }
+}
+
+fn run_all(words: &mut [u32], list: &mut [u32], places: &mut [u8])
+    requires { ⌜ length (now words) ≡ 13442 ⌝ }
+{
+    for _ in 0..MOST {
+        let next = command::read();
+        let Next::Command(command) = next else {
+            return;
+        };
+        run(command, words, list, places);
+    }
+}
+
+// The buffer has one word more than a ring. The list has keys, and after them a script; the places take the answers of
+// a replay.
+fn main() {
+    let mut words = [0u32; 13442];
+    let mut list = [0u32; 1200];
+    let mut places = [0u8; 1040];
+    run_all(&mut words, &mut list, &mut places);
+}
