@@ -9,7 +9,6 @@ ghost use Rattle.event_contact.specs.Meeting.{mayMeet};
 use event_act::apply;
 use model::answer::Answer;
 use model::values::NodeNumber;
-use protocol::contact;
 
 // Whether x may act on y: y is in the table too.
 fn may_meet(words: &[u32], x: NodeNumber, y: NodeNumber) -> Answer
@@ -31,7 +30,7 @@ pub fn contact(words: &mut [u32], x: NodeNumber, y: NodeNumber) -> Answer
         return answer;
     }
     let a = event_act::load(words, x);
-    let reply = contact::contact(x, a.own, y);
+    let reply = step_contact::contact(x, a.own, y);
     apply::reply(words, a.n, a.m, x, a.time, reply)
 }
 
@@ -44,6 +43,6 @@ pub fn notice(words: &mut [u32], x: NodeNumber, z: NodeNumber) -> Answer
         return answer;
     }
     let a = event_act::load(words, x);
-    let reply = contact::notice(a.own, z);
+    let reply = step_contact::notice(a.own, z);
     apply::reply(words, a.n, a.m, x, a.time, reply)
 }

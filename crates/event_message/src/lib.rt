@@ -18,7 +18,6 @@ use event_act::Actor;
 use event_act::apply;
 use model::answer::Answer;
 use model::message::MessageRecord;
-use protocol::deliver;
 use records::effect::Reply;
 
 // "Delivery takes the message out first; to a stand that is off, nothing else happens."
@@ -64,7 +63,7 @@ fn step(words: &[u32], actor: Actor, message: MessageRecord) -> Reply
     let n = actor.n;
     let leaf = ring_head::leaf(words);
     let keys = ring_head::keys(words, n);
-    deliver::deliver(
+    step_dispatch::deliver(
         &keys[..n],
         leaf,
         message.receiver,

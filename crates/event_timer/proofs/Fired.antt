@@ -1,12 +1,12 @@
--- The step of a timer, by its number; and its effect, once written.
-use mathlib.Core.Path.{_≡_, sym, ap, subst, _∙_}
+-- The effect of a timer's step, once written.
+use mathlib.Core.Path.{_≡_, ap, _∙_}
 use mathlib.Core.Bool.{true}
-use mathlib.Core.List.{List, [], _∷_}
-use Prim.Native.Nat.{ℕ, _+_, _≤_}
-use lib.ListN.{take, getD, List·getD-eq-default}
+use mathlib.Core.List.{List}
+use Prim.Native.Nat.{ℕ, _+_}
+use lib.ListN.{take}
 use Rattle.model.specs.Leafset.{Table}
-use Rattle.model.specs.Ring.{Own, Ring}
-use Rattle.model.specs.Steps.{Effect, nothing, timer0, timer1, timer2, timer3, timer4, timer}
+use Rattle.model.specs.Ring.{Ring}
+use Rattle.model.specs.Steps.{Effect, timer}
 use Rattle.model.specs.Words.{decodeTable, decode, readsAsRing}
 use Rattle.model.specs.Play.{after}
 use Rattle.model.specs.Structs.{tableOf, ownOf}
@@ -18,19 +18,6 @@ use Rattle.answers.specs.Applied.{written, acted, applied}
 use Rattle.event_act.specs.Acting.{IsActor}
 use Rattle.event_act.specs.declared.Actor.{Actor}
 use Rattle.event_act.proofs.Lent.{keys-table, acts}
-
--- what holds of the step of timer k
-module _ (t : Table) (me now : ℕ) (o : Own) (k : ℕ) (P : Effect → Type 0) where
-  abbrev steps : List Effect
-  steps = timer0 t me now o ∷ timer1 t me now o ∷ timer2 t me now o ∷ timer3 t me now o ∷ timer4 t me now o ∷ []
-
-  pub by-number : (j : ℕ) → k ≡ j → P (getD steps j (nothing t me now o)) → P (timer t me now o k)
-  unfolding timer
-  by-number j e p = rw e p
-
-  pub by-no-number : 5 ≤ k → P (nothing t me now o) → P (timer t me now o k)
-  unfolding timer
-  by-no-number h p = subst P (sym (List·getD-eq-default steps (nothing t me now o) {n = k} h)) p
 
 -- an effect that is timer k's, on the table that the code read, once written
 module _ {ws : List ℕ} (reads : readsAsRing ws ≡ true) {x : NodeNumber} {a : Actor} (is : IsActor ws (x .0) a) (k : ℕ) where

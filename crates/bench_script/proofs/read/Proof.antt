@@ -53,17 +53,17 @@ use Rattle.bench_script.proofs.Reading.Laws as R′
 use Rattle.bench_script.proofs.Apart.{B}
 use Rattle.bench_script.proofs.Script.new as new
 use Rattle.bench_script.proofs.Script.new.Symbol as new-def
-use Rattle.bench_script.proofs.Script.new.Symbol.{name as #script·new}
+use Rattle.bench_script.proofs.Script.new.Symbol.{name as #bench-script·new}
 use Rattle.bench_script.proofs.Script.new.Met as new-thm
 use Rattle.bench_script.proofs.Script.next as next
 use Rattle.bench_script.proofs.Script.next.Symbol as next-def
-use Rattle.bench_script.proofs.Script.next.Symbol.{name as #script·next}
+use Rattle.bench_script.proofs.Script.next.Symbol.{name as #bench-script·next}
 use Rattle.bench_script.proofs.Script.next.Met as next-thm
 use Rattle.bench_script.proofs.Script.moved as moved
 use Rattle.bench_script.proofs.Script.moved.Symbol as moved-def
-use Rattle.bench_script.proofs.Script.moved.Symbol.{name as #script·moved}
+use Rattle.bench_script.proofs.Script.moved.Symbol.{name as #bench-script·moved}
 use Rattle.bench_script.proofs.Script.moved.Met as moved-thm
-use Rattle.bench_script.proofs.read.Key.{name as #script·read}
+use Rattle.bench_script.proofs.read.Key.{name as #bench-script·read}
 use Rattle.bench_script.proofs.read as read
 use Rattle.bench_script.proofs.read.Statement as stated
 use Rattle.bench_script.proofs.read.Code as code
@@ -172,7 +172,7 @@ module _ {M : Type 1} (𝓤 : URA M) (H : Heap 𝓤) (A : Atoms 𝓤) (W : Given
       frame ! $ nothing ! $ owned ! usize (Is usize) (uint-makes 𝓤 H A W w64) n _ (refl, ok) $ fjoin ! $ move ! (1 ∷ 0 ∷ []) $ fjoin ! $ frame ! $
       owned ! R.the-row (Is R.the-row) (LL.makes R.the-type R′.the-plain 𝓤 H A) (result t k) _ is $ done !
 
-  module _ (C : Calls 𝓤 H) (Λ : Loops 𝓤 H) (fm : FmC 𝓤 H (W .laws) C) (known-new : Triple 𝓤 (C #script·new) (New 𝓤 H A mem run)) (known-next : Triple 𝓤 (C #script·next) (Nexts 𝓤 H A mem run)) (known-moved : Triple 𝓤 (C #script·moved) (Moved 𝓤 H A mem run)) where
+  module _ (C : Calls 𝓤 H) (Λ : Loops 𝓤 H) (fm : FmC 𝓤 H (W .laws) C) (known-new : Triple 𝓤 (C #bench-script·new) (New 𝓤 H A mem run)) (known-next : Triple 𝓤 (C #bench-script·next) (Nexts 𝓤 H A mem run)) (known-moved : Triple 𝓤 (C #bench-script·moved) (Moved 𝓤 H A mem run)) where
     walk : Is (ShrSlice (named 0) κ u32) s (v ∷ []) → ent 𝓤 (onEntry 𝓤 H A read.signature (κ, tt) (q, tt) (s, (n, tt)) at) (WpFn 𝓤 H C Λ code.function (v ∷ vint w64 n ∷ []) Post)
     walk p =
         qed W (raw (onEntry 𝓤 H A read.signature (κ, tt) (q, tt) (s, (n, tt)) at) ∷ []) ∵ enter ! C Λ code.function (v ∷ vint w64 n ∷ []) _ $
@@ -213,13 +213,13 @@ module _ {M : Type 1} (𝓤 : URA M) (H : Heap 𝓤) (A : Atoms 𝓤) (W : Given
         by ! (exits t (r′ .at) (is-result t u′ (r′ .at) is′ (LL.owed (T.the-type α) (T′.the-laws α) r′ _ is″ .1 .0 .1)) (joined s n r r′ t e e′ e″)))))))))))))))))))))))
 
 module _ {M : Type 1} (𝓤 : URA M) (H : Heap 𝓤) (A : Atoms 𝓤) (W : Given 𝓤 H A) (mem : Memory → SProp 𝓤) (run : Routine → Fun 𝓤) where
-  read-walks : (C : Calls 𝓤 H) (Λ : Loops 𝓤 H) → FmC 𝓤 H (W .laws) C → Triple 𝓤 (C #script·new) (New 𝓤 H A mem run) → Triple 𝓤 (C #script·next) (Nexts 𝓤 H A mem run) → Triple 𝓤 (C #script·moved) (Moved 𝓤 H A mem run)
+  read-walks : (C : Calls 𝓤 H) (Λ : Loops 𝓤 H) → FmC 𝓤 H (W .laws) C → Triple 𝓤 (C #bench-script·new) (New 𝓤 H A mem run) → Triple 𝓤 (C #bench-script·next) (Nexts 𝓤 H A mem run) → Triple 𝓤 (C #bench-script·moved) (Moved 𝓤 H A mem run)
       → Walks 𝓤 H A read.ended stayed (WpFn 𝓤 H C Λ code.function) (read.clauses 𝓤 H A mem run)
   read-walks C Λ fm known-new known-next known-moved = walked 𝓤 H A read.ended stayed (read.clauses 𝓤 H A mem run) (WpFn 𝓤 H C Λ code.function) (λ κs. (slice-vals, (uint-vals w64, tt))) (λ κs. (shr-slice-tells (named 0) (κs .0) u32, (uint-tells w64, tt)))
       (λ κs qs bounds a g are. via 𝓤 _ (fst∗ 𝓤 _ (emp 𝓤)) (walk 𝓤 H A W mem run (κs .0) (qs .0) (a .0) (a .1 .0) (are .1 .0 .1) C Λ fm known-new known-next known-moved (are .0)))
 
 read-meets : {M : Type 1} (𝓤 : URA M) (H : Heap 𝓤) (A : Atoms 𝓤) (W : Given 𝓤 H A) (mem : Memory → SProp 𝓤) (run : Routine → Fun 𝓤) (𝓣 : Tables 𝓤 H)
-    → Triple 𝓤 (𝓣 .C #script·new) (New 𝓤 H A mem run) → Triple 𝓤 (𝓣 .C #script·next) (Nexts 𝓤 H A mem run) → Triple 𝓤 (𝓣 .C #script·moved) (Moved 𝓤 H A mem run)
+    → Triple 𝓤 (𝓣 .C #bench-script·new) (New 𝓤 H A mem run) → Triple 𝓤 (𝓣 .C #bench-script·next) (Nexts 𝓤 H A mem run) → Triple 𝓤 (𝓣 .C #bench-script·moved) (Moved 𝓤 H A mem run)
     → Meets 𝓤 H A read.signature (WpFn 𝓤 H (𝓣 .C) (𝓣 .Λ) code.function) (read.spec 𝓤 H A mem run)
 read-meets 𝓤 H A W mem run 𝓣 known-new known-next known-moved = walk-meets 𝓤 H A read.ended stayed W (goes-none-slice 𝓤 H A W 1 (0 ∷ []) tt (plain (λ _. u32)) yes, (goes-none 𝓤 H A W 1 (λ _. usize) yes (λ κs x f. refl), tt)) (read.clauses 𝓤 H A mem run) (WpFn 𝓤 H (𝓣 .C) (𝓣 .Λ) code.function) (WpFn-mono 𝓤 H (W .laws) 𝓣 code.function)
     (read-walks 𝓤 H A W mem run (𝓣 .C) (𝓣 .Λ) (fmOf 𝓤 H (W .laws) 𝓣) known-new known-next known-moved)
@@ -228,8 +228,8 @@ pub read-spec : {M : Type 1} → stated.statement M
 unfolding code.routine tablesOf
 read-spec 𝓤 H 𝓜 𝓖 𝓡 =
     entered 𝓤 H (tripleOf 𝓤 H (𝓖 .A) read.signature (read.spec 𝓤 H (𝓖 .A) (𝓜 .mem) (𝓡 .run)))
-    (tables 𝓤 H 𝓜 𝓡 code.env .C) (tables 𝓤 H 𝓜 𝓡 code.env .Λ) #script·read code.function (code.unfolded 𝓤 H 𝓜 𝓡)
+    (tables 𝓤 H 𝓜 𝓡 code.env .C) (tables 𝓤 H 𝓜 𝓡 code.env .Λ) #bench-script·read code.function (code.unfolded 𝓤 H 𝓜 𝓡)
     (read-meets 𝓤 H (𝓖 .A) (givenOf 𝓤 H 𝓜 𝓖) (𝓜 .mem) (𝓡 .run) (tablesOf 𝓤 H 𝓜 (tables 𝓤 H 𝓜 𝓡 code.env))
-    (cited 𝓤 H (New 𝓤 H (𝓖 .A) (𝓜 .mem) (𝓡 .run)) 𝓜 𝓡 code.env #script·new new-def.routine code.calls-script·Script·new (new-thm.met 𝓤 H 𝓜 𝓖 𝓡))
-    (cited 𝓤 H (Nexts 𝓤 H (𝓖 .A) (𝓜 .mem) (𝓡 .run)) 𝓜 𝓡 code.env #script·next next-def.routine code.calls-script·Script·next (next-thm.met 𝓤 H 𝓜 𝓖 𝓡))
-    (cited 𝓤 H (Moved 𝓤 H (𝓖 .A) (𝓜 .mem) (𝓡 .run)) 𝓜 𝓡 code.env #script·moved moved-def.routine code.calls-script·Script·moved (moved-thm.met 𝓤 H 𝓜 𝓖 𝓡)))
+    (cited 𝓤 H (New 𝓤 H (𝓖 .A) (𝓜 .mem) (𝓡 .run)) 𝓜 𝓡 code.env #bench-script·new new-def.routine code.calls-bench-script·Script·new (new-thm.met 𝓤 H 𝓜 𝓖 𝓡))
+    (cited 𝓤 H (Nexts 𝓤 H (𝓖 .A) (𝓜 .mem) (𝓡 .run)) 𝓜 𝓡 code.env #bench-script·next next-def.routine code.calls-bench-script·Script·next (next-thm.met 𝓤 H 𝓜 𝓖 𝓡))
+    (cited 𝓤 H (Moved 𝓤 H (𝓖 .A) (𝓜 .mem) (𝓡 .run)) 𝓜 𝓡 code.env #bench-script·moved moved-def.routine code.calls-bench-script·Script·moved (moved-thm.met 𝓤 H 𝓜 𝓖 𝓡)))

@@ -3,7 +3,8 @@ use native.Mathlib.Omega.{arith}
 use Rattle.records.specs.Effects.{RequestsEach}
 use Rattle.answers.proofs.Valid.{long, leaf-high}
 use Rattle.event_act.proofs.Lent.{keys-many, in-table, own-fits, may-write, may-reply, may-call}
-use Rattle.event_timer.proofs.Fired.{by-number, fired}
+use Rattle.step_dispatch.proofs.ByTimer.{by-number}
+use Rattle.event_timer.proofs.Fired.{fired}
 use borrow.Author.Needs.{needs}
 use Rattle.event_timer.proofs.fire.Statement.{statement}
 use Rattle.event_timer.proofs.fire.Tie as tie
@@ -37,23 +38,23 @@ returns c =
     fired (start .pre .0) (start .pre .1) (start .args .k) (c .before .before .before .before .before .before .before .before .before .leaf .ensures) _ (c .before .before .before .before .before .before .before .keys .ensures .1)
     (c .before .before .calls .ensures) (c .before .before .before .calling .ensures _ .effect)
 
-requests-requires : tie.Need-requests-requires
-requests-requires c κs =
+timer3-requires : tie.Need-timer3-requires
+timer3-requires c κs =
     let start = c .before .before .before .before .before .before .before .before .before .before in
     let is = start .pre .1 in
     (in-table is _ (c .before .before .before .keys .ensures .1), is .fits .room, omega (arith, c .before .before .before .before .before .leaf .ensures, leaf-high _ (start .pre .0)), is .spare-high)
 
-requests-requires-2 : tie.Need-requests-requires-2
-requests-requires-2 c κs =
+requests-requires : tie.Need-requests-requires
+requests-requires c κs =
     let start = c .before .before .before .before .before .before .before .before .before .before .before .before in
     let is = start .pre .1 in
-    (may-write is (start .pre .0), (is .fits .room, c .before .requests .ensures 0 .spare-low))
+    (may-write is (start .pre .0), (is .fits .room, c .before .timer3 .ensures 0 .spare-low))
 
 returns-2 : tie.Need-returns-2
 returns-2 c =
     let start = c .before .before .before .before .before .before .before .before .before .before .before .before .before .before .before in
     fired (start .pre .0) (start .pre .1) (start .args .k) (c .before .before .before .before .before .before .before .before .before .before .leaf .ensures) _ (c .before .before .before .before .before .before .before .before .keys .ensures .1)
-    (c .before .before .requests2 .ensures) (by-number _ _ _ _ _ (RequestsEach _ _ _ _) 3 (search needs) (c .before .before .before .before .requests .ensures _) .effect)
+    (c .before .before .requests .ensures) (by-number _ _ _ _ _ (RequestsEach _ _ _ _) 3 (search needs) (c .before .before .before .before .timer3 .ensures _) .effect)
 
 replying-requires : tie.Need-replying-requires
 replying-requires c κs =
@@ -78,5 +79,5 @@ fire-spec =
     tie.close
     (tie.spec
     leaf-requires keys-requires (λ c. search needs) slice-aggregate-table calling-requires calls-requires
-    (λ c. search needs) returns requests-requires requests-requires-2 (λ c. search needs) returns-2 replying-requires
+    (λ c. search needs) returns timer3-requires requests-requires (λ c. search needs) returns-2 replying-requires
     reply-requires (λ c. search needs) returns-3)

@@ -37,7 +37,7 @@ use denote.Exit.{yes}
 use Rattle.bench_script.specs.declared.Script.{Script}
 use Rattle.bench_script.proofs.Script as T
 use Rattle.bench_script.proofs.Script.Laws as T′
-use Rattle.bench_script.proofs.Script.new.Key.{name as #script·new}
+use Rattle.bench_script.proofs.Script.new.Key.{name as #bench-script·new}
 use Rattle.bench_script.proofs.Script.new as new
 use Rattle.bench_script.proofs.Script.new.Statement as stated
 use Rattle.bench_script.proofs.Script.new.Code as code
@@ -94,5 +94,5 @@ pub new-spec : {M : Type 1} → stated.statement M
 unfolding code.routine tablesOf
 new-spec 𝓤 H 𝓜 𝓖 𝓡 =
     entered 𝓤 H (tripleOf 𝓤 H (𝓖 .A) new.signature (new.spec 𝓤 H (𝓖 .A) (𝓜 .mem) (𝓡 .run)))
-    (tables 𝓤 H 𝓜 𝓡 code.env .C) (tables 𝓤 H 𝓜 𝓡 code.env .Λ) #script·new code.function (code.unfolded 𝓤 H 𝓜 𝓡)
+    (tables 𝓤 H 𝓜 𝓡 code.env .C) (tables 𝓤 H 𝓜 𝓡 code.env .Λ) #bench-script·new code.function (code.unfolded 𝓤 H 𝓜 𝓡)
     (new-meets 𝓤 H (𝓖 .A) (givenOf 𝓤 H 𝓜 𝓖) (𝓜 .mem) (𝓡 .run) (tablesOf 𝓤 H 𝓜 (tables 𝓤 H 𝓜 𝓡 code.env)))

@@ -1,0 +1,2 @@
+pub mod ByTimer
+pub mod ByType

@@ -1,0 +1,74 @@
+// The step of a timer by its number, and of a delivered message by its type.
+ghost use Prim.Native.Nat.{ℕ, _≤_, _<_, _^_};
+ghost use lib.ListN.{length};
+ghost use Rattle.model.specs.Structs.{tableOf, ownOf, messageOf};
+ghost use Rattle.model.specs.Steps as steps;
+ghost use Rattle.leafset.specs.Table.{InTable};
+ghost use Rattle.records.specs.Effects.{OwnFits, Replies, CallsEach, Delivered};
+use model::message::MessageRecord;
+use model::node::NodeRecord;
+use model::values::NodeNumber;
+use model::values::Stamp;
+use records::effect::Calls;
+use records::effect::Reply;
+use word_ring::MessageWord;
+
+// Timers 0, 1 and 2: a message to each of a set.
+pub fn calling(keys: &[u32], leaf: u32, x: NodeNumber, own: NodeRecord, k: u8) -> Calls
+    requires { ⌜ InTable (now keys) (x .0) (own .held) × OwnFits (length (now keys)) own × (leaf ≤ 8) × (k < 3) ⌝ }
+    ensures { λ r. ⌜ ((time : ℕ) → CallsEach (length (now (keys .entry))) (x .0) r (steps.timer (tableOf leaf (now (keys .entry))) (x .0) time (ownOf own) k)) ⌝ }
+{
+    match k {
+        0 => step_invite::timer0(own),
+        1 => step_invite::timer1(keys, leaf, x, own),
+        _ => step_spare::timer2(keys, leaf, x, own),
+    }
+}
+
+// Timer 4, and those above it: one message or none.
+pub fn replying(keys: &[u32], x: NodeNumber, own: NodeRecord, k: u8) -> Reply
+    requires { ⌜ InTable (now keys) (x .0) (own .held) × OwnFits (length (now keys)) own × (4 ≤ k) ⌝ }
+    ensures { λ r. ⌜ ((leaf time : ℕ) → Replies (length (now (keys .entry))) r (steps.timer (tableOf leaf (now (keys .entry))) (x .0) time (ownOf own) k)) ⌝ }
+{
+    if k != 4 {
+        return Reply::quiet(own);
+    }
+    step_deloopy::timer4(keys, x, own)
+}
+
+// The step of the message's type; nothing for a number that is no type.
+pub fn deliver(
+    keys: &[u32],
+    leaf: u32,
+    me: NodeNumber,
+    time: Stamp,
+    own: NodeRecord,
+    message: MessageRecord,
+) -> Reply
+    requires { ⌜ InTable (now keys) (me .0) (own .held) × OwnFits (length (now keys)) own × (leaf ≤ 8) × (time .0 < 2 ^ 24) × Delivered (length (now keys)) message ⌝ }
+    ensures { λ r. ⌜ Replies (length (now (keys .entry))) r (steps.deliver (tableOf leaf (now (keys .entry))) (me .0) (time .0) (ownOf own) (messageOf message)) ⌝ }
+{
+    let tag = message.tag;
+    match tag {
+        MessageWord::PING_CONTACT => step_contact::on_ping_contact(me, own, message),
+        MessageWord::PONG_CONTACT => step_contact::on_pong_contact(time, own, message),
+        MessageWord::PING_ASK_INV => step_invite::on_ping_ask_inv(keys, leaf, me, own, message),
+        MessageWord::PONG_ASK_INV => step_invite::on_pong_ask_inv(own, message),
+        MessageWord::PING_INVITE => step_invite::on_ping_invite(me, own, message),
+        MessageWord::PONG_INVITE => step_invite::on_pong_invite(keys, leaf, me, time, own, message),
+        MessageWord::PING_ASK_REPL => step_spare::on_ping_ask_repl(keys, leaf, me, own, message),
+        MessageWord::PONG_ASK_REPL => step_spare::on_pong_ask_repl(own, message),
+        MessageWord::PING_REPLACE => step_replace::on_ping_replace(me, time, own, message),
+        MessageWord::PONG_REPLACE => step_replace::on_pong_replace(
+            keys,
+            leaf,
+            me,
+            time,
+            own,
+            message,
+        ),
+        MessageWord::PING_DELOOPY => step_deloopy::on_ping_deloopy(keys, me, own, message),
+        MessageWord::PONG_DELOOPY => step_deloopy::on_pong_deloopy(own, message),
+        _ => Reply::quiet(own),
+    }
+}

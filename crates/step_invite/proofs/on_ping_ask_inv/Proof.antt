@@ -1,0 +1,25 @@
+-- `inviting::on_ping_ask_inv` meets its contract.
+use mathlib.Core.Path.{ap, _∙_}
+use borrow.Author.Needs.{needs}
+use Rattle.model.specs.Steps as steps
+use Rattle.leafset.proofs.Leaves.{leafset-back}
+use Rattle.step_invite.proofs.on_ping_ask_inv.Statement.{statement}
+use Rattle.step_invite.proofs.on_ping_ask_inv.Tie as tie
+
+returns : tie.Need-returns
+unfolding steps.onPingAskInv
+returns c =
+    let start = c .before .before .before .before .before in
+    let a = start .args in
+    let said = c .before .viewing .ensures in
+    λ time. c .sending .ensures _ _ _ (c .before .before .add-candidate .ensures _ (start .pre .1) (start .pre .0 .node))
+    (record {
+      message = said .message ∙ ap (steps.viewing 4 (a .me .0) (a .message .sender .0)) (leafset-back (a .leaf) (start .pre .0) (c .before .before .before .leafset .ensures));
+      room = said .room;
+    })
+
+pub on-ping-ask-inv-spec : {M : Type 1} → statement M
+on-ping-ask-inv-spec =
+    tie.close
+    (tie.spec
+    (λ c κs. search needs) (λ c κs. search needs) (λ c κs. search needs) (λ c κs. search needs) returns)

@@ -1,0 +1,62 @@
+// Document 01's step 3: timer 2, and message types 7 and 8.
+ghost use Prim.Native.Nat.{ℕ, _≤_, _<_};
+ghost use lib.ListN.{length};
+ghost use Rattle.model.specs.Leafset.{Table};
+ghost use Rattle.model.specs.Structs.{tableOf, ownOf, RoomNode, messageOf, RoomMessage};
+ghost use Rattle.model.specs.Steps as steps;
+ghost use Rattle.leafset.specs.Table.{InTable};
+ghost use Rattle.records.specs.Effects.{OwnFits, Replies, CallsEach};
+use leafset::leafset;
+use leafset::outside;
+use leafset_choice::closest;
+use model::message::MessageRecord;
+use model::node::NodeRecord;
+use model::values::NodeNumber;
+use records::effect::Calls;
+use records::effect::Reply;
+use records::message::naming;
+use records::own::set_spare;
+use word_ring::MessageWord;
+
+// "type 7 to each held stand outside my leafset of the held"
+pub fn timer2(keys: &[u32], leaf: u32, me: NodeNumber, own: NodeRecord) -> Calls
+    requires { ⌜ InTable (now keys) (me .0) (own .held) × OwnFits (length (now keys)) own × (leaf ≤ 8) ⌝ }
+    ensures { λ r. ⌜ ((time : ℕ) → CallsEach (length (now (keys .entry))) (me .0) r (steps.timer2 (tableOf leaf (now (keys .entry))) (me .0) time (ownOf own))) ⌝ }
+{
+    let outside = outside(keys, leaf, me, own.held);
+    Calls {
+        own,
+        tag: MessageWord::PING_ASK_REPL,
+        to: outside,
+    }
+}
+
+// "On 7 from a: answer 8 whose subject is the member of my leafset, other than a, nearest to a and strictly nearer to
+// a than I am; .. else 64."
+pub fn on_ping_ask_repl(
+    keys: &[u32],
+    leaf: u32,
+    me: NodeNumber,
+    own: NodeRecord,
+    message: MessageRecord,
+) -> Reply
+    requires { ⌜ InTable (now keys) (me .0) (own .held) × OwnFits (length (now keys)) own × (leaf ≤ 8) × (message .sender .0 < length (now keys)) ⌝ }
+    ensures { λ r. ⌜ ((time : ℕ) → Replies (length (now (keys .entry))) r (steps.onPingAskRepl (tableOf leaf (now (keys .entry))) (me .0) time (ownOf own) (messageOf message))) ⌝ }
+{
+    let spare = closest(keys, leaf, me, own.held, message.sender);
+    Reply::sending(
+        own,
+        naming(MessageWord::PONG_ASK_REPL, me, message.sender, spare),
+    )
+}
+
+// "On 8: if the sender is held, its spare becomes the subject."
+pub fn on_pong_ask_repl(own: NodeRecord, message: MessageRecord) -> Reply
+    requires { ⌜ RoomNode own × RoomMessage message ⌝ }
+    ensures { λ r. ⌜ ((t : Table) (me time n : ℕ) → OwnFits n own → Replies n r (steps.onPongAskRepl t me time (ownOf own) (messageOf message))) ⌝ }
+{
+    if !sets::has(own.held, message.sender) {
+        return Reply::quiet(own);
+    }
+    Reply::quiet(set_spare(own, message.sender, message.subject))
+}
