@@ -16,7 +16,7 @@ use Rattle.model.specs.declared.answer.Answer.the-variants.{Accepted, PoolFull}
 use Rattle.model.specs.declared.event.Event.{Event}
 use Rattle.model.specs.declared.event.Event.the-variants.{On, Off, Notice, Contact, Timer, Deliver, Lose}
 use Rattle.model.proofs.Answers.{accepted-is, none-applies}
-use Rattle.ring_head.specs.Parts.{Is}
+use Rattle.ring_head.specs.Parts.{Encodes}
 use Rattle.answers.specs.Applied.{written, eventOn, applied}
 use Rattle.answers.proofs.Refusals.{stays, passes}
 
@@ -35,7 +35,7 @@ pub accepts : (ws ws' l : List ℕ) (b : Answer) → b ≡ Accepted → ws' ≡ 
 accepts ws ws' l b e w = rw (e, w)
 
 -- a ring of at most 1,024 messages is written; of more, it is not
-pub applied-room : (ws : List ℕ) {ws' : List ℕ} {n m : ℕ} {σ ρ : Ring} → Is ws' n m σ → σ ≡ ρ → m ≤ 1024 → written Accepted ws' ≡ applied ws ρ
+pub applied-room : (ws : List ℕ) {ws' : List ℕ} {n m : ℕ} {σ ρ : Ring} → Encodes ws' n m σ → σ ≡ ρ → m ≤ 1024 → written Accepted ws' ≡ applied ws ρ
 unfolding firstOf
 applied-room ws {ws'} {n} {m} {σ} {ρ} is e h =
     accepts ws ws' (encode ρ) _ (rw (sym e, is .count, le-ltb 1024 m h)) (is .words ∙ ap encode e)

@@ -8,7 +8,7 @@ pub const LAST: u32 = 16_777_215;
 
 // Document 01's number of the answer.
 pub fn number(answer: Answer) -> u32
-    ensures { λ r. ⌜ r ≡ numberOf answer ⌝ }
+    ensures answer { λ r. ⌜ r ≡ numberOf answer ⌝ }
 {
     match answer {
         Answer::Accepted => 0,

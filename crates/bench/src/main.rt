@@ -11,7 +11,7 @@ const MOST: u64 = 0x1000_0000_0000;
 
 // Plays chunk after chunk, and prints.
 fn run(words: &mut [u32], bytes: &mut [u8], out: &mut [u8])
-    requires { ⌜ (length (now words) ≡ 13441) × (length (now bytes) ≡ 4096) × (length (now out) ≡ 160000) ⌝ }
+    requires words { ⌜ (length (now words) ≡ 13441) × (length (now bytes) ≡ 4096) × (length (now out) ≡ 160000) ⌝ }
 {
     let mut session = Session::new();
     for _ in 0..MOST {

@@ -11,8 +11,8 @@ const NEWLINE: u8 = 10;
 
 // Puts the bytes from index `at` on, and answers the index after them, as each function here does.
 pub fn put_bytes(out: &mut [u8], at: usize, bytes: &[u8]) -> usize
-    requires { ⌜ at + length (now bytes) ≤ length (now out) ⌝ }
-    ensures { λ r. ⌜ Put (now (out .entry)) (now (out .exit)) at r (now (bytes .entry)) ⌝ }
+    requires room { ⌜ at + length (now bytes) ≤ length (now out) ⌝ }
+    ensures bytes { λ r. ⌜ Put (now (out .entry)) (now (out .exit)) at r (now (bytes .entry)) ⌝ }
 {
     let mut i = 0;
     while i < bytes.len() {
@@ -24,8 +24,8 @@ pub fn put_bytes(out: &mut [u8], at: usize, bytes: &[u8]) -> usize
 
 // Puts one byte.
 pub fn put_byte(out: &mut [u8], at: usize, byte: u8) -> usize
-    requires { ⌜ at < length (now out) ⌝ }
-    ensures { λ r. ⌜ Put (now (out .entry)) (now (out .exit)) at r (byte ∷ []) ⌝ }
+    requires room { ⌜ at < length (now out) ⌝ }
+    ensures bytes { λ r. ⌜ Put (now (out .entry)) (now (out .exit)) at r (byte ∷ []) ⌝ }
 {
     out[at] = byte;
     at + 1
@@ -33,8 +33,9 @@ pub fn put_byte(out: &mut [u8], at: usize, byte: u8) -> usize
 
 // Puts n in decimal.
 pub fn put_number(out: &mut [u8], at: usize, n: u64) -> usize
-    requires { ⌜ at + 20 ≤ length (now out) ⌝ }
-    ensures { λ r. ⌜ Put (now (out .entry)) (now (out .exit)) at r (decimal n) × (r ≤ at + 20) ⌝ }
+    requires room { ⌜ at + 20 ≤ length (now out) ⌝ }
+    ensures bytes { λ r. ⌜ Put (now (out .entry)) (now (out .exit)) at r (decimal n) ⌝ }
+    ensures end { λ r. ⌜ r ≤ at + 20 ⌝ }
 {
     let mut text = [0u8; 20];
     let k = io::decimal(n, &mut text);
@@ -43,8 +44,9 @@ pub fn put_number(out: &mut [u8], at: usize, n: u64) -> usize
 
 // Puts a space, and n in decimal.
 pub fn put_next(out: &mut [u8], at: usize, n: u64) -> usize
-    requires { ⌜ at + 21 ≤ length (now out) ⌝ }
-    ensures { λ r. ⌜ Put (now (out .entry)) (now (out .exit)) at r (spaced (n ∷ [])) × (r ≤ at + 21) ⌝ }
+    requires room { ⌜ at + 21 ≤ length (now out) ⌝ }
+    ensures bytes { λ r. ⌜ Put (now (out .entry)) (now (out .exit)) at r (spaced (n ∷ [])) ⌝ }
+    ensures end { λ r. ⌜ r ≤ at + 21 ⌝ }
 {
     let start = put_byte(out, at, SPACE);
     put_number(out, start, n)
@@ -52,8 +54,9 @@ pub fn put_next(out: &mut [u8], at: usize, n: u64) -> usize
 
 // Puts a line of three numbers.
 pub fn put_three(out: &mut [u8], at: usize, a: u64, b: u64, c: u64) -> usize
-    requires { ⌜ at + 63 ≤ length (now out) ⌝ }
-    ensures { λ r. ⌜ Put (now (out .entry)) (now (out .exit)) at r (lineBytes (a ∷ b ∷ c ∷ [])) × (r ≤ at + 63) ⌝ }
+    requires room { ⌜ at + 63 ≤ length (now out) ⌝ }
+    ensures bytes { λ r. ⌜ Put (now (out .entry)) (now (out .exit)) at r (lineBytes (a ∷ b ∷ c ∷ [])) ⌝ }
+    ensures end { λ r. ⌜ r ≤ at + 63 ⌝ }
 {
     let first = put_number(out, at, a);
     let second = put_next(out, first, b);

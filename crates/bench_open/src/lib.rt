@@ -13,8 +13,8 @@ use word_ring::KeyWord;
 
 // Opens a ring over the words, or refuses with 2 or 3.
 pub fn open_script(script: &[u32], words: &mut [u32]) -> Answer
-    requires { ⌜ length (now words) ≡ ringLength ⌝ }
-    ensures { λ r. ⌜ written r (now (words .exit)) ≡ openScript (now (words .entry)) (now (script .entry)) ⌝ }
+    requires length { ⌜ length (now words) ≡ ringLength ⌝ }
+    ensures written { λ r. ⌜ written r (now (words .exit)) ≡ openScript (now (words .entry)) (now (script .entry)) ⌝ }
 {
     if !head_fits(script) {
         return Answer::OpeningOutOfRange;
@@ -34,7 +34,7 @@ pub fn open_script(script: &[u32], words: &mut [u32]) -> Answer
 
 // The first word is one with m = 0, and none of the key words is missing.
 fn head_fits(script: &[u32]) -> bool
-    ensures { λ r. ⌜ r ≡ headFits (now (script .entry)) ⌝ }
+    ensures value { λ r. ⌜ r ≡ headFits (now (script .entry)) ⌝ }
 {
     if script.len() == 0 {
         return false;
@@ -46,22 +46,22 @@ fn head_fits(script: &[u32]) -> bool
 
 // "L is 1 to 8"; "table size n (1 to 64)"
 fn sizes_fit(leaf: u32, n: usize) -> bool
-    ensures { λ r. ⌜ r ≡ sizesFit leaf n ⌝ }
+    ensures value { λ r. ⌜ r ≡ sizesFit leaf n ⌝ }
 {
     (1 <= leaf) & (leaf <= 8) & (1 <= n) & (n <= 64)
 }
 
 // A key word with running 0.
 fn key_fits(word: u32) -> bool
-    ensures { λ r. ⌜ r ≡ keyFits word ⌝ }
+    ensures value { λ r. ⌜ r ≡ keyFits word ⌝ }
 {
     word == KeyWord::new(KeyWord(word).key(), false).0
 }
 
 // Each of the n words after the first is such a word.
 fn keys_fit(script: &[u32], n: usize) -> bool
-    requires { ⌜ 1 + n ≤ length (now script) ⌝ }
-    ensures { λ r. ⌜ r ≡ keysFit (now (script .entry)) n ⌝ }
+    requires lengths { ⌜ 1 + n ≤ length (now script) ⌝ }
+    ensures value { λ r. ⌜ r ≡ keysFit (now (script .entry)) n ⌝ }
 {
     let mut ok = true;
     for s in 0..n {
@@ -72,8 +72,10 @@ fn keys_fit(script: &[u32], n: usize) -> bool
 
 // The keys of the n words after the first.
 fn keys(script: &[u32], n: usize) -> [u32; 64]
-    requires { ⌜ (1 + n ≤ length (now script)) × (n ≤ 64) ⌝ }
-    ensures { λ r. ⌜ (length r ≡ 64) × (take n r ≡ scriptKeys (now (script .entry)) n) ⌝ }
+    requires lengths { ⌜ 1 + n ≤ length (now script) ⌝ }
+    requires bounds { ⌜ n ≤ 64 ⌝ }
+    ensures places { λ r. ⌜ length r ≡ 64 ⌝ }
+    ensures keys { λ r. ⌜ take n r ≡ scriptKeys (now (script .entry)) n ⌝ }
 {
     let mut keys = [0; 64];
     for s in 0..n {

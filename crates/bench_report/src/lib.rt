@@ -17,8 +17,10 @@ const NEWLINE: u8 = 10;
 
 // Puts the line of each node, and "groups" with their number.
 pub fn put_end(words: &[u32], out: &mut [u8], at: usize) -> usize
-    requires { ⌜ (readsAsRing (now words) ≡ true) × (at + 93000 ≤ length (now out)) ⌝ }
-    ensures { λ r. ⌜ Put (now (out .entry)) (now (out .exit)) at r (endBytes (decode (now (words .entry)))) × (r ≤ at + 93000) ⌝ }
+    requires ring { ⌜ readsAsRing (now words) ≡ true ⌝ }
+    requires room { ⌜ at + 93000 ≤ length (now out) ⌝ }
+    ensures bytes { λ r. ⌜ Put (now (out .entry)) (now (out .exit)) at r (endBytes (decode (now (words .entry)))) ⌝ }
+    ensures end { λ r. ⌜ r ≤ at + 93000 ⌝ }
 {
     let end = put_nodes(words, ring_head::nodes(words), out, at);
     let reply = call_questions::groups(words);
@@ -27,8 +29,9 @@ pub fn put_end(words: &[u32], out: &mut [u8], at: usize) -> usize
 
 // Puts "groups" and their number.
 fn put_groups(out: &mut [u8], at: usize, groups: u32) -> usize
-    requires { ⌜ at + 28 ≤ length (now out) ⌝ }
-    ensures { λ r. ⌜ Put (now (out .entry)) (now (out .exit)) at r (groupsBytes groups) × (r ≤ at + 28) ⌝ }
+    requires room { ⌜ at + 28 ≤ length (now out) ⌝ }
+    ensures bytes { λ r. ⌜ Put (now (out .entry)) (now (out .exit)) at r (groupsBytes groups) ⌝ }
+    ensures end { λ r. ⌜ r ≤ at + 28 ⌝ }
 {
     let first = bench_lines::put_bytes(out, at, b"groups");
     let second = bench_lines::put_next(out, first, groups as u64);
@@ -37,8 +40,11 @@ fn put_groups(out: &mut [u8], at: usize, groups: u32) -> usize
 
 // Puts the line of each of the n nodes.
 fn put_nodes(words: &[u32], n: usize, out: &mut [u8], at: usize) -> usize
-    requires { ⌜ (length (now words) ≡ ringLength) × (n ≡ size (decodeTable (now words))) × (n ≤ 64) × (at + 1450 * n ≤ length (now out)) ⌝ }
-    ensures { λ r. ⌜ Put (now (out .entry)) (now (out .exit)) at r (linesBytes (tabulate n (nodeLine (decode (now (words .entry)))))) × (r ≤ at + 1450 * n) ⌝ }
+    requires words { ⌜ (length (now words) ≡ ringLength) × (n ≡ size (decodeTable (now words))) × (n ≤ 64)
+        × (at + 1450 * n ≤ length (now out)) ⌝ }
+    ensures bytes { λ r. ⌜ Put (now (out .entry)) (now (out .exit)) at r
+        (linesBytes (tabulate n (nodeLine (decode (now (words .entry)))))) ⌝ }
+    ensures end { λ r. ⌜ r ≤ at + 1450 * n ⌝ }
 {
     let mut end = at;
     for x in 0..n {
@@ -49,8 +55,11 @@ fn put_nodes(words: &[u32], n: usize, out: &mut [u8], at: usize) -> usize
 
 // Puts the line of node x, of n.
 fn put_node(words: &[u32], n: usize, x: NodeNumber, out: &mut [u8], at: usize) -> usize
-    requires { ⌜ (length (now words) ≡ ringLength) × (n ≡ size (decodeTable (now words))) × (n ≤ 64) × (x .0 < n) × (at + 1450 ≤ length (now out)) ⌝ }
-    ensures { λ r. ⌜ Put (now (out .entry)) (now (out .exit)) at r (lineBytes (nodeLine (decode (now (words .entry))) (x .0))) × (r ≤ at + 1450) ⌝ }
+    requires words { ⌜ (length (now words) ≡ ringLength) × (n ≡ size (decodeTable (now words))) × (n ≤ 64) × (x .0 < n)
+        × (at + 1450 ≤ length (now out)) ⌝ }
+    ensures bytes { λ r. ⌜ Put (now (out .entry)) (now (out .exit)) at r
+        (lineBytes (nodeLine (decode (now (words .entry))) (x .0))) ⌝ }
+    ensures end { λ r. ⌜ r ≤ at + 1450 ⌝ }
 {
     let own = ring_pairs::load(words, n, x);
     let first = put_state(words, x, out, at);
@@ -60,8 +69,11 @@ fn put_node(words: &[u32], n: usize, x: NodeNumber, out: &mut [u8], at: usize) -
 
 // Puts the number, the key, whether it runs, and the clock of node x.
 fn put_state(words: &[u32], x: NodeNumber, out: &mut [u8], at: usize) -> usize
-    requires { ⌜ (length (now words) ≡ ringLength) × (x .0 < size (decodeTable (now words))) × (at + 84 ≤ length (now out)) ⌝ }
-    ensures { λ r. ⌜ Put (now (out .entry)) (now (out .exit)) at r (stateBytes (decode (now (words .entry))) (x .0)) × (r ≤ at + 84) ⌝ }
+    requires words { ⌜ (length (now words) ≡ ringLength) × (x .0 < size (decodeTable (now words)))
+        × (at + 84 ≤ length (now out)) ⌝ }
+    ensures bytes { λ r. ⌜ Put (now (out .entry)) (now (out .exit)) at r
+        (stateBytes (decode (now (words .entry))) (x .0)) ⌝ }
+    ensures end { λ r. ⌜ r ≤ at + 84 ⌝ }
 {
     let first = bench_lines::put_number(out, at, x.0 as u64);
     let second = bench_lines::put_next(out, first, ring_head::key(words, x).0 as u64);
@@ -71,8 +83,10 @@ fn put_state(words: &[u32], x: NodeNumber, out: &mut [u8], at: usize) -> usize
 
 // Puts how many are held, and each of them.
 fn put_held(out: &mut [u8], at: usize, held: u64) -> usize
-    requires { ⌜ at + 1365 ≤ length (now out) ⌝ }
-    ensures { λ r. ⌜ Put (now (out .entry)) (now (out .exit)) at r (spaced (count 64 (ofBits held) ∷ members 64 (ofBits held))) × (r ≤ at + 1365) ⌝ }
+    requires room { ⌜ at + 1365 ≤ length (now out) ⌝ }
+    ensures bytes { λ r. ⌜ Put (now (out .entry)) (now (out .exit)) at r
+        (spaced (count 64 (ofBits held) ∷ members 64 (ofBits held))) ⌝ }
+    ensures end { λ r. ⌜ r ≤ at + 1365 ⌝ }
 {
     let first = bench_lines::put_next(out, at, sets::size(held) as u64);
     put_members(out, first, held)
@@ -80,8 +94,9 @@ fn put_held(out: &mut [u8], at: usize, held: u64) -> usize
 
 // Puts each member of the set, in rising order.
 fn put_members(out: &mut [u8], at: usize, set: u64) -> usize
-    requires { ⌜ at + 1344 ≤ length (now out) ⌝ }
-    ensures { λ r. ⌜ Put (now (out .entry)) (now (out .exit)) at r (spaced (members 64 (ofBits set))) × (r ≤ at + 1344) ⌝ }
+    requires room { ⌜ at + 1344 ≤ length (now out) ⌝ }
+    ensures bytes { λ r. ⌜ Put (now (out .entry)) (now (out .exit)) at r (spaced (members 64 (ofBits set))) ⌝ }
+    ensures end { λ r. ⌜ r ≤ at + 1344 ⌝ }
 {
     let mut end = at;
     let mut rest = set;

@@ -19,21 +19,23 @@ pub enum Next {
 
 impl<'a> Script<'a> {
     pub fn new(words: &'a [u32], at: usize) -> Script<'a>
-        ensures { λ r. ⌜ (r .words ≡ words .entry) × (r .at ≡ at) ⌝ }
+        ensures words { λ r. ⌜ r .words ≡ words .entry ⌝ }
+        ensures at { λ r. ⌜ r .at ≡ at ⌝ }
     {
         Script { words, at }
     }
 
     // The word at the position, or the end.
     pub fn next(self) -> Next
-        ensures { λ r. ⌜ r ≡ nextAt (now (self .entry .words)) (self .entry .at) ⌝ }
+        ensures value { λ r. ⌜ r ≡ nextAt (now (self .entry .words)) (self .entry .at) ⌝ }
     {
         next_at(self.words, self.at)
     }
 
     // The script moved on by one word; at the end it stays.
     pub fn moved(self) -> Script<'a>
-        ensures { λ r. ⌜ (r .words ≡ self .entry .words) × (r .at ≡ afterAt (now (self .entry .words)) (self .entry .at)) ⌝ }
+        ensures words { λ r. ⌜ r .words ≡ self .entry .words ⌝ }
+        ensures at { λ r. ⌜ r .at ≡ afterAt (now (self .entry .words)) (self .entry .at) ⌝ }
     {
         let after = after_at(self.words, self.at);
         Script {
@@ -44,7 +46,7 @@ impl<'a> Script<'a> {
 }
 
 fn next_at(words: &[u32], at: usize) -> Next
-    ensures { λ r. ⌜ r ≡ nextAt (now (words .entry)) at ⌝ }
+    ensures value { λ r. ⌜ r ≡ nextAt (now (words .entry)) at ⌝ }
 {
     if at < words.len() {
         return Next::Word(words[at]);
@@ -53,7 +55,7 @@ fn next_at(words: &[u32], at: usize) -> Next
 }
 
 fn after_at(words: &[u32], at: usize) -> usize
-    ensures { λ r. ⌜ r ≡ afterAt (now (words .entry)) at ⌝ }
+    ensures value { λ r. ⌜ r ≡ afterAt (now (words .entry)) at ⌝ }
 {
     if at < words.len() {
         return at + 1;
@@ -69,7 +71,7 @@ pub struct Reading {
 
 // Reads at a position of a plain slice.
 pub fn read(words: &[u32], at: usize) -> Reading
-    ensures { λ r. ⌜ r ≡ readAt (now (words .entry)) at ⌝ }
+    ensures value { λ r. ⌜ r ≡ readAt (now (words .entry)) at ⌝ }
 {
     let script = Script::new(words, at);
     let next = script.next();

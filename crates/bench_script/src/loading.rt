@@ -7,8 +7,8 @@ ghost use Rattle.bench_script.specs.Loaded.{Loaded, wordOf};
 // Puts the words of the bytes, four each, lowest first, at the start of `words`, and answers how many there are. A tail
 // under 4 bytes is left out.
 pub fn load(bytes: &[u8], words: &mut [u32]) -> usize
-    requires { ⌜ length (now bytes) ≤ 4 * length (now words) ⌝ }
-    ensures { λ r. ⌜ Loaded (now (bytes .entry)) (now (words .entry)) (now (words .exit)) r ⌝ }
+    requires lengths { ⌜ length (now bytes) ≤ 4 * length (now words) ⌝ }
+    ensures loaded { λ r. ⌜ Loaded (now (bytes .entry)) (now (words .entry)) (now (words .exit)) r ⌝ }
 {
     let count = bytes.len() / 4;
     for i in 0..count {
@@ -19,8 +19,8 @@ pub fn load(bytes: &[u8], words: &mut [u32]) -> usize
 
 // The word of the four bytes from `at` on.
 fn word(bytes: &[u8], at: usize) -> u32
-    requires { ⌜ at + 4 ≤ length (now bytes) ⌝ }
-    ensures { λ r. ⌜ r ≡ wordOf (now (bytes .entry)) at ⌝ }
+    requires lengths { ⌜ at + 4 ≤ length (now bytes) ⌝ }
+    ensures value { λ r. ⌜ r ≡ wordOf (now (bytes .entry)) at ⌝ }
 {
     wide(bytes[at])
         + 256 * wide(bytes[at + 1])
@@ -29,7 +29,8 @@ fn word(bytes: &[u8], at: usize) -> u32
 }
 
 fn wide(byte: u8) -> u32
-    ensures { λ r. ⌜ (r ≡ byte) × (r < 2 ^ 8) ⌝ }
+    ensures value { λ r. ⌜ r ≡ byte ⌝ }
+    ensures bound { λ r. ⌜ r < 2 ^ 8 ⌝ }
 {
     byte as u32
 }

@@ -15,8 +15,10 @@ pub fn play_next(
     words: &mut [u32],
     out: &mut [u8],
 ) -> Session
-    requires { ⌜ Ready (2 ^ 63) session (now words) × (length (now bytes) ≡ 4096) × (length (now out) ≡ 160000) ⌝ }
-    ensures { λ r. ⌜ ((k : ℕ) → session .count ≤ k → Ready (k + 1024) r (now (words .exit))) × Counts (r .end) (now (out .exit)) ⌝ }
+    requires session { ⌜ Ready (2 ^ 63) session (now words) × (length (now bytes) ≡ 4096)
+        × (length (now out) ≡ 160000) ⌝ }
+    ensures session { λ r. ⌜ ((k : ℕ) → session .count ≤ k → Ready (k + 1024) r (now (words .exit))) ⌝ }
+    ensures end { λ r. ⌜ Counts (r .end) (now (out .exit)) ⌝ }
 {
     let n = io::read_full(file, bytes);
     step(session, &bytes[..n], words, out)

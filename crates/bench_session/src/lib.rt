@@ -13,8 +13,11 @@ use turn::Session;
 
 // Plays the next chunk of the script, and puts what it prints at the start of `out`.
 pub fn step(session: Session, bytes: &[u8], words: &mut [u32], out: &mut [u8]) -> Session
-    requires { ⌜ Ready (2 ^ 63) session (now words) × (length (now bytes) ≤ 4096) × (160000 ≤ length (now out)) ⌝ }
-    ensures { λ r. ⌜ Stepped (turn (session .opened) (session .count) (decode (now (words .entry))) (now (bytes .entry))) (now (words .exit)) (now (out .entry)) (now (out .exit)) r ⌝ }
+    requires session { ⌜ Ready (2 ^ 63) session (now words) × (length (now bytes) ≤ 4096)
+        × (160000 ≤ length (now out)) ⌝ }
+    ensures turn { λ r. ⌜ Stepped
+        (turn (session .opened) (session .count) (decode (now (words .entry))) (now (bytes .entry))) (now (words .exit))
+        (now (out .entry)) (now (out .exit)) r ⌝ }
 {
     let mut script = [0u32; 1024];
     let n = loading::load(bytes, &mut script);
@@ -29,8 +32,11 @@ fn take_words(
     words: &mut [u32],
     out: &mut [u8],
 ) -> Session
-    requires { ⌜ Ready (2 ^ 63) session (now words) × (length (now script) ≤ 1024) × (160000 ≤ length (now out)) ⌝ }
-    ensures { λ r. ⌜ Stepped (wordsTurn (session .opened) (session .count) (decode (now (words .entry))) (now (script .entry)) size) (now (words .exit)) (now (out .entry)) (now (out .exit)) r ⌝ }
+    requires session { ⌜ Ready (2 ^ 63) session (now words) × (length (now script) ≤ 1024)
+        × (160000 ≤ length (now out)) ⌝ }
+    ensures turn { λ r. ⌜ Stepped
+        (wordsTurn (session .opened) (session .count) (decode (now (words .entry))) (now (script .entry)) size)
+        (now (words .exit)) (now (out .entry)) (now (out .exit)) r ⌝ }
 {
     if session.opened {
         return turn::play(session.count, script, size, words, out);
@@ -40,8 +46,10 @@ fn take_words(
 
 // The first chunk: opens the ring, and plays the events after the keys.
 fn begin(script: &[u32], size: usize, words: &mut [u32], out: &mut [u8]) -> Session
-    requires { ⌜ (length (now script) ≤ 1024) × (length (now words) ≡ ringLength) × (160000 ≤ length (now out)) ⌝ }
-    ensures { λ r. ⌜ Stepped (firstTurn (now (script .entry)) size) (now (words .exit)) (now (out .entry)) (now (out .exit)) r ⌝ }
+    requires words { ⌜ (length (now script) ≤ 1024) × (length (now words) ≡ ringLength)
+        × (160000 ≤ length (now out)) ⌝ }
+    ensures turn { λ r. ⌜ Stepped (firstTurn (now (script .entry)) size) (now (words .exit)) (now (out .entry))
+        (now (out .exit)) r ⌝ }
 {
     let answer = bench_open::open_script(script, words);
     let refusal = answers::number(answer);

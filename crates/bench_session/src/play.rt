@@ -9,8 +9,10 @@ use bench_script::Next;
 
 // Plays the word, event `number`, and puts its line from `at` on. Where the line ends.
 fn play_word(words: &mut [u32], word: u32, number: u64, out: &mut [u8], at: usize) -> usize
-    requires { ⌜ (readsAsRing (now words) ≡ true) × (at + 63 ≤ length (now out)) ⌝ }
-    ensures { λ r. ⌜ OnePlayed (now (words .entry)) word number (now (words .exit)) (now (out .entry)) (now (out .exit)) at r ⌝ }
+    requires ring { ⌜ readsAsRing (now words) ≡ true ⌝ }
+    requires room { ⌜ at + 63 ≤ length (now out) ⌝ }
+    ensures played { λ r. ⌜ OnePlayed (now (words .entry)) word number (now (words .exit)) (now (out .entry))
+        (now (out .exit)) at r ⌝ }
 {
     let answer = call_play::play(words, word);
     bench_lines::put_three(
@@ -25,8 +27,10 @@ fn play_word(words: &mut [u32], word: u32, number: u64, out: &mut [u8], at: usiz
 // Plays each word of the script on what the one before left, `count` events having been played before, and puts the
 // lines at the start of `out`. Where they end.
 pub fn play_all(words: &mut [u32], script: &[u32], count: u64, out: &mut [u8]) -> usize
-    requires { ⌜ (readsAsRing (now words) ≡ true) × (63 * length (now script) ≤ length (now out)) × (count + length (now script) < 2 ^ 64) ⌝ }
-    ensures { λ r. ⌜ AllPlayed (now (words .entry)) (now (script .entry)) count (now (words .exit)) (now (out .entry)) (now (out .exit)) r ⌝ }
+    requires ring { ⌜ (readsAsRing (now words) ≡ true) × (63 * length (now script) ≤ length (now out))
+        × (count + length (now script) < 2 ^ 64) ⌝ }
+    ensures played { λ r. ⌜ AllPlayed (now (words .entry)) (now (script .entry)) count (now (words .exit))
+        (now (out .entry)) (now (out .exit)) r ⌝ }
 {
     let mut at = 0;
     let mut end = 0;

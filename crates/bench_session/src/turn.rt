@@ -28,7 +28,8 @@ impl Session {
 
     // Before the first chunk.
     pub fn new() -> Session
-        ensures { λ r. ⌜ (r .opened ≡ false) × (r .count ≡ 0) ⌝ }
+        ensures opened { λ r. ⌜ r .opened ≡ false ⌝ }
+        ensures count { λ r. ⌜ r .count ≡ 0 ⌝ }
     {
         Session {
             more: true,
@@ -41,8 +42,10 @@ impl Session {
 
 // Plays the events of a chunk of `size` bytes, `count` events having been played before.
 pub fn play(count: u64, script: &[u32], size: usize, words: &mut [u32], out: &mut [u8]) -> Session
-    requires { ⌜ (length (now script) ≤ 1024) × (readsAsRing (now words) ≡ true) × (160000 ≤ length (now out)) × (count + 1025 < 2 ^ 64) ⌝ }
-    ensures { λ r. ⌜ Stepped (playedTurn count (decode (now (words .entry))) (now (script .entry)) size) (now (words .exit)) (now (out .entry)) (now (out .exit)) r ⌝ }
+    requires ring { ⌜ (length (now script) ≤ 1024) × (readsAsRing (now words) ≡ true) × (160000 ≤ length (now out))
+        × (count + 1025 < 2 ^ 64) ⌝ }
+    ensures turn { λ r. ⌜ Stepped (playedTurn count (decode (now (words .entry))) (now (script .entry)) size)
+        (now (words .exit)) (now (out .entry)) (now (out .exit)) r ⌝ }
 {
     let lines_end = play::play_all(words, script, count, out);
     let played = count + script.len() as u64;
@@ -59,8 +62,10 @@ pub fn play(count: u64, script: &[u32], size: usize, words: &mut [u32], out: &mu
 
 // "A tail under 4 bytes is an event answered 4."
 fn put_tail(words: &[u32], size: usize, count: u64, out: &mut [u8], at: usize) -> usize
-    requires { ⌜ (length (now words) ≡ ringLength) × (at + 63 ≤ length (now out)) × (count + 1 < 2 ^ 64) ⌝ }
-    ensures { λ r. ⌜ Put (now (out .entry)) (now (out .exit)) at r (linesBytes (tailLines count (decode (now (words .entry))) size)) × (r ≤ at + 63) ⌝ }
+    requires words { ⌜ (length (now words) ≡ ringLength) × (at + 63 ≤ length (now out)) × (count + 1 < 2 ^ 64) ⌝ }
+    ensures bytes { λ r. ⌜ Put (now (out .entry)) (now (out .exit)) at r
+        (linesBytes (tailLines count (decode (now (words .entry))) size)) ⌝ }
+    ensures end { λ r. ⌜ r ≤ at + 63 ⌝ }
 {
     if size % 4 == 0 {
         return at;
@@ -77,8 +82,10 @@ fn put_tail(words: &[u32], size: usize, count: u64, out: &mut [u8], at: usize) -
 
 // The end of the output, unless there is more to come.
 fn put_end(words: &[u32], more: bool, out: &mut [u8], at: usize) -> usize
-    requires { ⌜ (readsAsRing (now words) ≡ true) × (at + 93000 ≤ length (now out)) ⌝ }
-    ensures { λ r. ⌜ Put (now (out .entry)) (now (out .exit)) at r (endOf more (decode (now (words .entry)))) × (r ≤ at + 93000) ⌝ }
+    requires ring { ⌜ readsAsRing (now words) ≡ true ⌝ }
+    requires room { ⌜ at + 93000 ≤ length (now out) ⌝ }
+    ensures bytes { λ r. ⌜ Put (now (out .entry)) (now (out .exit)) at r (endOf more (decode (now (words .entry)))) ⌝ }
+    ensures end { λ r. ⌜ r ≤ at + 93000 ⌝ }
 {
     if more {
         return at;

@@ -12,7 +12,8 @@ use model::answer::Answer;
 // "Opening takes L and a list of n keys, stand 0's first, and writes a fresh ring over the lent buffer, whose old words
 // don't matter."
 pub fn open(words: &mut [u32], leaf: u32, keys: &[u32]) -> Answer
-    ensures { λ r. ⌜ written r (now (words .exit)) ≡ openBuffer (now (words .entry)) (tableOf leaf (now (keys .entry))) ⌝ }
+    ensures written { λ r. ⌜ written r (now (words .exit))
+        ≡ openBuffer (now (words .entry)) (tableOf leaf (now (keys .entry))) ⌝ }
 {
     if words.len() != 13441 {
         return Answer::WrongLength;
@@ -29,14 +30,14 @@ pub fn open(words: &mut [u32], leaf: u32, keys: &[u32]) -> Answer
 
 // "L is 1 to 8"; "table size n (1 to 64)"
 fn in_range(leaf: u32, keys: &[u32]) -> bool
-    ensures { λ r. ⌜ r ≡ inRange (tableOf leaf (now (keys .entry))) ⌝ }
+    ensures value { λ r. ⌜ r ≡ inRange (tableOf leaf (now (keys .entry))) ⌝ }
 {
     (1 <= leaf) & (leaf <= 8) & (1 <= keys.len()) & (keys.len() <= 64)
 }
 
 // No key is above 16,777,215.
 fn keys_fit(keys: &[u32]) -> bool
-    ensures { λ r. ⌜ r ≡ keysFit (now (keys .entry)) ⌝ }
+    ensures value { λ r. ⌜ r ≡ keysFit (now (keys .entry)) ⌝ }
 {
     let mut ok = true;
     for s in 0..keys.len() {
@@ -47,8 +48,8 @@ fn keys_fit(keys: &[u32]) -> bool
 
 // The key of node x differs from that of every other node.
 fn key_differs(keys: &[u32], x: usize) -> bool
-    requires { ⌜ x < length (now keys) ⌝ }
-    ensures { λ r. ⌜ r ≡ keyDiffers (now (keys .entry)) x ⌝ }
+    requires lengths { ⌜ x < length (now keys) ⌝ }
+    ensures value { λ r. ⌜ r ≡ keyDiffers (now (keys .entry)) x ⌝ }
 {
     let mut ok = true;
     for y in 0..keys.len() {
@@ -59,7 +60,7 @@ fn key_differs(keys: &[u32], x: usize) -> bool
 
 // "keys differ"
 fn keys_differ(keys: &[u32]) -> bool
-    ensures { λ r. ⌜ ((leaf : ℕ) → r ≡ keysDiffer (tableOf leaf (now (keys .entry)))) ⌝ }
+    ensures value { λ r. ⌜ ((leaf : ℕ) → r ≡ keysDiffer (tableOf leaf (now (keys .entry)))) ⌝ }
 {
     let mut ok = true;
     for x in 0..keys.len() {

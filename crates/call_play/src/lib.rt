@@ -15,7 +15,7 @@ use model::event::Reading;
 
 // 1; 4 and 5 of the word; 6; then those of the event.
 pub fn play(words: &mut [u32], word: u32) -> Answer
-    ensures { λ r. ⌜ written r (now (words .exit)) ≡ playBuffer (now (words .entry)) word ⌝ }
+    ensures written { λ r. ⌜ written r (now (words .exit)) ≡ playBuffer (now (words .entry)) word ⌝ }
 {
     if words.len() != 13441 {
         return Answer::WrongLength;
@@ -34,7 +34,7 @@ pub fn play(words: &mut [u32], word: u32) -> Answer
 
 // Writes the answer's number to place i, if there is one.
 fn note(answers: &mut [u8], i: usize, answer: Answer)
-    ensures { λ _. ⌜ now (answers .exit) ≡ set (now (answers .entry)) i (numberOf answer) ⌝ }
+    ensures answer { λ _. ⌜ now (answers .exit) ≡ set (now (answers .entry)) i (numberOf answer) ⌝ }
 {
     if i < answers.len() {
         answers[i] = answers::number(answer) as u8;
@@ -43,8 +43,9 @@ fn note(answers: &mut [u8], i: usize, answer: Answer)
 
 // Plays each word on what the one before left.
 fn play_each(words: &mut [u32], script: &[u32], answers: &mut [u8])
-    requires { ⌜ readsAsRing (now words) ≡ true ⌝ }
-    ensures { λ _. ⌜ PlayedUpTo (length (now (script .entry))) (now (words .entry)) (now (script .entry)) (now (answers .entry)) (now (words .exit)) (now (answers .exit)) ⌝ }
+    requires ring { ⌜ readsAsRing (now words) ≡ true ⌝ }
+    ensures played { λ _. ⌜ PlayedUpTo (length (now (script .entry))) (now (words .entry)) (now (script .entry))
+        (now (answers .entry)) (now (words .exit)) (now (answers .exit)) ⌝ }
 {
     for i in 0..script.len() {
         let answer = event_play::play_word(words, script[i]);
@@ -52,7 +53,8 @@ fn play_each(words: &mut [u32], script: &[u32], answers: &mut [u8])
     }
 }
 
-// Opens a ring and plays a list of words on it. Each answer's number is written to its place, those past the places are dropped.
+// Opens a ring and plays a list of words on it. Each answer's number is written to its place; those past the places
+// are dropped.
 pub fn replay(
     words: &mut [u32],
     leaf: u32,
@@ -60,7 +62,8 @@ pub fn replay(
     script: &[u32],
     answers: &mut [u8],
 ) -> Answer
-    ensures { λ r. ⌜ Replayed (now (words .entry)) (tableOf leaf (now (keys .entry))) (now (script .entry)) (now (answers .entry)) r (now (words .exit)) (now (answers .exit)) ⌝ }
+    ensures replayed { λ r. ⌜ Replayed (now (words .entry)) (tableOf leaf (now (keys .entry))) (now (script .entry))
+        (now (answers .entry)) r (now (words .exit)) (now (answers .exit)) ⌝ }
 {
     let opened = open(words, leaf, keys);
     if answers::number(opened) != 0 {

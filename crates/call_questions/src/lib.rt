@@ -31,7 +31,8 @@ pub struct GroupsAnswer {
 
 // "The leafset question is about one stand's leafset in its held set"
 pub fn leafset_of(words: &[u32], x: NodeNumber) -> LeafsetAnswer
-    ensures { λ r. ⌜ (r .answer ≡ leafsetAnswer (now (words .entry)) (x .0)) × (r .set ≡ leafsetOf (now (words .entry)) (x .0)) ⌝ }
+    ensures answer { λ r. ⌜ r .answer ≡ leafsetAnswer (now (words .entry)) (x .0) ⌝ }
+    ensures set { λ r. ⌜ r .set ≡ leafsetOf (now (words .entry)) (x .0) ⌝ }
 {
     let answer = call_refusals::of_nodes(words, x, x);
     if answers::number(answer) != 0 {
@@ -45,7 +46,8 @@ pub fn leafset_of(words: &[u32], x: NodeNumber) -> LeafsetAnswer
 
 // "The connection question is about two stands, which may be the same one."
 pub fn connected(words: &[u32], a: NodeNumber, b: NodeNumber) -> ConnectionAnswer
-    ensures { λ r. ⌜ (r .answer ≡ connectionAnswer (now (words .entry)) (a .0) (b .0)) × (r .connected ≡ connectionOf (now (words .entry)) (a .0) (b .0)) ⌝ }
+    ensures answer { λ r. ⌜ r .answer ≡ connectionAnswer (now (words .entry)) (a .0) (b .0) ⌝ }
+    ensures connected { λ r. ⌜ r .connected ≡ connectionOf (now (words .entry)) (a .0) (b .0) ⌝ }
 {
     let answer = call_refusals::of_nodes(words, a, b);
     if answers::number(answer) != 0 {
@@ -63,7 +65,8 @@ pub fn connected(words: &[u32], a: NodeNumber, b: NodeNumber) -> ConnectionAnswe
 
 // "the number of connected groups of running stands"
 pub fn groups(words: &[u32]) -> GroupsAnswer
-    ensures { λ r. ⌜ (r .answer ≡ groupsAnswer (now (words .entry))) × (r .groups ≡ groupsOf (now (words .entry))) ⌝ }
+    ensures answer { λ r. ⌜ r .answer ≡ groupsAnswer (now (words .entry)) ⌝ }
+    ensures groups { λ r. ⌜ r .groups ≡ groupsOf (now (words .entry)) ⌝ }
 {
     let answer = call_refusals::of_words(words);
     if answers::number(answer) != 0 {
@@ -78,8 +81,11 @@ pub fn groups(words: &[u32]) -> GroupsAnswer
 
 // The leafset of node x in its held set.
 fn held_leafset(words: &[u32], x: NodeNumber) -> u64
-    requires { ⌜ (readsAsRing (now words) ≡ true) × (x .0 < model.size (decodeTable (now words))) ⌝ }
-    ensures { λ r. ⌜ r ≡ toBits 64 (model.leafset (decode (now (words .entry)) .table) (x .0) (holds (decode (now (words .entry))) (x .0))) ⌝ }
+    requires ring { ⌜ readsAsRing (now words) ≡ true ⌝ }
+    requires bounds { ⌜ x .0 < model.size (decodeTable (now words)) ⌝ }
+    ensures value { λ r. ⌜ r
+        ≡ toBits 64
+        (model.leafset (decode (now (words .entry)) .table) (x .0) (holds (decode (now (words .entry))) (x .0))) ⌝ }
 {
     let n = ring_head::nodes(words);
     let keys = ring_head::keys(words, n);

@@ -10,7 +10,7 @@ use model::values::NodeNumber;
 
 // 1 and 6, which every question begins with.
 pub fn of_words(words: &[u32]) -> Answer
-    ensures { λ r. ⌜ r ≡ groupsAnswer (now (words .entry)) ⌝ }
+    ensures answer { λ r. ⌜ r ≡ groupsAnswer (now (words .entry)) ⌝ }
 {
     if words.len() != 13441 {
         return Answer::WrongLength;
@@ -23,8 +23,8 @@ pub fn of_words(words: &[u32]) -> Answer
 
 // 7 for either node, then 8 for either.
 fn of_ring(words: &[u32], a: NodeNumber, b: NodeNumber) -> Answer
-    requires { ⌜ readsAsRing (now words) ≡ true ⌝ }
-    ensures { λ r. ⌜ r ≡ firstOf (nodesRefusals (decode (now (words .entry))) (a .0) (b .0)) ⌝ }
+    requires ring { ⌜ readsAsRing (now words) ≡ true ⌝ }
+    ensures answer { λ r. ⌜ r ≡ firstOf (nodesRefusals (decode (now (words .entry))) (a .0) (b .0)) ⌝ }
 {
     let n = ring_head::nodes(words);
     if n <= a.0 as usize {
@@ -41,7 +41,7 @@ fn of_ring(words: &[u32], a: NodeNumber, b: NodeNumber) -> Answer
 
 // Those of a question about two nodes, or about one, named twice.
 pub fn of_nodes(words: &[u32], a: NodeNumber, b: NodeNumber) -> Answer
-    ensures { λ r. ⌜ r ≡ connectionAnswer (now (words .entry)) (a .0) (b .0) ⌝ }
+    ensures answer { λ r. ⌜ r ≡ connectionAnswer (now (words .entry)) (a .0) (b .0) ⌝ }
 {
     let answer = of_words(words);
     if answers::number(answer) != 0 {

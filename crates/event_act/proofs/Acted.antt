@@ -12,7 +12,7 @@ use Rattle.model.specs.Play.{setMessages}
 use Rattle.model.specs.Structs.{ownOf, messageOf}
 use Rattle.model.specs.declared.answer.Answer.the-variants.{Accepted, PoolFull}
 use Rattle.sets.proofs.Members.{length-members}
-use Rattle.ring_head.specs.Parts.{Is, update, stepped}
+use Rattle.ring_head.specs.Parts.{Encodes, update, stepped}
 use Rattle.records.specs.Effects.{replyEffect}
 use Rattle.records.specs.declared.effect.Reply.{Reply}
 use Rattle.answers.specs.Applied.{written, acted, applied}
@@ -27,7 +27,7 @@ module _ (x time : ℕ) (ρ : Ring) (now : time ≡ ρ .node x .clock + 1) where
   acted-reply r s = rw (now, s)
 
 -- a message to each node of a set, after the m messages: too many, or not
-module _ (ws : List ℕ) {n m : ℕ} {ρ : Ring} (is : Is ws n m ρ) (x : ℕ) (o : Own) (make : ℕ → Message) (to : ℕ) where
+module _ (ws : List ℕ) {n m : ℕ} {ρ : Ring} (is : Encodes ws n m ρ) (x : ℕ) (o : Own) (make : ℕ → Message) (to : ℕ) where
   abbrev effect : Effect
   effect = record { own = o; sent = map make (members 64 (ofBits to)) }
 
@@ -37,7 +37,7 @@ module _ (ws : List ℕ) {n m : ℕ} {ρ : Ring} (is : Is ws n m ρ) (x : ℕ) (
   pub each-full : 1024 < m + count 64 (ofBits to) → written PoolFull ws ≡ applied ws (acted x effect ρ)
   each-full h = applied-full ws (acted x effect ρ) (omega (arith, many))
 
-  pub each-room : {ws' : List ℕ} {k time : ℕ} → Is ws' n k (setMessages (ρ .messages ++ effect .sent) (update x (stepped time o) ρ))
+  pub each-room : {ws' : List ℕ} {k time : ℕ} → Encodes ws' n k (setMessages (ρ .messages ++ effect .sent) (update x (stepped time o) ρ))
       → time ≡ ρ .node x .clock + 1 → m + count 64 (ofBits to) ≤ 1024 → written Accepted ws' ≡ applied ws (acted x effect ρ)
   each-room {time = time} done now h =
       let same : setMessages (ρ .messages ++ effect .sent) (update x (stepped time o) ρ) ≡ acted x effect ρ = rw now in

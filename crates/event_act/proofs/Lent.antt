@@ -13,7 +13,7 @@ use Rattle.model.specs.Play.{act}
 use Rattle.model.specs.Structs.{tableOf, ownOf, RoomNode, RoomMessage}
 use Rattle.model.specs.declared.answer.Answer.{Answer}
 use Rattle.leafset.specs.Table.{InTable}
-use Rattle.ring_head.specs.Parts.{Is}
+use Rattle.ring_head.specs.Parts.{Encodes}
 use Rattle.ring_head.proofs.ReadRing.{read-is}
 use Rattle.records.specs.Effects.{OwnFits, Replies, CallsEach}
 use Rattle.records.specs.declared.effect.Calls.{Calls}
@@ -63,7 +63,7 @@ module _ {ws : List ℕ} {x : ℕ} {a : Actor} (is : IsActor ws x a) where
 
     -- the effect of a step, once written, is what the node's act leaves
     pub acts : {r : Answer} {ws' : List ℕ} (step : ℕ → Own → Effect) (e : Effect)
-        → ((ρ : Ring) → Is ws (a .n) (a .m) ρ → a .time .0 ≡ ρ .node x .clock + 1 → written r ws' ≡ applied ws (acted x e ρ))
+        → ((ρ : Ring) → Encodes ws (a .n) (a .m) ρ → a .time .0 ≡ ρ .node x .clock + 1 → written r ws' ≡ applied ws (acted x e ρ))
         → e ≡ step (a .time .0) (ownOf (a .own)) → written r ws' ≡ applied ws (act x step (decode ws))
     unfolding act
     acts step e f p =

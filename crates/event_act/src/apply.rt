@@ -7,7 +7,7 @@ ghost use Rattle.model.specs.Sets.{ofBits};
 ghost use Rattle.model.specs.Ring.{Ring};
 ghost use Rattle.model.specs.Words.{ringLength};
 ghost use Rattle.model.specs.Structs.{spareAt, RoomNode, RoomMessage};
-ghost use Rattle.ring_head.specs.Parts.{Is};
+ghost use Rattle.ring_head.specs.Parts.{Encodes};
 ghost use Rattle.records.specs.Effects.{replyEffect, callsEffect, requestsEffect};
 ghost use Rattle.answers.specs.Applied.{written, acted, applied};
 use model::answer::Answer;
@@ -26,9 +26,10 @@ pub fn reply(
     time: Stamp,
     reply: Reply,
 ) -> Answer
-    requires { ⌜ (length (now words) ≡ ringLength) × (n ≤ 64) × (x .0 < n) × (m ≤ 1024) × (time .0 < 2 ^ 24) ⌝ }
-    requires { ⌜ RoomNode (reply .own) × (reply .sends ≡ true → RoomMessage (reply .message)) ⌝ }
-    ensures { λ r. ⌜ ((ρ : Ring) → Is (now (words .entry)) n m ρ → time .0 ≡ ρ .node (x .0) .clock + 1 → written r (now (words .exit)) ≡ applied (now (words .entry)) (acted (x .0) (replyEffect reply) ρ)) ⌝ }
+    requires words { ⌜ (length (now words) ≡ ringLength) × (n ≤ 64) × (x .0 < n) × (m ≤ 1024) × (time .0 < 2 ^ 24) ⌝ }
+    requires record { ⌜ RoomNode (reply .own) × (reply .sends ≡ true → RoomMessage (reply .message)) ⌝ }
+    ensures written { λ r. ⌜ ((ρ : Ring) → Encodes (now (words .entry)) n m ρ → time .0 ≡ ρ .node (x .0) .clock + 1
+        → written r (now (words .exit)) ≡ applied (now (words .entry)) (acted (x .0) (replyEffect reply) ρ)) ⌝ }
 {
     let own = reply.own;
     if !reply.sends {
@@ -53,9 +54,10 @@ pub fn calls(
     time: Stamp,
     calls: Calls,
 ) -> Answer
-    requires { ⌜ (length (now words) ≡ ringLength) × (n ≤ 64) × (x .0 < n) × (m ≤ 1024) × (time .0 < 2 ^ 24) ⌝ }
-    requires { ⌜ RoomNode (calls .own) × (calls .tag < 2 ^ 4) ⌝ }
-    ensures { λ r. ⌜ ((ρ : Ring) → Is (now (words .entry)) n m ρ → time .0 ≡ ρ .node (x .0) .clock + 1 → written r (now (words .exit)) ≡ applied (now (words .entry)) (acted (x .0) (callsEffect (x .0) calls) ρ)) ⌝ }
+    requires words { ⌜ (length (now words) ≡ ringLength) × (n ≤ 64) × (x .0 < n) × (m ≤ 1024) × (time .0 < 2 ^ 24) ⌝ }
+    requires record { ⌜ RoomNode (calls .own) × (calls .tag < 2 ^ 4) ⌝ }
+    ensures written { λ r. ⌜ ((ρ : Ring) → Encodes (now (words .entry)) n m ρ → time .0 ≡ ρ .node (x .0) .clock + 1
+        → written r (now (words .exit)) ≡ applied (now (words .entry)) (acted (x .0) (callsEffect (x .0) calls) ρ)) ⌝ }
 {
     let own = calls.own;
     let to = calls.to;
@@ -77,9 +79,11 @@ pub fn requests(
     own: NodeRecord,
     to: u64,
 ) -> Answer
-    requires { ⌜ (length (now words) ≡ ringLength) × (n ≤ 64) × (x .0 < n) × (m ≤ 1024) × (time .0 < 2 ^ 24) ⌝ }
-    requires { ⌜ RoomNode own × ((z : ℕ) → ofBits to z ≡ true → spareAt own z < 64) ⌝ }
-    ensures { λ r. ⌜ ((ρ : Ring) → Is (now (words .entry)) n m ρ → time .0 ≡ ρ .node (x .0) .clock + 1 → written r (now (words .exit)) ≡ applied (now (words .entry)) (acted (x .0) (requestsEffect (x .0) (time .0) own to) ρ)) ⌝ }
+    requires words { ⌜ (length (now words) ≡ ringLength) × (n ≤ 64) × (x .0 < n) × (m ≤ 1024) × (time .0 < 2 ^ 24) ⌝ }
+    requires record { ⌜ RoomNode own × ((z : ℕ) → ofBits to z ≡ true → spareAt own z < 64) ⌝ }
+    ensures written { λ r. ⌜ ((ρ : Ring) → Encodes (now (words .entry)) n m ρ → time .0 ≡ ρ .node (x .0) .clock + 1
+        → written r (now (words .exit))
+        ≡ applied (now (words .entry)) (acted (x .0) (requestsEffect (x .0) (time .0) own to) ρ)) ⌝ }
 {
     let more = sets::size(to) as usize;
     if 1024 < m + more {

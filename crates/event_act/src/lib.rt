@@ -23,8 +23,8 @@ pub struct Actor {
 
 // Whether node x is in the table, runs, and has a clock that can rise: 7, 8 and 10.
 pub fn may_act(words: &[u32], x: NodeNumber) -> Answer
-    requires { ⌜ readsAsRing (now words) ≡ true ⌝ }
-    ensures { λ r. ⌜ r ≡ firstOf (mayAct (decode (now (words .entry))) (x .0)) ⌝ }
+    requires ring { ⌜ readsAsRing (now words) ≡ true ⌝ }
+    ensures answer { λ r. ⌜ r ≡ firstOf (mayAct (decode (now (words .entry))) (x .0)) ⌝ }
 {
     if ring_head::nodes(words) <= x.0 as usize {
         return Answer::OutOfTable;
@@ -40,8 +40,9 @@ pub fn may_act(words: &[u32], x: NodeNumber) -> Answer
 
 // Node x, which may act.
 pub fn load(words: &[u32], x: NodeNumber) -> Actor
-    requires { ⌜ (readsAsRing (now words) ≡ true) × (firstOf (mayAct (decode (now words)) (x .0)) ≡ Accepted) ⌝ }
-    ensures { λ r. ⌜ IsActor (now (words .entry)) (x .0) r ⌝ }
+    requires ring { ⌜ readsAsRing (now words) ≡ true ⌝ }
+    requires actor { ⌜ firstOf (mayAct (decode (now words)) (x .0)) ≡ Accepted ⌝ }
+    ensures actor { λ r. ⌜ IsActor (now (words .entry)) (x .0) r ⌝ }
 {
     let n = ring_head::nodes(words);
     let m = ring_head::messages(words);

@@ -19,7 +19,7 @@ use Rattle.model.specs.declared.answer.Answer.the-variants.{Accepted, OutOfTabl
 use Rattle.model.specs.declared.event.Event.{Event}
 use Rattle.model.proofs.Answers.{none-applies}
 use Rattle.model.proofs.Lists.{first, rest}
-use Rattle.ring_head.specs.Parts.{Is}
+use Rattle.ring_head.specs.Parts.{Encodes}
 use Rattle.records.specs.Effects.{replyEffect, Replies}
 use Rattle.records.specs.declared.effect.Reply.{Reply}
 use Rattle.answers.specs.Applied.{written, eventOn, acted, applied}
@@ -61,7 +61,7 @@ module _ (ws : List ℕ) (x y : ℕ) {answer : Answer} (asked : answer ≡ first
     -- the event e, which is this step of node x, once its effect is written
     pub met : readsAsRing ws ≡ true → (e : Event) → refusals (decode ws) e ≡ mayMeet (decode ws) x y
         → (step : ℕ → Own → Effect) → after (decode ws) e ≡ act x step (decode ws) → {r : Answer} {ws' : List ℕ} {reply : Reply}
-        → ((ρ : Ring) → Is ws (a .n) (a .m) ρ → a .time .0 ≡ ρ .node x .clock + 1 → written r ws' ≡ applied ws (acted x (replyEffect reply) ρ))
+        → ((ρ : Ring) → Encodes ws (a .n) (a .m) ρ → a .time .0 ≡ ρ .node x .clock + 1 → written r ws' ≡ applied ws (acted x (replyEffect reply) ρ))
         → Replies (a .n) reply (step (a .time .0) (ownOf (a .own))) → written r ws' ≡ eventOn ws e
     met reads e same step leaves {reply = reply} f one =
         acts is reads step (replyEffect reply) f (one .effect) ∙ ap (applied ws) (sym leaves) ∙ event-passed ws e (ap firstOf same ∙ ok)

@@ -12,8 +12,8 @@ use model::values::NodeNumber;
 
 // Whether x may act on y: y is in the table too.
 fn may_meet(words: &[u32], x: NodeNumber, y: NodeNumber) -> Answer
-    requires { ⌜ readsAsRing (now words) ≡ true ⌝ }
-    ensures { λ r. ⌜ r ≡ firstOf (mayMeet (decode (now (words .entry))) (x .0) (y .0)) ⌝ }
+    requires ring { ⌜ readsAsRing (now words) ≡ true ⌝ }
+    ensures answer { λ r. ⌜ r ≡ firstOf (mayMeet (decode (now (words .entry))) (x .0) (y .0)) ⌝ }
 {
     if ring_head::nodes(words) <= y.0 as usize {
         return Answer::OutOfTable;
@@ -22,8 +22,8 @@ fn may_meet(words: &[u32], x: NodeNumber, y: NodeNumber) -> Answer
 }
 
 pub fn contact(words: &mut [u32], x: NodeNumber, y: NodeNumber) -> Answer
-    requires { ⌜ readsAsRing (now words) ≡ true ⌝ }
-    ensures { λ r. ⌜ written r (now (words .exit)) ≡ eventOn (now (words .entry)) (Contact x y) ⌝ }
+    requires ring { ⌜ readsAsRing (now words) ≡ true ⌝ }
+    ensures written { λ r. ⌜ written r (now (words .exit)) ≡ eventOn (now (words .entry)) (Contact x y) ⌝ }
 {
     let answer = may_meet(words, x, y);
     if answers::number(answer) != 0 {
@@ -35,8 +35,8 @@ pub fn contact(words: &mut [u32], x: NodeNumber, y: NodeNumber) -> Answer
 }
 
 pub fn notice(words: &mut [u32], x: NodeNumber, z: NodeNumber) -> Answer
-    requires { ⌜ readsAsRing (now words) ≡ true ⌝ }
-    ensures { λ r. ⌜ written r (now (words .exit)) ≡ eventOn (now (words .entry)) (Notice x z) ⌝ }
+    requires ring { ⌜ readsAsRing (now words) ≡ true ⌝ }
+    ensures written { λ r. ⌜ written r (now (words .exit)) ≡ eventOn (now (words .entry)) (Notice x z) ⌝ }
 {
     let answer = may_meet(words, x, z);
     if answers::number(answer) != 0 {

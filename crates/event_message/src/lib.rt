@@ -22,8 +22,8 @@ use records::effect::Reply;
 
 // "Delivery takes the message out first; to a stand that is off, nothing else happens."
 pub fn deliver(words: &mut [u32], position: u16) -> Answer
-    requires { ⌜ readsAsRing (now words) ≡ true ⌝ }
-    ensures { λ r. ⌜ written r (now (words .exit)) ≡ eventOn (now (words .entry)) (Deliver position) ⌝ }
+    requires ring { ⌜ readsAsRing (now words) ≡ true ⌝ }
+    ensures written { λ r. ⌜ written r (now (words .exit)) ≡ eventOn (now (words .entry)) (Deliver position) ⌝ }
 {
     let m = ring_head::messages(words);
     let k = position as usize;
@@ -45,8 +45,11 @@ pub fn deliver(words: &mut [u32], position: u16) -> Answer
 
 // The message at position k, at its receiver, which may act.
 fn receive(words: &mut [u32], k: usize, message: MessageRecord) -> Answer
-    requires { ⌜ (readsAsRing (now words) ≡ true) × (k < length (decode (now words) .messages)) × LoadedMessage (now words) k message × (firstOf (mayAct (decode (now words)) (message .receiver .0)) ≡ Accepted) ⌝ }
-    ensures { λ r. ⌜ written r (now (words .exit)) ≡ applied (now (words .entry)) (after (decode (now (words .entry))) (Deliver k)) ⌝ }
+    requires ring { ⌜ (readsAsRing (now words) ≡ true) × (k < length (decode (now words) .messages))
+        × LoadedMessage (now words) k message
+        × (firstOf (mayAct (decode (now words)) (message .receiver .0)) ≡ Accepted) ⌝ }
+    ensures written { λ r. ⌜ written r (now (words .exit))
+        ≡ applied (now (words .entry)) (after (decode (now (words .entry))) (Deliver k)) ⌝ }
 {
     let y = message.receiver;
     let actor = event_act::load(words, y);
@@ -57,8 +60,11 @@ fn receive(words: &mut [u32], k: usize, message: MessageRecord) -> Answer
 
 // The step of the message, by its receiver.
 fn step(words: &[u32], actor: Actor, message: MessageRecord) -> Reply
-    requires { ⌜ (readsAsRing (now words) ≡ true) × IsActor (now words) (message .receiver .0) actor × Delivered (actor .n) message ⌝ }
-    ensures { λ r. ⌜ Replies (actor .n) r (steps.deliver (decode (now (words .entry)) .table) (message .receiver .0) (actor .time .0) (ownOf (actor .own)) (messageOf message)) ⌝ }
+    requires ring { ⌜ (readsAsRing (now words) ≡ true) × IsActor (now words) (message .receiver .0) actor
+        × Delivered (actor .n) message ⌝ }
+    ensures effect { λ r. ⌜ Replies (actor .n) r
+        (steps.deliver (decode (now (words .entry)) .table) (message .receiver .0) (actor .time .0) (ownOf (actor .own))
+        (messageOf message)) ⌝ }
 {
     let n = actor.n;
     let leaf = ring_head::leaf(words);
@@ -74,8 +80,8 @@ fn step(words: &[u32], actor: Actor, message: MessageRecord) -> Reply
 }
 
 pub fn lose(words: &mut [u32], position: u16) -> Answer
-    requires { ⌜ readsAsRing (now words) ≡ true ⌝ }
-    ensures { λ r. ⌜ written r (now (words .exit)) ≡ eventOn (now (words .entry)) (Lose position) ⌝ }
+    requires ring { ⌜ readsAsRing (now words) ≡ true ⌝ }
+    ensures written { λ r. ⌜ written r (now (words .exit)) ≡ eventOn (now (words .entry)) (Lose position) ⌝ }
 {
     let m = ring_head::messages(words);
     let k = position as usize;

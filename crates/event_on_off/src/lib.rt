@@ -10,8 +10,8 @@ use model::values::NodeNumber;
 use model::values::Stamp;
 
 pub fn on(words: &mut [u32], x: NodeNumber) -> Answer
-    requires { ⌜ readsAsRing (now words) ≡ true ⌝ }
-    ensures { λ r. ⌜ written r (now (words .exit)) ≡ eventOn (now (words .entry)) (On x) ⌝ }
+    requires ring { ⌜ readsAsRing (now words) ≡ true ⌝ }
+    ensures written { λ r. ⌜ written r (now (words .exit)) ≡ eventOn (now (words .entry)) (On x) ⌝ }
 {
     if ring_head::nodes(words) <= x.0 as usize {
         return Answer::OutOfTable;
@@ -28,8 +28,8 @@ pub fn on(words: &mut [u32], x: NodeNumber) -> Answer
 }
 
 pub fn off(words: &mut [u32], x: NodeNumber) -> Answer
-    requires { ⌜ readsAsRing (now words) ≡ true ⌝ }
-    ensures { λ r. ⌜ written r (now (words .exit)) ≡ eventOn (now (words .entry)) (Off x) ⌝ }
+    requires ring { ⌜ readsAsRing (now words) ≡ true ⌝ }
+    ensures written { λ r. ⌜ written r (now (words .exit)) ≡ eventOn (now (words .entry)) (Off x) ⌝ }
 {
     let n = ring_head::nodes(words);
     if n <= x.0 as usize {

@@ -10,8 +10,8 @@ use model::event::Reading;
 
 // The event, by its function: 7 to 11.
 pub fn play_event(words: &mut [u32], e: Event) -> Answer
-    requires { ⌜ readsAsRing (now words) ≡ true ⌝ }
-    ensures { λ r. ⌜ written r (now (words .exit)) ≡ eventOn (now (words .entry)) e ⌝ }
+    requires ring { ⌜ readsAsRing (now words) ≡ true ⌝ }
+    ensures written { λ r. ⌜ written r (now (words .exit)) ≡ eventOn (now (words .entry)) e ⌝ }
 {
     match e {
         Event::On(x) => event_on_off::on(words, x),
@@ -26,8 +26,8 @@ pub fn play_event(words: &mut [u32], e: Event) -> Answer
 
 // 4 and 5 of the word, then those of the event.
 pub fn play_word(words: &mut [u32], word: u32) -> Answer
-    requires { ⌜ readsAsRing (now words) ≡ true ⌝ }
-    ensures { λ r. ⌜ written r (now (words .exit)) ≡ playBuffer (now (words .entry)) word ⌝ }
+    requires ring { ⌜ readsAsRing (now words) ≡ true ⌝ }
+    ensures written { λ r. ⌜ written r (now (words .exit)) ≡ playBuffer (now (words .entry)) word ⌝ }
 {
     let reading = word_event::read_event(word);
     match reading {

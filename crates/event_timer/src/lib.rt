@@ -14,8 +14,8 @@ use model::values::NodeNumber;
 
 // Timer k at node x. Above 4 no timer has a step: only the clock rises.
 pub fn timer(words: &mut [u32], x: NodeNumber, k: u8) -> Answer
-    requires { ⌜ readsAsRing (now words) ≡ true ⌝ }
-    ensures { λ r. ⌜ written r (now (words .exit)) ≡ eventOn (now (words .entry)) (Timer x k) ⌝ }
+    requires ring { ⌜ readsAsRing (now words) ≡ true ⌝ }
+    ensures written { λ r. ⌜ written r (now (words .exit)) ≡ eventOn (now (words .entry)) (Timer x k) ⌝ }
 {
     let answer = event_act::may_act(words, x);
     if answers::number(answer) != 0 {
@@ -27,8 +27,10 @@ pub fn timer(words: &mut [u32], x: NodeNumber, k: u8) -> Answer
 
 // The step of timer k, by the node x, which may act.
 fn fire(words: &mut [u32], x: NodeNumber, k: u8, actor: Actor) -> Answer
-    requires { ⌜ (readsAsRing (now words) ≡ true) × IsActor (now words) (x .0) actor ⌝ }
-    ensures { λ r. ⌜ written r (now (words .exit)) ≡ applied (now (words .entry)) (after (decode (now (words .entry))) (Timer x k)) ⌝ }
+    requires ring { ⌜ readsAsRing (now words) ≡ true ⌝ }
+    requires actor { ⌜ IsActor (now words) (x .0) actor ⌝ }
+    ensures written { λ r. ⌜ written r (now (words .exit))
+        ≡ applied (now (words .entry)) (after (decode (now (words .entry))) (Timer x k)) ⌝ }
 {
     let n = actor.n;
     let m = actor.m;

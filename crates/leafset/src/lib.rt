@@ -17,8 +17,9 @@ use model::values::NodeNumber;
 
 // The limit below which the spans of the `leaf` nearest members lie.
 fn limit(keys: &[u32], leaf: u32, way: Way, from: Key, set: u64) -> u32
-    requires { ⌜ Within (length (now keys)) set × (leaf ≤ count 64 (ofBits set)) ⌝ }
-    ensures { λ r. ⌜ IsLimit leaf (ofBits set) (spanTo way (from .0) (now (keys .entry))) r ⌝ }
+    requires members { ⌜ Within (length (now keys)) set ⌝ }
+    requires enough { ⌜ leaf ≤ count 64 (ofBits set) ⌝ }
+    ensures limit { λ r. ⌜ IsLimit leaf (ofBits set) (spanTo way (from .0) (now (keys .entry))) r ⌝ }
 {
     let mut limit = 0;
     let mut left = set;
@@ -35,8 +36,9 @@ fn limit(keys: &[u32], leaf: u32, way: Way, from: Key, set: u64) -> u32
 
 // The members of the set whose span is below the limit.
 fn below(keys: &[u32], limit: u32, way: Way, from: Key, set: u64) -> u64
-    requires { ⌜ Within (length (now keys)) set ⌝ }
-    ensures { λ r. ⌜ ((y : ℕ) → ofBits r y ≡ (ofBits set y && ltb (spanTo way (from .0) (now (keys .entry)) y) limit)) ⌝ }
+    requires members { ⌜ Within (length (now keys)) set ⌝ }
+    ensures members { λ r. ⌜ ((y : ℕ)
+        → ofBits r y ≡ (ofBits set y && ltb (spanTo way (from .0) (now (keys .entry)) y) limit)) ⌝ }
 {
     let mut out = 0;
     let mut rest = set;
@@ -54,8 +56,10 @@ fn below(keys: &[u32], limit: u32, way: Way, from: Key, set: u64) -> u64
 
 // The `leaf` nearest members of the set.
 fn near(keys: &[u32], leaf: u32, way: Way, from: Key, set: u64) -> u64
-    requires { ⌜ Within (length (now keys)) set × (leaf ≤ count 64 (ofBits set)) ⌝ }
-    ensures { λ r. ⌜ ((y : ℕ) → ofBits r y ≡ (ofBits set y && isNear leaf (ofBits set) (spanTo way (from .0) (now (keys .entry))) y)) ⌝ }
+    requires members { ⌜ Within (length (now keys)) set ⌝ }
+    requires enough { ⌜ leaf ≤ count 64 (ofBits set) ⌝ }
+    ensures members { λ r. ⌜ ((y : ℕ)
+        → ofBits r y ≡ (ofBits set y && isNear leaf (ofBits set) (spanTo way (from .0) (now (keys .entry))) y)) ⌝ }
 {
     let limit = limit(keys, leaf, way, from, set);
     below(keys, limit, way, from, set)
@@ -64,8 +68,9 @@ fn near(keys: &[u32], leaf: u32, way: Way, from: Key, set: u64) -> u64
 // "take x out of S; if fewer than 2 times L are left, all of them; else the L nearest clockwise and the L nearest
 // counter-clockwise"
 pub fn leafset(keys: &[u32], leaf: u32, x: NodeNumber, set: u64) -> u64
-    requires { ⌜ InTable (now keys) (x .0) set × (leaf ≤ 8) ⌝ }
-    ensures { λ r. ⌜ r ≡ toBits 64 (model.leafset (tableOf leaf (now (keys .entry))) (x .0) (ofBits set)) ⌝ }
+    requires table { ⌜ InTable (now keys) (x .0) set ⌝ }
+    requires bounds { ⌜ leaf ≤ 8 ⌝ }
+    ensures value { λ r. ⌜ r ≡ toBits 64 (model.leafset (tableOf leaf (now (keys .entry))) (x .0) (ofBits set)) ⌝ }
 {
     let left = sets::without(set, x);
     if sets::size(left) < 2 * leaf {
@@ -79,8 +84,11 @@ pub fn leafset(keys: &[u32], leaf: u32, x: NodeNumber, set: u64) -> u64
 }
 
 pub fn outside(keys: &[u32], leaf: u32, me: NodeNumber, held: u64) -> u64
-    requires { ⌜ InTable (now keys) (me .0) held × (leaf ≤ 8) ⌝ }
-    ensures { λ r. ⌜ ofBits r ≡ (λ (z : ℕ). ofBits held z && not (model.leafset (tableOf leaf (now (keys .entry))) (me .0) (ofBits held) z)) ⌝ }
+    requires table { ⌜ InTable (now keys) (me .0) held ⌝ }
+    requires bounds { ⌜ leaf ≤ 8 ⌝ }
+    ensures members { λ r. ⌜ ofBits r
+        ≡
+        (λ (z : ℕ). ofBits held z && not (model.leafset (tableOf leaf (now (keys .entry))) (me .0) (ofBits held) z)) ⌝ }
 {
     sets::minus(held, leafset(keys, leaf, me, held))
 }

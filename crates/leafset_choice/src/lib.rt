@@ -15,8 +15,9 @@ use model::values::NodeNumber;
 
 // "a stand's successor is its held stand nearest clockwise"; none for a node that holds nobody
 pub fn successor(keys: &[u32], x: NodeNumber, held: u64) -> NodeNumber
-    requires { ⌜ InTable (now keys) (x .0) held ⌝ }
-    ensures { λ r. ⌜ ((leaf : ℕ) → r .0 ≡ model.successor (tableOf leaf (now (keys .entry))) (x .0) (ofBits held)) ⌝ }
+    requires table { ⌜ InTable (now keys) (x .0) held ⌝ }
+    ensures value { λ r. ⌜ ((leaf : ℕ)
+        → r .0 ≡ model.successor (tableOf leaf (now (keys .entry))) (x .0) (ofBits held)) ⌝ }
 {
     let at = x.0 as usize;
     leafset_nearest::nearest(keys, Way::Clockwise, Key(keys[at]), held)
@@ -25,8 +26,9 @@ pub fn successor(keys: &[u32], x: NodeNumber, held: u64) -> NodeNumber
 // "it passes zero when the stand's clockwise distance to key 0 is below that to the successor; one that holds nobody
 // doesn't pass zero"
 pub fn passes_zero(keys: &[u32], x: NodeNumber, held: u64) -> bool
-    requires { ⌜ InTable (now keys) (x .0) held ⌝ }
-    ensures { λ r. ⌜ ((leaf : ℕ) → r ≡ model.passesZero (tableOf leaf (now (keys .entry))) (x .0) (ofBits held)) ⌝ }
+    requires table { ⌜ InTable (now keys) (x .0) held ⌝ }
+    ensures value { λ r. ⌜ ((leaf : ℕ)
+        → r ≡ model.passesZero (tableOf leaf (now (keys .entry))) (x .0) (ofBits held)) ⌝ }
 {
     if held == 0 {
         return false;
@@ -41,8 +43,8 @@ pub fn passes_zero(keys: &[u32], x: NodeNumber, held: u64) -> bool
 // "the member of my leafset, other than a, nearest to a and strictly nearer to a than I am; of two equally near, the
 // clockwise one from a; else 64", at x
 pub fn closest(keys: &[u32], leaf: u32, x: NodeNumber, held: u64, a: NodeNumber) -> NodeNumber
-    requires { ⌜ InTable (now keys) (x .0) held × (leaf ≤ 8) × (a .0 < length (now keys)) ⌝ }
-    ensures { λ r. ⌜ r .0 ≡ model.closest (tableOf leaf (now (keys .entry))) (x .0) (ofBits held) (a .0) ⌝ }
+    requires table { ⌜ InTable (now keys) (x .0) held × (leaf ≤ 8) × (a .0 < length (now keys)) ⌝ }
+    ensures value { λ r. ⌜ r .0 ≡ model.closest (tableOf leaf (now (keys .entry))) (x .0) (ofBits held) (a .0) ⌝ }
 {
     let others = sets::without(leafset(keys, leaf, x, held), a);
     if others == 0 {

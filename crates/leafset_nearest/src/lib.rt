@@ -17,14 +17,14 @@ pub enum Way {
 
 // The clockwise distance. Every distance goes through it.
 pub fn clockwise(from: Key, to: Key) -> u32
-    ensures { λ r. ⌜ r ≡ clockwiseOf (from .0) (to .0) ⌝ }
+    ensures value { λ r. ⌜ r ≡ clockwiseOf (from .0) (to .0) ⌝ }
 {
     std::num::wrapping_sub_u32(to.0, from.0) % 16_777_216
 }
 
 // The smaller of the two distances between the keys.
 pub fn distance(from: Key, to: Key) -> u32
-    ensures { λ r. ⌜ r ≡ distanceOf (from .0) (to .0) ⌝ }
+    ensures value { λ r. ⌜ r ≡ distanceOf (from .0) (to .0) ⌝ }
 {
     let there = clockwise(from, to);
     let back = clockwise(to, from);
@@ -33,7 +33,7 @@ pub fn distance(from: Key, to: Key) -> u32
 
 // By distance; of two equally near, the clockwise one first.
 fn rank(from: Key, to: Key) -> u32
-    ensures { λ r. ⌜ r ≡ rankOf (from .0) (to .0) ⌝ }
+    ensures value { λ r. ⌜ r ≡ rankOf (from .0) (to .0) ⌝ }
 {
     let there = clockwise(from, to);
     let back = clockwise(to, from);
@@ -45,7 +45,7 @@ fn rank(from: Key, to: Key) -> u32
 }
 
 pub fn span(way: Way, from: Key, to: Key) -> u32
-    ensures { λ r. ⌜ r ≡ spanOf way (from .0) (to .0) ⌝ }
+    ensures value { λ r. ⌜ r ≡ spanOf way (from .0) (to .0) ⌝ }
 {
     match way {
         Way::Clockwise => clockwise(from, to),
@@ -59,8 +59,8 @@ const BEYOND: u32 = 33_554_432;
 
 // The member of the set nearest to the key, the lowest of those equally near, or none.
 pub fn nearest(keys: &[u32], way: Way, from: Key, set: u64) -> NodeNumber
-    requires { ⌜ Within (length (now keys)) set ⌝ }
-    ensures { λ r. ⌜ Found (ofBits set) (spanTo way (from .0) (now (keys .entry))) (r .0) ⌝ }
+    requires members { ⌜ Within (length (now keys)) set ⌝ }
+    ensures nearest { λ r. ⌜ Found (ofBits set) (spanTo way (from .0) (now (keys .entry))) (r .0) ⌝ }
 {
     let mut best = NodeNumber::NONE;
     let mut limit = BEYOND;

@@ -16,7 +16,10 @@ use model::values::NodeNumber;
 // Writes the initial ring of `leaf` and the keys.
 #[no_mangle]
 pub extern "C" fn mekvalgs_open(words: &mut [u32], leaf: u32, keys: &[u32]) -> u32
-    ensures { λ r. ⌜ (r ≡ numberOf (openBuffer (now (words .entry)) (tableOf leaf (now (keys .entry))) .answer)) × (now (words .exit) ≡ openBuffer (now (words .entry)) (tableOf leaf (now (keys .entry))) .words) ⌝ }
+    ensures answer { λ r. ⌜ r
+        ≡ numberOf (openBuffer (now (words .entry)) (tableOf leaf (now (keys .entry))) .answer) ⌝ }
+    ensures words { λ r. ⌜ now (words .exit)
+        ≡ openBuffer (now (words .entry)) (tableOf leaf (now (keys .entry))) .words ⌝ }
 {
     answers::number(open(words, leaf, keys))
 }
@@ -24,7 +27,8 @@ pub extern "C" fn mekvalgs_open(words: &mut [u32], leaf: u32, keys: &[u32]) -> u
 // Plays an event word.
 #[no_mangle]
 pub extern "C" fn mekvalgs_play(words: &mut [u32], word: u32) -> u32
-    ensures { λ r. ⌜ (r ≡ numberOf (playBuffer (now (words .entry)) word .answer)) × (now (words .exit) ≡ playBuffer (now (words .entry)) word .words) ⌝ }
+    ensures answer { λ r. ⌜ r ≡ numberOf (playBuffer (now (words .entry)) word .answer) ⌝ }
+    ensures words { λ r. ⌜ now (words .exit) ≡ playBuffer (now (words .entry)) word .words ⌝ }
 {
     answers::number(call_play::play(words, word))
 }
@@ -38,7 +42,11 @@ pub extern "C" fn mekvalgs_replay(
     script: &[u32],
     answers: &mut [u8],
 ) -> u32
-    ensures { λ r. ⌜ (r ≡ numberOf (openBuffer (now (words .entry)) (tableOf leaf (now (keys .entry))) .answer)) × Replayed (now (words .entry)) (tableOf leaf (now (keys .entry))) (now (script .entry)) (now (answers .entry)) (openBuffer (now (words .entry)) (tableOf leaf (now (keys .entry))) .answer) (now (words .exit)) (now (answers .exit)) ⌝ }
+    ensures answer { λ r. ⌜ r
+        ≡ numberOf (openBuffer (now (words .entry)) (tableOf leaf (now (keys .entry))) .answer) ⌝ }
+    ensures replayed { λ r. ⌜ Replayed (now (words .entry)) (tableOf leaf (now (keys .entry))) (now (script .entry))
+        (now (answers .entry)) (openBuffer (now (words .entry)) (tableOf leaf (now (keys .entry))) .answer)
+        (now (words .exit)) (now (answers .exit)) ⌝ }
 {
     answers::number(call_play::replay(words, leaf, keys, script, answers))
 }
@@ -46,7 +54,8 @@ pub extern "C" fn mekvalgs_replay(
 // The leafset of node x in its held set.
 #[no_mangle]
 pub extern "C" fn mekvalgs_leafset(words: &[u32], x: u32, set: &mut u64) -> u32
-    ensures { λ r. ⌜ (r ≡ numberOf (leafsetAnswer (now (words .entry)) x)) × (now (set .exit) ≡ leafsetOf (now (words .entry)) x) ⌝ }
+    ensures answer { λ r. ⌜ r ≡ numberOf (leafsetAnswer (now (words .entry)) x) ⌝ }
+    ensures set { λ r. ⌜ now (set .exit) ≡ leafsetOf (now (words .entry)) x ⌝ }
 {
     let asked = call_questions::leafset_of(words, node(x));
     *set = asked.set;
@@ -57,7 +66,8 @@ pub extern "C" fn mekvalgs_leafset(words: &[u32], x: u32, set: &mut u64) -> u32
 // Whether a and b are connected: 1, or 0.
 #[no_mangle]
 pub extern "C" fn mekvalgs_connected(words: &[u32], a: u32, b: u32, connected: &mut u32) -> u32
-    ensures { λ r. ⌜ (r ≡ numberOf (connectionAnswer (now (words .entry)) a b)) × (now (connected .exit) ≡ bit (connectionOf (now (words .entry)) a b)) ⌝ }
+    ensures answer { λ r. ⌜ r ≡ numberOf (connectionAnswer (now (words .entry)) a b) ⌝ }
+    ensures connected { λ r. ⌜ now (connected .exit) ≡ bit (connectionOf (now (words .entry)) a b) ⌝ }
 {
     let asked = call_questions::connected(words, node(a), node(b));
     *connected = asked.connected as u32;
@@ -68,7 +78,8 @@ pub extern "C" fn mekvalgs_connected(words: &[u32], a: u32, b: u32, connected: &
 // The number of groups.
 #[no_mangle]
 pub extern "C" fn mekvalgs_groups(words: &[u32], groups: &mut u32) -> u32
-    ensures { λ r. ⌜ (r ≡ numberOf (groupsAnswer (now (words .entry)))) × (now (groups .exit) ≡ groupsOf (now (words .entry))) ⌝ }
+    ensures answer { λ r. ⌜ r ≡ numberOf (groupsAnswer (now (words .entry))) ⌝ }
+    ensures groups { λ r. ⌜ now (groups .exit) ≡ groupsOf (now (words .entry)) ⌝ }
 {
     let asked = call_questions::groups(words);
     *groups = asked.groups;
@@ -84,7 +95,8 @@ pub extern "C" fn mekvalgs_read_event(
     first: &mut u32,
     second: &mut u32,
 ) -> u32
-    ensures { λ r. ⌜ (r ≡ numberOf (wordAnswer word)) × (numbers (now (kind .exit)) (now (first .exit)) (now (second .exit)) ≡ readParts word) ⌝ }
+    ensures answer { λ r. ⌜ r ≡ numberOf (wordAnswer word) ⌝ }
+    ensures parts { λ r. ⌜ numbers (now (kind .exit)) (now (first .exit)) (now (second .exit)) ≡ readParts word ⌝ }
 {
     let read = mekvalgs_event::read(word);
     let p = read.parts;
@@ -98,7 +110,8 @@ pub extern "C" fn mekvalgs_read_event(
 // The word of the event with that kind, node or position, and other node or timer.
 #[no_mangle]
 pub extern "C" fn mekvalgs_write_event(kind: u32, first: u32, second: u32, word: &mut u32) -> u32
-    ensures { λ r. ⌜ (r ≡ numberOf (partsAnswer (numbers kind first second))) × (now (word .exit) ≡ writeParts (numbers kind first second)) ⌝ }
+    ensures answer { λ r. ⌜ r ≡ numberOf (partsAnswer (numbers kind first second)) ⌝ }
+    ensures word { λ r. ⌜ now (word .exit) ≡ writeParts (numbers kind first second) ⌝ }
 {
     let written = mekvalgs_event::write(mekvalgs_event::make(kind, first, second));
     *word = written.word;
@@ -108,7 +121,7 @@ pub extern "C" fn mekvalgs_write_event(kind: u32, first: u32, second: u32, word:
 
 // The node of a number that may be too big for one: then 64, which is no node either.
 fn node(x: u32) -> NodeNumber
-    ensures { λ r. ⌜ r .0 ≡ nodeOf x ⌝ }
+    ensures value { λ r. ⌜ r .0 ≡ nodeOf x ⌝ }
 {
     if x < 64 {
         NodeNumber(x as u8)

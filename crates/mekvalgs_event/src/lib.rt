@@ -27,7 +27,8 @@ pub struct PartsRead {
 
 // The numbers of the event of a word, or refusal 4 or 5.
 pub fn read(word: u32) -> PartsRead
-    ensures { λ r. ⌜ (r .answer ≡ wordAnswer word) × (r .parts ≡ readParts word) ⌝ }
+    ensures answer { λ r. ⌜ r .answer ≡ wordAnswer word ⌝ }
+    ensures parts { λ r. ⌜ r .parts ≡ readParts word ⌝ }
 {
     let reading = read_event(word);
     match reading {
@@ -44,7 +45,8 @@ pub fn read(word: u32) -> PartsRead
 
 // The word of the event of the numbers, or refusal 4 or 5.
 pub fn write(p: Parts) -> Writing
-    ensures { λ r. ⌜ (r .answer ≡ partsAnswer p) × (r .word ≡ writeParts p) ⌝ }
+    ensures answer { λ r. ⌜ r .answer ≡ partsAnswer p ⌝ }
+    ensures word { λ r. ⌜ r .word ≡ writeParts p ⌝ }
 {
     if !fit(p) {
         return Writing {
@@ -57,7 +59,7 @@ pub fn write(p: Parts) -> Writing
 
 // The numbers of an event.
 fn of_event(e: Event) -> Parts
-    ensures { λ r. ⌜ r ≡ partsOf e ⌝ }
+    ensures value { λ r. ⌜ r ≡ partsOf e ⌝ }
 {
     match e {
         Event::On(x) => make(EventWord::ON, x.0 as u32, 0),
@@ -71,7 +73,7 @@ fn of_event(e: Event) -> Parts
 }
 
 pub fn make(kind: u32, first: u32, second: u32) -> Parts
-    ensures { λ r. ⌜ r ≡ numbers kind first second ⌝ }
+    ensures value { λ r. ⌜ r ≡ numbers kind first second ⌝ }
 {
     Parts {
         kind,
@@ -82,7 +84,7 @@ pub fn make(kind: u32, first: u32, second: u32) -> Parts
 
 // Whether the numbers are an event's.
 fn fit(p: Parts) -> bool
-    ensures { λ r. ⌜ r ≡ partsAre p ⌝ }
+    ensures value { λ r. ⌜ r ≡ partsAre p ⌝ }
 {
     let kind = p.kind;
     match kind {
@@ -96,8 +98,8 @@ fn fit(p: Parts) -> bool
 
 // The event of numbers that are one's.
 fn event(p: Parts) -> Event
-    requires { ⌜ partsAre p ≡ true ⌝ }
-    ensures { λ r. ⌜ r ≡ eventOfParts p ⌝ }
+    requires parts { ⌜ partsAre p ≡ true ⌝ }
+    ensures value { λ r. ⌜ r ≡ eventOfParts p ⌝ }
 {
     let kind = p.kind;
     match kind {

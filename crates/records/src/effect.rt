@@ -18,7 +18,7 @@ pub struct Reply {
 
 impl Reply {
     pub fn quiet(own: NodeRecord) -> Reply
-        ensures { λ r. ⌜ ((n : ℕ) (o : Own) → Owns n own o → Replies n r (record { own = o; sent = [] })) ⌝ }
+        ensures effect { λ r. ⌜ ((n : ℕ) (o : Own) → Owns n own o → Replies n r (record { own = o; sent = [] })) ⌝ }
     {
         Reply {
             own,
@@ -28,7 +28,8 @@ impl Reply {
     }
 
     pub fn sending(own: NodeRecord, message: MessageRecord) -> Reply
-        ensures { λ r. ⌜ ((n : ℕ) (o : Own) (x : Message) → Owns n own o → Says message x → Replies n r (record { own = o; sent = x ∷ [] })) ⌝ }
+        ensures effect { λ r. ⌜ ((n : ℕ) (o : Own) (x : Message) → Owns n own o → Says message x
+            → Replies n r (record { own = o; sent = x ∷ [] })) ⌝ }
     {
         Reply {
             own,

@@ -10,7 +10,8 @@ use model::values::NodeNumber;
 use model::values::Stamp;
 
 pub fn set_candidates(own: NodeRecord, set: u64) -> NodeRecord
-    ensures { λ r. ⌜ ((n : ℕ) → OwnFits n own → Within n set → Owns n r (steps.setCandidates (ofBits set) (ownOf own))) ⌝ }
+    ensures record { λ r. ⌜ ((n : ℕ) → OwnFits n own → Within n set
+        → Owns n r (steps.setCandidates (ofBits set) (ownOf own))) ⌝ }
 {
     let mut next = own;
     next.candidates = set;
@@ -18,21 +19,22 @@ pub fn set_candidates(own: NodeRecord, set: u64) -> NodeRecord
 }
 
 pub fn add_candidate(own: NodeRecord, y: NodeNumber) -> NodeRecord
-    requires { ⌜ y .0 < 64 ⌝ }
-    ensures { λ r. ⌜ ((n : ℕ) → OwnFits n own → y .0 < n → Owns n r (steps.addCandidate (y .0) (ownOf own))) ⌝ }
+    requires bounds { ⌜ y .0 < 64 ⌝ }
+    ensures record { λ r. ⌜ ((n : ℕ) → OwnFits n own → y .0 < n → Owns n r (steps.addCandidate (y .0) (ownOf own))) ⌝ }
 {
     set_candidates(own, sets::with(own.candidates, y))
 }
 
 pub fn add_candidates(own: NodeRecord, set: u64) -> NodeRecord
-    ensures { λ r. ⌜ ((n : ℕ) → OwnFits n own → Within n set → Owns n r (steps.addCandidates (ofBits set) (ownOf own))) ⌝ }
+    ensures record { λ r. ⌜ ((n : ℕ) → OwnFits n own → Within n set
+        → Owns n r (steps.addCandidates (ofBits set) (ownOf own))) ⌝ }
 {
     set_candidates(own, own.candidates | set)
 }
 
 pub fn set_commit(own: NodeRecord, z: NodeNumber, time: Stamp) -> NodeRecord
-    requires { ⌜ (z .0 < 64) × (time .0 < 2 ^ 24) × RoomNode own ⌝ }
-    ensures { λ r. ⌜ ((n : ℕ) → OwnFits n own → Owns n r (steps.setCommit (z .0) (time .0) (ownOf own))) ⌝ }
+    requires record { ⌜ (z .0 < 64) × (time .0 < 2 ^ 24) × RoomNode own ⌝ }
+    ensures record { λ r. ⌜ ((n : ℕ) → OwnFits n own → Owns n r (steps.setCommit (z .0) (time .0) (ownOf own))) ⌝ }
 {
     let at = z.0 as usize;
     let mut next = own;
@@ -41,8 +43,8 @@ pub fn set_commit(own: NodeRecord, z: NodeNumber, time: Stamp) -> NodeRecord
 }
 
 pub fn set_spare(own: NodeRecord, z: NodeNumber, y: NodeNumber) -> NodeRecord
-    requires { ⌜ (z .0 < 64) × (y .0 < 2 ^ 7) × RoomNode own ⌝ }
-    ensures { λ r. ⌜ ((n : ℕ) → OwnFits n own → Owns n r (steps.setSpare (z .0) (y .0) (ownOf own))) ⌝ }
+    requires record { ⌜ (z .0 < 64) × (y .0 < 2 ^ 7) × RoomNode own ⌝ }
+    ensures record { λ r. ⌜ ((n : ℕ) → OwnFits n own → Owns n r (steps.setSpare (z .0) (y .0) (ownOf own))) ⌝ }
 {
     let at = z.0 as usize;
     let mut next = own;
@@ -52,8 +54,16 @@ pub fn set_spare(own: NodeRecord, z: NodeNumber, y: NodeNumber) -> NodeRecord
 
 // The record with another held set, and with a commit stamp and no spare for z.
 fn set_held(own: NodeRecord, held: u64, z: NodeNumber, commit: Stamp) -> NodeRecord
-    requires { ⌜ (z .0 < 64) × (commit .0 < 2 ^ 24) × RoomNode own ⌝ }
-    ensures { λ r. ⌜ ((n : ℕ) → OwnFits n own → Within n held → Owns n r (record { held = ofBits held; candidates = ofBits (own .candidates); commit = put (stampAt own) (z .0) (commit .0); spare = put (spareAt own) (z .0) noneNode })) ⌝ }
+    requires record { ⌜ (z .0 < 64) × (commit .0 < 2 ^ 24) × RoomNode own ⌝ }
+    ensures record { λ r. ⌜ ((n : ℕ) → OwnFits n own → Within n held
+        → Owns n r
+        (record {
+          held = ofBits held;
+          candidates = ofBits (own .candidates);
+          commit = put (stampAt own) (z .0)
+              (commit .0);
+          spare = put (spareAt own) (z .0) noneNode;
+        })) ⌝ }
 {
     let at = z.0 as usize;
     let mut next = own;
@@ -65,8 +75,9 @@ fn set_held(own: NodeRecord, held: u64, z: NodeNumber, commit: Stamp) -> NodeRec
 
 // "if not held, it becomes held with commit now and no spare; if held, nothing changes"
 pub fn hold(own: NodeRecord, time: Stamp, y: NodeNumber) -> NodeRecord
-    requires { ⌜ (y .0 < 64) × (time .0 < 2 ^ 24) × RoomNode own ⌝ }
-    ensures { λ r. ⌜ ((n : ℕ) → OwnFits n own → y .0 < n → Owns n r (steps.hold (time .0) (y .0) (ownOf own))) ⌝ }
+    requires record { ⌜ (y .0 < 64) × (time .0 < 2 ^ 24) × RoomNode own ⌝ }
+    ensures record { λ r. ⌜ ((n : ℕ) → OwnFits n own → y .0 < n
+        → Owns n r (steps.hold (time .0) (y .0) (ownOf own))) ⌝ }
 {
     if sets::has(own.held, y) {
         return own;
@@ -76,8 +87,9 @@ pub fn hold(own: NodeRecord, time: Stamp, y: NodeNumber) -> NodeRecord
 
 // "held, stamp and spare are cleared"
 pub fn release(own: NodeRecord, z: NodeNumber) -> NodeRecord
-    requires { ⌜ (z .0 < 64) × RoomNode own ⌝ }
-    ensures { λ r. ⌜ ((n : ℕ) → OwnFits n own → Owns n r (steps.release (z .0) (ownOf own))) ⌝ }
+    requires bounds { ⌜ z .0 < 64 ⌝ }
+    requires record { ⌜ RoomNode own ⌝ }
+    ensures record { λ r. ⌜ ((n : ℕ) → OwnFits n own → Owns n r (steps.release (z .0) (ownOf own))) ⌝ }
 {
     set_held(own, sets::without(own.held, z), z, Stamp(0))
 }

@@ -16,8 +16,8 @@ use word_ring::PairWord;
 
 // The nodes that run.
 fn running(words: &[u32], n: usize) -> u64
-    requires { ⌜ (length (now words) ≡ ringLength) × (n ≡ size (decodeTable (now words))) × (n ≤ 64) ⌝ }
-    ensures { λ r. ⌜ ((x : ℕ) → ofBits r x ≡ isRunning (decode (now (words .entry))) x) ⌝ }
+    requires words { ⌜ (length (now words) ≡ ringLength) × (n ≡ size (decodeTable (now words))) × (n ≤ 64) ⌝ }
+    ensures members { λ r. ⌜ ((x : ℕ) → ofBits r x ≡ isRunning (decode (now (words .entry))) x) ⌝ }
 {
     let mut set = 0;
     for x in 0..n {
@@ -31,16 +31,19 @@ fn running(words: &[u32], n: usize) -> u64
 
 // Whether x holds z.
 fn holds(words: &[u32], x: NodeNumber, z: NodeNumber) -> bool
-    requires { ⌜ (length (now words) ≡ ringLength) × (x .0 < 64) × (z .0 < 64) ⌝ }
-    ensures { λ r. ⌜ r ≡ heldAt (now (words .entry)) (x .0) (z .0) ⌝ }
+    requires words { ⌜ (length (now words) ≡ ringLength) × (x .0 < 64) × (z .0 < 64) ⌝ }
+    ensures value { λ r. ⌜ r ≡ heldAt (now (words .entry)) (x .0) (z .0) ⌝ }
 {
     PairWord(words[129 + 2 * (64 * (x.0 as usize) + (z.0 as usize))]).held()
 }
 
 // The members of the set that x holds or that hold x.
 fn neighbours(words: &[u32], x: NodeNumber, set: u64) -> u64
-    requires { ⌜ (length (now words) ≡ ringLength) × (x .0 < 64) ⌝ }
-    ensures { λ r. ⌜ ((z : ℕ) → ofBits r z ≡ (ofBits set z && (heldAt (now (words .entry)) (x .0) z || heldAt (now (words .entry)) z (x .0)))) ⌝ }
+    requires length { ⌜ length (now words) ≡ ringLength ⌝ }
+    requires bounds { ⌜ x .0 < 64 ⌝ }
+    ensures members { λ r. ⌜ ((z : ℕ)
+        → ofBits r z
+        ≡ (ofBits set z && (heldAt (now (words .entry)) (x .0) z || heldAt (now (words .entry)) z (x .0)))) ⌝ }
 {
     let mut out = 0;
     let mut rest = set;
@@ -57,8 +60,10 @@ fn neighbours(words: &[u32], x: NodeNumber, set: u64) -> u64
 
 // The members of the set that are not connected to its member a.
 fn apart(words: &[u32], set: u64, a: NodeNumber) -> u64
-    requires { ⌜ (length (now words) ≡ ringLength) × Closed (decode (now words)) (ofBits set) × (ofBits set (a .0) ≡ true) ⌝ }
-    ensures { λ r. ⌜ ((b : ℕ) → ofBits r b ≡ (ofBits set b && not (model.connected (decode (now (words .entry))) (a .0) b))) ⌝ }
+    requires words { ⌜ (length (now words) ≡ ringLength) × Closed (decode (now words)) (ofBits set)
+        × (ofBits set (a .0) ≡ true) ⌝ }
+    ensures members { λ r. ⌜ ((b : ℕ)
+        → ofBits r b ≡ (ofBits set b && not (model.connected (decode (now (words .entry))) (a .0) b))) ⌝ }
 {
     let mut unseen = sets::without(set, a);
     let mut todo = sets::with(0, a);
@@ -73,8 +78,9 @@ fn apart(words: &[u32], set: u64, a: NodeNumber) -> u64
 
 // Whether a and b are connected.
 pub fn connected(words: &[u32], n: usize, a: NodeNumber, b: NodeNumber) -> bool
-    requires { ⌜ (length (now words) ≡ ringLength) × (n ≡ size (decodeTable (now words))) × (n ≤ 64) × (a .0 < n) × (b .0 < n) ⌝ }
-    ensures { λ r. ⌜ r ≡ model.connected (decode (now (words .entry))) (a .0) (b .0) ⌝ }
+    requires words { ⌜ (length (now words) ≡ ringLength) × (n ≡ size (decodeTable (now words))) × (n ≤ 64) × (a .0 < n)
+        × (b .0 < n) ⌝ }
+    ensures value { λ r. ⌜ r ≡ model.connected (decode (now (words .entry))) (a .0) (b .0) ⌝ }
 {
     let running = running(words, n);
     if !sets::has(running, a) {
@@ -85,8 +91,8 @@ pub fn connected(words: &[u32], n: usize, a: NodeNumber, b: NodeNumber) -> bool
 
 // "the number of connected groups of running stands"
 pub fn groups(words: &[u32], n: usize) -> u32
-    requires { ⌜ (length (now words) ≡ ringLength) × (n ≡ size (decodeTable (now words))) × (n ≤ 64) ⌝ }
-    ensures { λ r. ⌜ r ≡ model.groups (decode (now (words .entry))) ⌝ }
+    requires words { ⌜ (length (now words) ≡ ringLength) × (n ≡ size (decodeTable (now words))) × (n ≤ 64) ⌝ }
+    ensures value { λ r. ⌜ r ≡ model.groups (decode (now (words .entry))) ⌝ }
 {
     let mut groups = 0;
     let mut left = running(words, n);

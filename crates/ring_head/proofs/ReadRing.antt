@@ -15,7 +15,7 @@ use Rattle.model.proofs.Fields.{bits<}
 use Rattle.model.proofs.Laws.{getD-tabulate, beyond-tabulate}
 use Rattle.model.proofs.Words.{decoded-back}
 use Rattle.model.proofs.Decoded.{reads-well}
-use Rattle.ring_head.specs.Parts.{Is}
+use Rattle.ring_head.specs.Parts.{Encodes}
 use Rattle.ring_head.proofs.Decoded.{count-read}
 
 -- what words that read as a ring have of its sizes
@@ -40,7 +40,7 @@ module _ (ws : List ℕ) (e : readsAsRing ws ≡ true) where
       record { leaf-high = w .table-well .leaf-high; nodes-high = w .table-well .size-high; count-high = w .count-high }
 
   -- with the numbers that the code reads
-  pub read-is : (n m : ℕ) → n ≡ size (decodeTable ws) → m ≡ length (decode ws .messages) → Is ws n m (decode ws)
+  pub read-is : (n m : ℕ) → n ≡ size (decodeTable ws) → m ≡ length (decode ws .messages) → Encodes ws n m (decode ws)
   unfolding decode
   read-is n m p q =
       record {

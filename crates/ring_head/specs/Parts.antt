@@ -16,7 +16,7 @@ pub record RoomTable (t : Table) : Type 0 where
   pub key-room : (s : ℕ) → key t s < 2 ^ 24
 
 -- ws are the words of the ring ρ, of n nodes and m messages
-pub record Is (ws : List ℕ) (n m : ℕ) (ρ : Ring) : Type 0 where
+pub record Encodes (ws : List ℕ) (n m : ℕ) (ρ : Ring) : Type 0 where
   pub room : RoomTable (ρ .table)
   pub nodes : size (ρ .table) ≡ n
   pub count : length (ρ .messages) ≡ m

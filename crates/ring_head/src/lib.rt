@@ -12,40 +12,44 @@ use word_ring::KeyWord;
 
 // L.
 pub fn leaf(words: &[u32]) -> u32
-    requires { ⌜ length (now words) ≡ ringLength ⌝ }
-    ensures { λ r. ⌜ r ≡ decodeTable (now (words .entry)) .leaf ⌝ }
+    requires length { ⌜ length (now words) ≡ ringLength ⌝ }
+    ensures value { λ r. ⌜ r ≡ decodeTable (now (words .entry)) .leaf ⌝ }
 {
     HeadWord(words[0]).leaf()
 }
 
 // The number of nodes.
 pub fn nodes(words: &[u32]) -> usize
-    requires { ⌜ length (now words) ≡ ringLength ⌝ }
-    ensures { λ r. ⌜ (r ≡ size (decodeTable (now (words .entry)))) × (r < 2 ^ 7) ⌝ }
+    requires length { ⌜ length (now words) ≡ ringLength ⌝ }
+    ensures value { λ r. ⌜ r ≡ size (decodeTable (now (words .entry))) ⌝ }
+    ensures bound { λ r. ⌜ r < 2 ^ 7 ⌝ }
 {
     HeadWord(words[0]).nodes() as usize
 }
 
 // The number of messages in flight.
 pub fn messages(words: &[u32]) -> usize
-    requires { ⌜ length (now words) ≡ ringLength ⌝ }
-    ensures { λ r. ⌜ (r ≡ length (decode (now (words .entry)) .messages)) × (r < 2 ^ 11) ⌝ }
+    requires length { ⌜ length (now words) ≡ ringLength ⌝ }
+    ensures value { λ r. ⌜ r ≡ length (decode (now (words .entry)) .messages) ⌝ }
+    ensures bound { λ r. ⌜ r < 2 ^ 11 ⌝ }
 {
     HeadWord(words[0]).messages() as usize
 }
 
 // The key of node x.
 pub fn key(words: &[u32], x: NodeNumber) -> Key
-    requires { ⌜ (length (now words) ≡ ringLength) × (x .0 < size (decodeTable (now words))) ⌝ }
-    ensures { λ r. ⌜ r .0 ≡ model.key (decodeTable (now (words .entry))) (x .0) ⌝ }
+    requires length { ⌜ length (now words) ≡ ringLength ⌝ }
+    requires bounds { ⌜ x .0 < size (decodeTable (now words)) ⌝ }
+    ensures value { λ r. ⌜ r .0 ≡ model.key (decodeTable (now (words .entry))) (x .0) ⌝ }
 {
     KeyWord(words[1 + 2 * (x.0 as usize)]).key()
 }
 
 // The keys of the n nodes, node 0's first.
 pub fn keys(words: &[u32], n: usize) -> [u32; 64]
-    requires { ⌜ (length (now words) ≡ ringLength) × (n ≡ size (decodeTable (now words))) × (n ≤ 64) ⌝ }
-    ensures { λ r. ⌜ (length r ≡ 64) × (take n r ≡ decodeTable (now (words .entry)) .keys) ⌝ }
+    requires words { ⌜ (length (now words) ≡ ringLength) × (n ≡ size (decodeTable (now words))) × (n ≤ 64) ⌝ }
+    ensures places { λ r. ⌜ length r ≡ 64 ⌝ }
+    ensures keys { λ r. ⌜ take n r ≡ decodeTable (now (words .entry)) .keys ⌝ }
 {
     let mut keys = [0; 64];
     for x in 0..n {

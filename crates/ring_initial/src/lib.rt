@@ -15,8 +15,9 @@ use word_ring::KeyWord;
 
 // Writes the initial ring over any old words.
 pub fn write(words: &mut [u32], leaf: u32, keys: &[u32])
-    requires { ⌜ (length (now words) ≡ ringLength) × (leaf < 2 ^ 4) × (length (now keys) ≤ 64) × ((s : ℕ) → getD (now keys) s 0 < 2 ^ 24) ⌝ }
-    ensures { λ _. ⌜ now (words .exit) ≡ encode (initial (tableOf leaf (now (keys .entry)))) ⌝ }
+    requires words { ⌜ (length (now words) ≡ ringLength) × (leaf < 2 ^ 4) × (length (now keys) ≤ 64)
+        × ((s : ℕ) → getD (now keys) s 0 < 2 ^ 24) ⌝ }
+    ensures words { λ _. ⌜ now (words .exit) ≡ encode (initial (tableOf leaf (now (keys .entry)))) ⌝ }
 {
     let n = keys.len();
     ring_ranges::clear(words, 0, 13441);
@@ -27,8 +28,11 @@ pub fn write(words: &mut [u32], leaf: u32, keys: &[u32])
 
 // Writes the nodes' words.
 fn write_nodes(words: &mut [u32], keys: &[u32])
-    requires { ⌜ (length (now words) ≡ ringLength) × (length (now keys) ≤ 64) × ((s : ℕ) → getD (now keys) s 0 < 2 ^ 24) ⌝ }
-    ensures { λ _. ⌜ ((leaf : ℕ) → Patched (now (words .entry)) (now (words .exit)) (nodePlace 0) (nodePlace (length (now (keys .entry)))) (wordAt (initial (tableOf leaf (now (keys .entry)))))) ⌝ }
+    requires words { ⌜ (length (now words) ≡ ringLength) × (length (now keys) ≤ 64)
+        × ((s : ℕ) → getD (now keys) s 0 < 2 ^ 24) ⌝ }
+    ensures value { λ _. ⌜ ((leaf : ℕ)
+        → Patched (now (words .entry)) (now (words .exit)) (nodePlace 0) (nodePlace (length (now (keys .entry))))
+        (wordAt (initial (tableOf leaf (now (keys .entry)))))) ⌝ }
 {
     let clock = ClockWord::new(Stamp(0)).0;
     for s in 0..keys.len() {
@@ -40,8 +44,9 @@ fn write_nodes(words: &mut [u32], keys: &[u32])
 
 // Writes the words of the pairs of n nodes.
 fn write_pairs(words: &mut [u32], n: usize)
-    requires { ⌜ (length (now words) ≡ ringLength) × (n ≤ 64) ⌝ }
-    ensures { λ _. ⌜ Rows (now (words .entry)) (now (words .exit)) n n ⌝ }
+    requires length { ⌜ length (now words) ≡ ringLength ⌝ }
+    requires bounds { ⌜ n ≤ 64 ⌝ }
+    ensures value { λ _. ⌜ Rows (now (words .entry)) (now (words .exit)) n n ⌝ }
 {
     for x in 0..n {
         ring_pairs::clear(words, x, 0, x);

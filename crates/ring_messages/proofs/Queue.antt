@@ -18,7 +18,7 @@ use Rattle.model.specs.declared.message.MessageRecord.{MessageRecord}
 use Rattle.model.proofs.Fields.{field}
 use Rattle.model.proofs.Words.{message-at}
 use Rattle.sets.proofs.Bits.{toBits-ofBits}
-use Rattle.ring_head.specs.Parts.{Is, RoomTable}
+use Rattle.ring_head.specs.Parts.{Encodes, RoomTable}
 use Rattle.ring_head.proofs.Holds.{Holds, holds, head-at, messages-written}
 use Rattle.ring_ranges.specs.Spans.{Patched}
 
@@ -50,7 +50,7 @@ module _ (ms : List Message) (k : ℕ) (h : k < length ms) where
 abbrev pub counted : List ℕ → ℕ → List ℕ
 counted ws c = set ws 0 (headWord (bits 0 4 (getD ws 0 0)) (bits 4 7 (getD ws 0 0)) c)
 
-module _ (ρ : Ring) (ws : List ℕ) (n m : ℕ) (is : Is ws n m ρ) (few : m ≤ 1024) (c : ℕ) where
+module _ (ρ : Ring) (ws : List ℕ) (n m : ℕ) (is : Encodes ws n m ρ) (few : m ≤ 1024) (c : ℕ) where
   h : Holds ρ ws
   h = holds ρ ws (is .words)
 
@@ -83,7 +83,7 @@ module _ (ρ : Ring) (ws : List ℕ) (n m : ℕ) (is : Is ws n m ρ) (few : m �
 
 -- ---- taking one out: the count, the later messages moved down, the last one cleared
 
-module _ (ρ : Ring) (ws a v ws' : List ℕ) (n m k : ℕ) (few : m ≤ 1024) (h : k < m) (is : Is ws n m ρ)
+module _ (ρ : Ring) (ws a v ws' : List ℕ) (n m k : ℕ) (few : m ≤ 1024) (h : k < m) (is : Encodes ws n m ρ)
     (e : a ≡ counted ws (m - 1)) (p : Patched a v (messagePlace k) (8316 + 5 * m) (λ i. getD a (i + 5) 0))
     (u : Patched v ws' (8316 + 5 * m) (messagePlace m) (λ i. 0)) where
   s : Patched (counted ws (m - 1)) v (messagePlace k) (8316 + 5 * m) (λ i. getD (counted ws (m - 1)) (i + 5) 0)
@@ -110,7 +110,7 @@ module _ (ρ : Ring) (ws a v ws' : List ℕ) (n m k : ℕ) (few : m ≤ 1024) (h
       ∙ was ρ ws n m is few (m - 1) (j + 1) i (omega arith) hi
       ∙ ap (λ (x : Message). getD (messageWords x) i 0) (sym (less-high (ρ .messages) k (omega (arith, is .count)) j l))
 
-  pub removed : Is ws' n (m - 1) (removeMessage k ρ)
+  pub removed : Encodes ws' n (m - 1) (removeMessage k ρ)
   unfolding removeMessage out
   removed =
       let l : length out ≡ m - 1 = out-length in
@@ -147,7 +147,7 @@ five-words q a b c d e v pa pb pc pd pe i =
     let l : _≡_ {A = List ℕ} (a ∷ b ∷ c ∷ d ∷ e ∷ []) (messageWords (messageOf q)) = rw (toBits-ofBits 64 (q .view) v, pa, pb, pc, pd, pe, f, g) in
     ap (λ (w : List ℕ). getD w i 0) l
 
-module _ (ρ : Ring) (ws v ws' : List ℕ) (n m : ℕ) (x : Message) (f : ℕ → ℕ) (few : m < 1024) (is : Is ws n m ρ)
+module _ (ρ : Ring) (ws v ws' : List ℕ) (n m : ℕ) (x : Message) (f : ℕ → ℕ) (few : m < 1024) (is : Encodes ws n m ρ)
     (e : v ≡ counted ws (m + 1)) (p : Patched v ws' (messagePlace m) (messagePlace m + 5) (λ i. f (i - messagePlace m)))
     (w : (i : ℕ) → f i ≡ getD (messageWords x) i 0) where
   le : m ≤ 1024
@@ -166,7 +166,7 @@ module _ (ρ : Ring) (ws v ws' : List ℕ) (n m : ℕ) (x : Message) (f : ℕ �
       put .inside (messagePlace k + i) (omega arith) (omega arith) ∙ ap f d ∙ w i
       ∙ ap (λ (y : Message). getD (messageWords y) i 0) (sym (rw (r, getD-append-seam (ρ .messages) x [] blank)))
 
-  pub appended : Is ws' n (m + 1) (setMessages (ρ .messages ++ x ∷ []) ρ)
+  pub appended : Encodes ws' n (m + 1) (setMessages (ρ .messages ++ x ∷ []) ρ)
   appended =
       let l : length (ρ .messages ++ x ∷ []) ≡ m + 1 = more in
       record {

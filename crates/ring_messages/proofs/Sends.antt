@@ -14,7 +14,7 @@ use Rattle.model.proofs.Bits.{bit-below}
 use Rattle.sets.specs.Rest.{IsRest}
 use Rattle.sets.proofs.Members.{length-members, members-next}
 use Rattle.sets.proofs.Bits.{Rising, rising-rest, rising-first, rising-next, members-end}
-use Rattle.ring_head.specs.Parts.{Is}
+use Rattle.ring_head.specs.Parts.{Encodes}
 
 -- the messages of `make`, for each of a set
 abbrev pub toAll : (ℕ → Message) → ℕ → List Message
@@ -23,7 +23,7 @@ toAll make S = map make (members 64 (ofBits S))
 -- those for what is left of the set are still to come
 pub record Sent (ws : List ℕ) (n m : ℕ) (ρ : Ring) (make : ℕ → Message) (to rest : ℕ) : Type 0 where
   pub done : List Message
-  pub is : Is ws n m (setMessages done ρ)
+  pub is : Encodes ws n m (setMessages done ρ)
   pub all : done ++ toAll make rest ≡ ρ .messages ++ toAll make to
 
 pub record Sending (ws ws' : List ℕ) (m sent : ℕ) (make : ℕ → Message) (to rest : ℕ) : Type 0 where
@@ -31,7 +31,7 @@ pub record Sending (ws ws' : List ℕ) (m sent : ℕ) (make : ℕ → Message) (
   pub rising : Rising 64 rest
   pub part : (y : ℕ) → ofBits rest y ≡ true → ofBits to y ≡ true
   pub space : sent + length (members 64 (ofBits rest)) ≤ 1024
-  pub sends : (ρ : Ring) (n : ℕ) → Is ws n m ρ → Sent ws' n sent ρ make to rest
+  pub sends : (ρ : Ring) (n : ℕ) → Encodes ws n m ρ → Sent ws' n sent ρ make to rest
 
 pub send-none : (ws : List ℕ) (m : ℕ) (make : ℕ → Message) (to : ℕ) → length ws ≡ 13441 → to < 2 ^ 64 → m + count 64 (ofBits to) ≤ 1024 → Sending ws ws m m make to to
 send-none ws m make to l h c =
@@ -62,7 +62,7 @@ module _ (ws ws' : List ℕ) (m sent : ℕ) (make : ℕ → Message) (to rest : 
       next-length = ap length next
 
       pub send-more : (w : List ℕ) (x : Message) → length w ≡ 13441 → x ≡ make y
-          → ((ρ : Ring) (n : ℕ) → Is ws' n sent ρ → Is w n (sent + 1) (setMessages (ρ .messages ++ x ∷ []) ρ)) → Sending ws w m (sent + 1) make to r
+          → ((ρ : Ring) (n : ℕ) → Encodes ws' n sent ρ → Encodes w n (sent + 1) (setMessages (ρ .messages ++ x ∷ []) ρ)) → Sending ws w m (sent + 1) make to r
       send-more w x l e append =
           record {
             long = l;
@@ -81,7 +81,7 @@ module _ (ws ws' : List ℕ) (m sent : ℕ) (make : ℕ → Message) (to rest : 
           kept : (z : ℕ) → ofBits r z ≡ true → ofBits rest z ≡ true
           kept z t = and-left (ofBits rest z) (not (eqb z (lowest 64 (ofBits rest)))) (sym (ap (λ (S : Set). S z) (q .set)) ∙ t)
 
-  pub send-all : rest ≡ 0 → (ρ : Ring) (n : ℕ) → Is ws n m ρ → Is ws' n sent (setMessages (ρ .messages ++ toAll make to) ρ)
+  pub send-all : rest ≡ 0 → (ρ : Ring) (n : ℕ) → Encodes ws n m ρ → Encodes ws' n sent (setMessages (ρ .messages ++ toAll make to) ρ)
   send-all e ρ n is =
       let p = s .sends ρ n is in
       let a : p .done ≡ ρ .messages ++ toAll make to = sym (append-nil (p .done)) ∙ ap (λ (ys : List ℕ). p .done ++ map make ys) (sym (members-end e)) ∙ p .all in

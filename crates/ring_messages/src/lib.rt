@@ -12,7 +12,7 @@ ghost use Rattle.model.specs.Structs.{messageOf, RoomMessage, spareAt, RoomNode
 ghost use Rattle.model.specs.Sets.{ofBits, count, members};
 ghost use Rattle.model.specs.Steps as steps;
 ghost use Rattle.ring_messages.specs.Loaded.{LoadedMessage};
-ghost use Rattle.ring_head.specs.Parts.{Is};
+ghost use Rattle.ring_head.specs.Parts.{Encodes};
 use model::message::MessageRecord;
 use model::node::NodeRecord;
 use model::values::NodeNumber;
@@ -26,8 +26,9 @@ use word_ring::ViewWord;
 
 // The message at position k.
 pub fn load(words: &[u32], k: usize) -> MessageRecord
-    requires { ⌜ (length (now words) ≡ ringLength) × (k < 1024) ⌝ }
-    ensures { λ r. ⌜ LoadedMessage (now (words .entry)) k r ⌝ }
+    requires length { ⌜ length (now words) ≡ ringLength ⌝ }
+    requires bounds { ⌜ k < 1024 ⌝ }
+    ensures loaded { λ r. ⌜ LoadedMessage (now (words .entry)) k r ⌝ }
 {
     let at = 8321 + 5 * k;
     let first = MessageWord(words[at]);
@@ -45,7 +46,7 @@ pub fn load(words: &[u32], k: usize) -> MessageRecord
 
 // The view that three words have the parts of.
 fn view_of(low: u32, middle: u32, high: u32) -> u64
-    ensures { λ r. ⌜ r ≡ bits 0 24 low + 2 ^ 24 * bits 0 24 middle + 2 ^ 48 * bits 0 16 high ⌝ }
+    ensures value { λ r. ⌜ r ≡ bits 0 24 low + 2 ^ 24 * bits 0 24 middle + 2 ^ 48 * bits 0 16 high ⌝ }
 {
     (ViewWord(low).part() as u64)
         + 0x100_0000 * (ViewWord(middle).part() as u64)
@@ -54,8 +55,9 @@ fn view_of(low: u32, middle: u32, high: u32) -> u64
 
 // Takes the message at position k out of the m messages.
 pub fn remove(words: &mut [u32], m: usize, k: usize)
-    requires { ⌜ (length (now words) ≡ ringLength) × (m ≤ 1024) × (k < m) ⌝ }
-    ensures { λ _. ⌜ ((ρ : Ring) (n : ℕ) → Is (now (words .entry)) n m ρ → Is (now (words .exit)) n (m - 1) (removeMessage k ρ)) ⌝ }
+    requires words { ⌜ (length (now words) ≡ ringLength) × (m ≤ 1024) × (k < m) ⌝ }
+    ensures value { λ _. ⌜ ((ρ : Ring) (n : ℕ) → Encodes (now (words .entry)) n m ρ
+        → Encodes (now (words .exit)) n (m - 1) (removeMessage k ρ)) ⌝ }
 {
     set_count(words, m - 1);
     ring_ranges::move_down(words, 8321 + 5 * k, 8316 + 5 * m);
@@ -64,8 +66,9 @@ pub fn remove(words: &mut [u32], m: usize, k: usize)
 
 // Puts a message after the m messages.
 pub fn append(words: &mut [u32], m: usize, message: MessageRecord)
-    requires { ⌜ (length (now words) ≡ ringLength) × (m < 1024) × RoomMessage message ⌝ }
-    ensures { λ _. ⌜ ((ρ : Ring) (n : ℕ) → Is (now (words .entry)) n m ρ → Is (now (words .exit)) n (m + 1) (setMessages (ρ .messages ++ (messageOf message ∷ [])) ρ)) ⌝ }
+    requires words { ⌜ (length (now words) ≡ ringLength) × (m < 1024) × RoomMessage message ⌝ }
+    ensures value { λ _. ⌜ ((ρ : Ring) (n : ℕ) → Encodes (now (words .entry)) n m ρ
+        → Encodes (now (words .exit)) n (m + 1) (setMessages (ρ .messages ++ (messageOf message ∷ [])) ρ)) ⌝ }
 {
     set_count(words, m + 1);
     let at = 8321 + 5 * m;
@@ -83,15 +86,18 @@ pub fn append(words: &mut [u32], m: usize, message: MessageRecord)
 
 // The word of the lowest part of a view.
 fn view_word(view: u64) -> u32
-    ensures { λ r. ⌜ r ≡ viewWord (bits 0 24 view) ⌝ }
+    ensures value { λ r. ⌜ r ≡ viewWord (bits 0 24 view) ⌝ }
 {
     ViewWord::new((view % 0x100_0000) as u32).0
 }
 
 // Writes m as the number of messages.
 fn set_count(words: &mut [u32], m: usize)
-    requires { ⌜ (length (now words) ≡ ringLength) × (m ≤ 1024) ⌝ }
-    ensures { λ _. ⌜ now (words .exit) ≡ set (now (words .entry)) 0 (headWord (bits 0 4 (getD (now (words .entry)) 0 0)) (bits 4 7 (getD (now (words .entry)) 0 0)) m) ⌝ }
+    requires length { ⌜ length (now words) ≡ ringLength ⌝ }
+    requires bounds { ⌜ m ≤ 1024 ⌝ }
+    ensures words { λ _. ⌜ now (words .exit)
+        ≡ set (now (words .entry)) 0
+        (headWord (bits 0 4 (getD (now (words .entry)) 0 0)) (bits 4 7 (getD (now (words .entry)) 0 0)) m) ⌝ }
 {
     let head = HeadWord(words[0]);
     words[0] = HeadWord::new(head.leaf(), head.nodes(), m as u32).0;
@@ -99,8 +105,11 @@ fn set_count(words: &mut [u32], m: usize)
 
 // Sends a message of a type that uses nothing to each of the set, after the m messages. How many there are then.
 pub fn send_each(words: &mut [u32], m: usize, tag: u8, me: NodeNumber, to: u64) -> usize
-    requires { ⌜ (length (now words) ≡ ringLength) × (tag < 2 ^ 4) × (me .0 < 64) × (m + count 64 (ofBits to) ≤ 1024) ⌝ }
-    ensures { λ r. ⌜ ((ρ : Ring) (n : ℕ) → Is (now (words .entry)) n m ρ → Is (now (words .exit)) n r (setMessages (ρ .messages ++ map (steps.plain tag (me .0)) (members 64 (ofBits to))) ρ)) ⌝ }
+    requires words { ⌜ (length (now words) ≡ ringLength) × (tag < 2 ^ 4) × (me .0 < 64)
+        × (m + count 64 (ofBits to) ≤ 1024) ⌝ }
+    ensures value { λ r. ⌜ ((ρ : Ring) (n : ℕ) → Encodes (now (words .entry)) n m ρ
+        → Encodes (now (words .exit)) n r
+        (setMessages (ρ .messages ++ map (steps.plain tag (me .0)) (members 64 (ofBits to))) ρ)) ⌝ }
 {
     let mut sent = m;
     let mut rest = to;
@@ -122,9 +131,15 @@ pub fn send_requests(
     own: NodeRecord,
     to: u64,
 ) -> usize
-    requires { ⌜ (length (now words) ≡ ringLength) × (me .0 < 64) × (time .0 < 2 ^ 24) × (m + count 64 (ofBits to) ≤ 1024) ⌝ }
-    requires { ⌜ RoomNode own × ((z : ℕ) → ofBits to z ≡ true → spareAt own z < 64) ⌝ }
-    ensures { λ r. ⌜ ((ρ : Ring) (n : ℕ) → Is (now (words .entry)) n m ρ → Is (now (words .exit)) n r (setMessages (ρ .messages ++ map (λ z. steps.stamped steps.pingReplace (me .0) (spareAt own z) z (time .0)) (members 64 (ofBits to))) ρ)) ⌝ }
+    requires words { ⌜ (length (now words) ≡ ringLength) × (me .0 < 64) × (time .0 < 2 ^ 24)
+        × (m + count 64 (ofBits to) ≤ 1024) ⌝ }
+    requires record { ⌜ RoomNode own × ((z : ℕ) → ofBits to z ≡ true → spareAt own z < 64) ⌝ }
+    ensures value { λ r. ⌜ ((ρ : Ring) (n : ℕ) → Encodes (now (words .entry)) n m ρ
+        → Encodes (now (words .exit)) n r
+        (setMessages
+        (ρ .messages
+        ++ map (λ z. steps.stamped steps.pingReplace (me .0) (spareAt own z) z (time .0))
+        (members 64 (ofBits to))) ρ)) ⌝ }
 {
     let mut sent = m;
     let mut rest = to;

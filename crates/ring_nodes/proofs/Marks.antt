@@ -18,10 +18,10 @@ use Rattle.model.specs.Words.{keyWord, clockWord, nodeWords, pairWords, nodePla
 use Rattle.model.specs.Play.{setNode}
 use Rattle.model.proofs.Fields.{field}
 use Rattle.model.proofs.Words.{node-at, pair-at}
-use Rattle.ring_head.specs.Parts.{Is, update, setRunning, setClock}
+use Rattle.ring_head.specs.Parts.{Encodes, update, setRunning, setClock}
 use Rattle.ring_head.proofs.Holds.{Holds, holds, pair-yes, node-written}
 
-module _ (ρ : Ring) (ws : List ℕ) (n m x : ℕ) (is : Is ws n m ρ) (hx : x < n) where
+module _ (ρ : Ring) (ws : List ℕ) (n m x : ℕ) (is : Encodes ws n m ρ) (hx : x < n) where
   h : Holds ρ ws
   h = holds ρ ws (is .words)
 
@@ -65,7 +65,7 @@ module _ (ρ : Ring) (ws : List ℕ) (n m x : ℕ) (is : Is ws n m ρ) (hx : x <
       let w : getD ws (nodePlace x) 0 ≡ keyWord (key (ρ .table) x) (ρ .node x .running) = ap (λ (i : ℕ). getD ws i 0) (sym (add-zero (nodePlace x))) ∙ node-word 0 (lit< tt) in
       field 0 24 (2 ^ 5 + bit (ρ .node x .running)) (key (ρ .table) x) 0 (w ∙ omega arith) (lit< tt) (is .room .key-room x)
 
-  pub running-set : (b : Bool) (v : ℕ) → v ≡ keyWord (bits 0 24 (getD ws (nodePlace x) 0)) b → Is (set ws (nodePlace x) v) n m (update x (setRunning b) ρ)
+  pub running-set : (b : Bool) (v : ℕ) → v ≡ keyWord (bits 0 24 (getD ws (nodePlace x) 0)) b → Encodes (set ws (nodePlace x) v) n m (update x (setRunning b) ρ)
   running-set b v e =
       record {
         room = is .room;
@@ -78,7 +78,7 @@ module _ (ρ : Ring) (ws : List ℕ) (n m x : ℕ) (is : Is ws n m ρ) (hx : x <
       kept zero l d = absurd (d refl)
       kept (suc i) l d = refl
 
-  pub clock-set : (time v : ℕ) → v ≡ clockWord time → Is (set ws (nodePlace x + 1) v) n m (update x (setClock time) ρ)
+  pub clock-set : (time v : ℕ) → v ≡ clockWord time → Encodes (set ws (nodePlace x + 1) v) n m (update x (setClock time) ρ)
   clock-set time v e =
       record {
         room = is .room;

@@ -10,7 +10,7 @@ use Rattle.model.specs.Sets.{put}
 use Rattle.model.specs.Leafset.{size}
 use Rattle.model.specs.Ring.{Own, Node, Ring}
 use Rattle.model.specs.Words.{nodePlace}
-use Rattle.ring_head.specs.Parts.{Is, update, setOwn}
+use Rattle.ring_head.specs.Parts.{Encodes, update, setOwn}
 use Rattle.ring_head.proofs.Holds.{Holds, holds, node-written}
 use Rattle.ring_nodes.proofs.Marks.{node-word}
 use Rattle.ring_pairs.specs.Stored.{Stored}
@@ -30,12 +30,12 @@ update-twice x f g ρ = λ i. record { table = ρ .table; node = fun-ext (λ y. 
     at y true e = rw (e, here)
     at y false e = rw e
 
-pub is-twice : {ws : List ℕ} {n m : ℕ} (x : ℕ) (f g : Node → Node) (ρ : Ring) → Is ws n m (update x g (update x f ρ)) → Is ws n m (update x (λ s. g (f s)) ρ)
+pub is-twice : {ws : List ℕ} {n m : ℕ} (x : ℕ) (f g : Node → Node) (ρ : Ring) → Encodes ws n m (update x g (update x f ρ)) → Encodes ws n m (update x (λ s. g (f s)) ρ)
 is-twice x f g ρ is = rw (update-twice x f g ρ) at is
 
 -- ---- the pairs of node x written
 
-module _ (ρ : Ring) (ws : List ℕ) (n m x : ℕ) (is : Is ws n m ρ) (hx : x < n) where
+module _ (ρ : Ring) (ws : List ℕ) (n m x : ℕ) (is : Encodes ws n m ρ) (hx : x < n) where
   h : Holds ρ ws
   h = holds ρ ws (is .words)
 
@@ -45,7 +45,7 @@ module _ (ρ : Ring) (ws : List ℕ) (n m x : ℕ) (is : Is ws n m ρ) (hx : x <
   hn : size (ρ .table) ≤ 64
   hn = is .room .size-room
 
-  pub own-set : (o : Own) (v ws' : List ℕ) → Stored ws v x 0 x o → Stored v ws' x (x + 1) n o → Is ws' n m (update x (setOwn o) ρ)
+  pub own-set : (o : Own) (v ws' : List ℕ) → Stored ws v x 0 x o → Stored v ws' x (x + 1) n o → Encodes ws' n m (update x (setOwn o) ρ)
   own-set o v ws' s u =
       record {
         room = is .room;

@@ -7,7 +7,7 @@ ghost use Rattle.model.specs.Ring.{Ring};
 ghost use Rattle.model.specs.Words.{ringLength, decodeTable, decodeNode};
 ghost use Rattle.model.specs.Play.{started, stopped};
 ghost use Rattle.model.specs.Structs.{ownOf, RoomNode};
-ghost use Rattle.ring_head.specs.Parts.{Is, update, setRunning, setClock, stepped};
+ghost use Rattle.ring_head.specs.Parts.{Encodes, update, setRunning, setClock, stepped};
 use model::node::NodeRecord;
 use model::values::NodeNumber;
 use model::values::Stamp;
@@ -16,16 +16,18 @@ use word_ring::KeyWord;
 
 // Whether node x runs.
 pub fn is_running(words: &[u32], x: NodeNumber) -> bool
-    requires { ⌜ (length (now words) ≡ ringLength) × (x .0 < size (decodeTable (now words))) ⌝ }
-    ensures { λ r. ⌜ r ≡ decodeNode (now (words .entry)) (x .0) .running ⌝ }
+    requires length { ⌜ length (now words) ≡ ringLength ⌝ }
+    requires bounds { ⌜ x .0 < size (decodeTable (now words)) ⌝ }
+    ensures value { λ r. ⌜ r ≡ decodeNode (now (words .entry)) (x .0) .running ⌝ }
 {
     KeyWord(words[1 + 2 * (x.0 as usize)]).running()
 }
 
 // The clock of node x.
 pub fn clock(words: &[u32], x: NodeNumber) -> Stamp
-    requires { ⌜ (length (now words) ≡ ringLength) × (x .0 < size (decodeTable (now words))) ⌝ }
-    ensures { λ r. ⌜ r .0 ≡ decodeNode (now (words .entry)) (x .0) .clock ⌝ }
+    requires length { ⌜ length (now words) ≡ ringLength ⌝ }
+    requires bounds { ⌜ x .0 < size (decodeTable (now words)) ⌝ }
+    ensures value { λ r. ⌜ r .0 ≡ decodeNode (now (words .entry)) (x .0) .clock ⌝ }
 {
     let at = 1 + 2 * (x.0 as usize);
     ClockWord(words[at + 1]).clock()
@@ -33,8 +35,10 @@ pub fn clock(words: &[u32], x: NodeNumber) -> Stamp
 
 // Writes the running mark of node x.
 pub fn set_running(words: &mut [u32], x: NodeNumber, running: bool)
-    requires { ⌜ (length (now words) ≡ ringLength) × (x .0 < 64) ⌝ }
-    ensures { λ _. ⌜ ((ρ : Ring) (n m : ℕ) → Is (now (words .entry)) n m ρ → x .0 < n → Is (now (words .exit)) n m (update (x .0) (setRunning running) ρ)) ⌝ }
+    requires length { ⌜ length (now words) ≡ ringLength ⌝ }
+    requires bounds { ⌜ x .0 < 64 ⌝ }
+    ensures value { λ _. ⌜ ((ρ : Ring) (n m : ℕ) → Encodes (now (words .entry)) n m ρ → x .0 < n
+        → Encodes (now (words .exit)) n m (update (x .0) (setRunning running) ρ)) ⌝ }
 {
     let at = 1 + 2 * (x.0 as usize);
     let key = KeyWord(words[at]).key();
@@ -43,8 +47,9 @@ pub fn set_running(words: &mut [u32], x: NodeNumber, running: bool)
 
 // Writes the clock of node x.
 pub fn set_clock(words: &mut [u32], x: NodeNumber, clock: Stamp)
-    requires { ⌜ (length (now words) ≡ ringLength) × (x .0 < 64) × (clock .0 < 2 ^ 24) ⌝ }
-    ensures { λ _. ⌜ ((ρ : Ring) (n m : ℕ) → Is (now (words .entry)) n m ρ → x .0 < n → Is (now (words .exit)) n m (update (x .0) (setClock (clock .0)) ρ)) ⌝ }
+    requires words { ⌜ (length (now words) ≡ ringLength) × (x .0 < 64) × (clock .0 < 2 ^ 24) ⌝ }
+    ensures value { λ _. ⌜ ((ρ : Ring) (n m : ℕ) → Encodes (now (words .entry)) n m ρ → x .0 < n
+        → Encodes (now (words .exit)) n m (update (x .0) (setClock (clock .0)) ρ)) ⌝ }
 {
     let at = 1 + 2 * (x.0 as usize);
     words[at + 1] = ClockWord::new(clock).0;
@@ -52,8 +57,9 @@ pub fn set_clock(words: &mut [u32], x: NodeNumber, clock: Stamp)
 
 // On at node x: sets the running mark, and its clock to `time`.
 pub fn start(words: &mut [u32], x: NodeNumber, time: Stamp)
-    requires { ⌜ (length (now words) ≡ ringLength) × (x .0 < 64) × (time .0 < 2 ^ 24) ⌝ }
-    ensures { λ _. ⌜ ((ρ : Ring) (n m : ℕ) → Is (now (words .entry)) n m ρ → x .0 < n → time .0 ≡ ρ .node (x .0) .clock + 1 → Is (now (words .exit)) n m (update (x .0) started ρ)) ⌝ }
+    requires words { ⌜ (length (now words) ≡ ringLength) × (x .0 < 64) × (time .0 < 2 ^ 24) ⌝ }
+    ensures value { λ _. ⌜ ((ρ : Ring) (n m : ℕ) → Encodes (now (words .entry)) n m ρ → x .0 < n
+        → time .0 ≡ ρ .node (x .0) .clock + 1 → Encodes (now (words .exit)) n m (update (x .0) started ρ)) ⌝ }
 {
     set_running(words, x, true);
     set_clock(words, x, time);
@@ -61,8 +67,9 @@ pub fn start(words: &mut [u32], x: NodeNumber, time: Stamp)
 
 // Off at node x, of n: clears the running mark and the own record.
 pub fn stop(words: &mut [u32], n: usize, x: NodeNumber)
-    requires { ⌜ (length (now words) ≡ ringLength) × (n ≤ 64) × (x .0 < n) ⌝ }
-    ensures { λ _. ⌜ ((ρ : Ring) (m : ℕ) → Is (now (words .entry)) n m ρ → Is (now (words .exit)) n m (update (x .0) stopped ρ)) ⌝ }
+    requires words { ⌜ (length (now words) ≡ ringLength) × (n ≤ 64) × (x .0 < n) ⌝ }
+    ensures value { λ _. ⌜ ((ρ : Ring) (m : ℕ) → Encodes (now (words .entry)) n m ρ
+        → Encodes (now (words .exit)) n m (update (x .0) stopped ρ)) ⌝ }
 {
     set_running(words, x, false);
     let me = x.0 as usize;
@@ -72,8 +79,9 @@ pub fn stop(words: &mut [u32], n: usize, x: NodeNumber)
 
 // Writes what a step of node x, of n, leaves: its clock `time`, and its own record.
 pub fn store(words: &mut [u32], n: usize, x: NodeNumber, time: Stamp, own: NodeRecord)
-    requires { ⌜ (length (now words) ≡ ringLength) × (n ≤ 64) × (x .0 < n) × (time .0 < 2 ^ 24) × RoomNode own ⌝ }
-    ensures { λ _. ⌜ ((ρ : Ring) (m : ℕ) → Is (now (words .entry)) n m ρ → Is (now (words .exit)) n m (update (x .0) (stepped (time .0) (ownOf own)) ρ)) ⌝ }
+    requires words { ⌜ (length (now words) ≡ ringLength) × (n ≤ 64) × (x .0 < n) × (time .0 < 2 ^ 24) × RoomNode own ⌝ }
+    ensures value { λ _. ⌜ ((ρ : Ring) (m : ℕ) → Encodes (now (words .entry)) n m ρ
+        → Encodes (now (words .exit)) n m (update (x .0) (stepped (time .0) (ownOf own)) ρ)) ⌝ }
 {
     set_clock(words, x, time);
     let me = x.0 as usize;

@@ -19,8 +19,9 @@ use word_ring::SpareWord;
 
 // The own record of node x, of n.
 pub fn load(words: &[u32], n: usize, x: NodeNumber) -> NodeRecord
-    requires { ⌜ (length (now words) ≡ ringLength) × (n ≡ size (decodeTable (now words))) × (n ≤ 64) × (x .0 < n) ⌝ }
-    ensures { λ r. ⌜ LoadedNode (now (words .entry)) (x .0) r ⌝ }
+    requires words { ⌜ (length (now words) ≡ ringLength) × (n ≡ size (decodeTable (now words))) × (n ≤ 64)
+        × (x .0 < n) ⌝ }
+    ensures loaded { λ r. ⌜ LoadedNode (now (words .entry)) (x .0) r ⌝ }
 {
     let mut held = 0;
     let mut candidates = 0;
@@ -48,8 +49,8 @@ pub fn load(words: &[u32], n: usize, x: NodeNumber) -> NodeRecord
 
 // The set, with z where b is true.
 fn joined(set: u64, z: usize, b: bool) -> u64
-    requires { ⌜ z < 64 ⌝ }
-    ensures { λ r. ⌜ ofBits r ≡ (if b then model.with (ofBits set) z else ofBits set) ⌝ }
+    requires bounds { ⌜ z < 64 ⌝ }
+    ensures members { λ r. ⌜ ofBits r ≡ (if b then model.with (ofBits set) z else ofBits set) ⌝ }
 {
     if b {
         sets::with(set, NodeNumber(z as u8))
@@ -60,8 +61,8 @@ fn joined(set: u64, z: usize, b: bool) -> u64
 
 // Writes the pairs of x and each z from a up to b.
 pub fn store(words: &mut [u32], x: usize, a: usize, b: usize, own: NodeRecord)
-    requires { ⌜ (length (now words) ≡ ringLength) × (x < 64) × (a ≤ b) × (b ≤ 64) × RoomNode own ⌝ }
-    ensures { λ _. ⌜ Stored (now (words .entry)) (now (words .exit)) x a b (ownOf own) ⌝ }
+    requires words { ⌜ (length (now words) ≡ ringLength) × (x < 64) × (a ≤ b) × (b ≤ 64) × RoomNode own ⌝ }
+    ensures value { λ _. ⌜ Stored (now (words .entry)) (now (words .exit)) x a b (ownOf own) ⌝ }
 {
     for z in a..b {
         let at = 129 + 2 * (64 * x + z);
@@ -72,8 +73,8 @@ pub fn store(words: &mut [u32], x: usize, a: usize, b: usize, own: NodeRecord)
 
 // The first word of the pair with z.
 fn pair_word(commit: Stamp, held: u64, candidates: u64, z: usize) -> u32
-    requires { ⌜ (commit .0 < 2 ^ 24) × (z < 64) ⌝ }
-    ensures { λ r. ⌜ r ≡ pairWord (commit .0) (ofBits held z) (ofBits candidates z) ⌝ }
+    requires bounds { ⌜ (commit .0 < 2 ^ 24) × (z < 64) ⌝ }
+    ensures value { λ r. ⌜ r ≡ pairWord (commit .0) (ofBits held z) (ofBits candidates z) ⌝ }
 {
     let node = NodeNumber(z as u8);
     PairWord::new(commit, sets::has(held, node), sets::has(candidates, node)).0
@@ -81,8 +82,8 @@ fn pair_word(commit: Stamp, held: u64, candidates: u64, z: usize) -> u32
 
 // Clears the pairs of x and each z from a up to b.
 pub fn clear(words: &mut [u32], x: usize, a: usize, b: usize)
-    requires { ⌜ (length (now words) ≡ ringLength) × (x < 64) × (a ≤ b) × (b ≤ 64) ⌝ }
-    ensures { λ _. ⌜ Stored (now (words .entry)) (now (words .exit)) x a b cleared ⌝ }
+    requires words { ⌜ (length (now words) ≡ ringLength) × (x < 64) × (a ≤ b) × (b ≤ 64) ⌝ }
+    ensures value { λ _. ⌜ Stored (now (words .entry)) (now (words .exit)) x a b cleared ⌝ }
 {
     let first = PairWord::new(Stamp(0), false, false).0;
     let second = SpareWord::new(NodeNumber::NONE).0;

@@ -7,8 +7,9 @@ ghost use Rattle.ring_ranges.specs.Spans.{Patched};
 
 // Moves the words from `from + 5` on, up to `to + 5`, down by five.
 pub fn move_down(words: &mut [u32], from: usize, to: usize)
-    requires { ⌜ (length (now words) ≡ ringLength) × (from ≤ to) × (to + 5 ≤ ringLength) ⌝ }
-    ensures { λ _. ⌜ Patched (now (words .entry)) (now (words .exit)) from to (λ i. getD (now (words .entry)) (i + 5) 0) ⌝ }
+    requires words { ⌜ (length (now words) ≡ ringLength) × (from ≤ to) × (to + 5 ≤ ringLength) ⌝ }
+    ensures value { λ _. ⌜ Patched (now (words .entry)) (now (words .exit)) from to
+        (λ i. getD (now (words .entry)) (i + 5) 0) ⌝ }
 {
     for i in from..to {
         words[i] = words[i + 5];
@@ -17,8 +18,8 @@ pub fn move_down(words: &mut [u32], from: usize, to: usize)
 
 // Writes 0 from `from` up to `to`.
 pub fn clear(words: &mut [u32], from: usize, to: usize)
-    requires { ⌜ (length (now words) ≡ ringLength) × (from ≤ to) × (to ≤ ringLength) ⌝ }
-    ensures { λ _. ⌜ Patched (now (words .entry)) (now (words .exit)) from to (λ i. 0) ⌝ }
+    requires words { ⌜ (length (now words) ≡ ringLength) × (from ≤ to) × (to ≤ ringLength) ⌝ }
+    ensures value { λ _. ⌜ Patched (now (words .entry)) (now (words .exit)) from to (λ i. 0) ⌝ }
 {
     for i in from..to {
         words[i] = 0;

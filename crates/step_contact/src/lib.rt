@@ -16,16 +16,19 @@ use word_ring::MessageWord;
 
 // "Contact y: send type 1 to y"
 pub fn contact(me: NodeNumber, own: NodeRecord, y: NodeNumber) -> Reply
-    requires { ⌜ (me .0 < 64) × (y .0 < 64) ⌝ }
-    ensures { λ r. ⌜ ((t : Table) (time n : ℕ) → OwnFits n own → Replies n r (steps.contact t (me .0) time (ownOf own) (y .0))) ⌝ }
+    requires bounds { ⌜ (me .0 < 64) × (y .0 < 64) ⌝ }
+    ensures effect { λ r. ⌜ ((t : Table) (time n : ℕ) → OwnFits n own
+        → Replies n r (steps.contact t (me .0) time (ownOf own) (y .0))) ⌝ }
 {
     Reply::sending(own, plain(MessageWord::PING_CONTACT, me, y))
 }
 
 // "A notice lets go of its subject if held; candidates stay."
 pub fn notice(own: NodeRecord, z: NodeNumber) -> Reply
-    requires { ⌜ (z .0 < 64) × RoomNode own ⌝ }
-    ensures { λ r. ⌜ ((t : Table) (me time n : ℕ) → OwnFits n own → Replies n r (steps.notice t me time (ownOf own) (z .0))) ⌝ }
+    requires bounds { ⌜ z .0 < 64 ⌝ }
+    requires record { ⌜ RoomNode own ⌝ }
+    ensures effect { λ r. ⌜ ((t : Table) (me time n : ℕ) → OwnFits n own
+        → Replies n r (steps.notice t me time (ownOf own) (z .0))) ⌝ }
 {
     if !sets::has(own.held, z) {
         return Reply::quiet(own);
@@ -35,16 +38,18 @@ pub fn notice(own: NodeRecord, z: NodeNumber) -> Reply
 
 // On 1: "its receiver answers type 2".
 pub fn on_ping_contact(me: NodeNumber, own: NodeRecord, message: MessageRecord) -> Reply
-    requires { ⌜ (me .0 < 64) × (message .sender .0 < 64) ⌝ }
-    ensures { λ r. ⌜ ((t : Table) (time n : ℕ) → OwnFits n own → Replies n r (steps.onPingContact t (me .0) time (ownOf own) (messageOf message))) ⌝ }
+    requires bounds { ⌜ (me .0 < 64) × (message .sender .0 < 64) ⌝ }
+    ensures effect { λ r. ⌜ ((t : Table) (time n : ℕ) → OwnFits n own
+        → Replies n r (steps.onPingContact t (me .0) time (ownOf own) (messageOf message))) ⌝ }
 {
     Reply::sending(own, plain(MessageWord::PONG_CONTACT, me, message.sender))
 }
 
 // "on type 2, take the sender in"
 pub fn on_pong_contact(time: Stamp, own: NodeRecord, message: MessageRecord) -> Reply
-    requires { ⌜ (time .0 < 2 ^ 24) × (message .sender .0 < 64) × RoomNode own ⌝ }
-    ensures { λ r. ⌜ ((t : Table) (me n : ℕ) → OwnFits n own → message .sender .0 < n → Replies n r (steps.onPongContact t me (time .0) (ownOf own) (messageOf message))) ⌝ }
+    requires record { ⌜ (time .0 < 2 ^ 24) × (message .sender .0 < 64) × RoomNode own ⌝ }
+    ensures effect { λ r. ⌜ ((t : Table) (me n : ℕ) → OwnFits n own → message .sender .0 < n
+        → Replies n r (steps.onPongContact t me (time .0) (ownOf own) (messageOf message))) ⌝ }
 {
     Reply::quiet(hold(own, time, message.sender))
 }

@@ -20,8 +20,11 @@ use word_ring::MessageWord;
 
 // "if it passes zero, type 11, subject myself, to the successor"
 pub fn timer4(keys: &[u32], me: NodeNumber, own: NodeRecord) -> Reply
-    requires { ⌜ InTable (now keys) (me .0) (own .held) × OwnFits (length (now keys)) own ⌝ }
-    ensures { λ r. ⌜ ((leaf time : ℕ) → Replies (length (now (keys .entry))) r (steps.timer4 (tableOf leaf (now (keys .entry))) (me .0) time (ownOf own))) ⌝ }
+    requires table { ⌜ InTable (now keys) (me .0) (own .held) ⌝ }
+    requires record { ⌜ OwnFits (length (now keys)) own ⌝ }
+    ensures effect { λ r. ⌜ ((leaf time : ℕ)
+        → Replies (length (now (keys .entry))) r
+        (steps.timer4 (tableOf leaf (now (keys .entry))) (me .0) time (ownOf own))) ⌝ }
 {
     if !passes_zero(keys, me, own.held) {
         return Reply::quiet(own);
@@ -38,8 +41,11 @@ pub fn on_ping_deloopy(
     own: NodeRecord,
     message: MessageRecord,
 ) -> Reply
-    requires { ⌜ InTable (now keys) (me .0) (own .held) × OwnFits (length (now keys)) own × (message .subject .0 < length (now keys)) ⌝ }
-    ensures { λ r. ⌜ ((leaf time : ℕ) → Replies (length (now (keys .entry))) r (steps.onPingDeloopy (tableOf leaf (now (keys .entry))) (me .0) time (ownOf own) (messageOf message))) ⌝ }
+    requires table { ⌜ InTable (now keys) (me .0) (own .held) × OwnFits (length (now keys)) own
+        × (message .subject .0 < length (now keys)) ⌝ }
+    ensures effect { λ r. ⌜ ((leaf time : ℕ)
+        → Replies (length (now (keys .entry))) r
+        (steps.onPingDeloopy (tableOf leaf (now (keys .entry))) (me .0) time (ownOf own) (messageOf message))) ⌝ }
 {
     if (message.subject.0 == me.0) | (own.held == 0) {
         return Reply::quiet(own);
@@ -57,8 +63,9 @@ pub fn on_ping_deloopy(
 
 // "On 12: the sender becomes a candidate."
 pub fn on_pong_deloopy(own: NodeRecord, message: MessageRecord) -> Reply
-    requires { ⌜ message .sender .0 < 64 ⌝ }
-    ensures { λ r. ⌜ ((t : Table) (me time n : ℕ) → OwnFits n own → message .sender .0 < n → Replies n r (steps.onPongDeloopy t me time (ownOf own) (messageOf message))) ⌝ }
+    requires bounds { ⌜ message .sender .0 < 64 ⌝ }
+    ensures effect { λ r. ⌜ ((t : Table) (me time n : ℕ) → OwnFits n own → message .sender .0 < n
+        → Replies n r (steps.onPongDeloopy t me time (ownOf own) (messageOf message))) ⌝ }
 {
     Reply::quiet(add_candidate(own, message.sender))
 }

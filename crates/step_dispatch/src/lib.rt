@@ -15,8 +15,11 @@ use word_ring::MessageWord;
 
 // Timers 0, 1 and 2: a message to each of a set.
 pub fn calling(keys: &[u32], leaf: u32, x: NodeNumber, own: NodeRecord, k: u8) -> Calls
-    requires { ⌜ InTable (now keys) (x .0) (own .held) × OwnFits (length (now keys)) own × (leaf ≤ 8) × (k < 3) ⌝ }
-    ensures { λ r. ⌜ ((time : ℕ) → CallsEach (length (now (keys .entry))) (x .0) r (steps.timer (tableOf leaf (now (keys .entry))) (x .0) time (ownOf own) k)) ⌝ }
+    requires table { ⌜ InTable (now keys) (x .0) (own .held) × OwnFits (length (now keys)) own × (leaf ≤ 8)
+        × (k < 3) ⌝ }
+    ensures effect { λ r. ⌜ ((time : ℕ)
+        → CallsEach (length (now (keys .entry))) (x .0) r
+        (steps.timer (tableOf leaf (now (keys .entry))) (x .0) time (ownOf own) k)) ⌝ }
 {
     match k {
         0 => step_invite::timer0(own),
@@ -27,8 +30,10 @@ pub fn calling(keys: &[u32], leaf: u32, x: NodeNumber, own: NodeRecord, k: u8) -
 
 // Timer 4, and those above it: one message or none.
 pub fn replying(keys: &[u32], x: NodeNumber, own: NodeRecord, k: u8) -> Reply
-    requires { ⌜ InTable (now keys) (x .0) (own .held) × OwnFits (length (now keys)) own × (4 ≤ k) ⌝ }
-    ensures { λ r. ⌜ ((leaf time : ℕ) → Replies (length (now (keys .entry))) r (steps.timer (tableOf leaf (now (keys .entry))) (x .0) time (ownOf own) k)) ⌝ }
+    requires table { ⌜ InTable (now keys) (x .0) (own .held) × OwnFits (length (now keys)) own × (4 ≤ k) ⌝ }
+    ensures effect { λ r. ⌜ ((leaf time : ℕ)
+        → Replies (length (now (keys .entry))) r
+        (steps.timer (tableOf leaf (now (keys .entry))) (x .0) time (ownOf own) k)) ⌝ }
 {
     if k != 4 {
         return Reply::quiet(own);
@@ -45,8 +50,10 @@ pub fn deliver(
     own: NodeRecord,
     message: MessageRecord,
 ) -> Reply
-    requires { ⌜ InTable (now keys) (me .0) (own .held) × OwnFits (length (now keys)) own × (leaf ≤ 8) × (time .0 < 2 ^ 24) × Delivered (length (now keys)) message ⌝ }
-    ensures { λ r. ⌜ Replies (length (now (keys .entry))) r (steps.deliver (tableOf leaf (now (keys .entry))) (me .0) (time .0) (ownOf own) (messageOf message)) ⌝ }
+    requires table { ⌜ InTable (now keys) (me .0) (own .held) × OwnFits (length (now keys)) own × (leaf ≤ 8)
+        × (time .0 < 2 ^ 24) × Delivered (length (now keys)) message ⌝ }
+    ensures effect { λ r. ⌜ Replies (length (now (keys .entry))) r
+        (steps.deliver (tableOf leaf (now (keys .entry))) (me .0) (time .0) (ownOf own) (messageOf message)) ⌝ }
 {
     let tag = message.tag;
     match tag {

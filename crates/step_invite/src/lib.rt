@@ -24,7 +24,8 @@ use word_ring::MessageWord;
 
 // "type 3 to each held stand"
 pub fn timer0(own: NodeRecord) -> Calls
-    ensures { λ r. ⌜ ((t : Table) (me time : ℕ) → size t ≤ 64 → OwnFits (size t) own → CallsEach (size t) me r (steps.timer0 t me time (ownOf own))) ⌝ }
+    ensures effect { λ r. ⌜ ((t : Table) (me time : ℕ) → size t ≤ 64 → OwnFits (size t) own
+        → CallsEach (size t) me r (steps.timer0 t me time (ownOf own))) ⌝ }
 {
     Calls {
         own,
@@ -33,10 +34,13 @@ pub fn timer0(own: NodeRecord) -> Calls
     }
 }
 
-// "type 5 to each candidate not held that is in my leafset of candidates and held together; then candidates are emptied"
+// "type 5 to each candidate not held that is in my leafset of candidates and held together; then candidates are
+// emptied"
 pub fn timer1(keys: &[u32], leaf: u32, me: NodeNumber, own: NodeRecord) -> Calls
-    requires { ⌜ InTable (now keys) (me .0) (own .held) × OwnFits (length (now keys)) own × (leaf ≤ 8) ⌝ }
-    ensures { λ r. ⌜ ((time : ℕ) → CallsEach (length (now (keys .entry))) (me .0) r (steps.timer1 (tableOf leaf (now (keys .entry))) (me .0) time (ownOf own))) ⌝ }
+    requires table { ⌜ InTable (now keys) (me .0) (own .held) × OwnFits (length (now keys)) own × (leaf ≤ 8) ⌝ }
+    ensures effect { λ r. ⌜ ((time : ℕ)
+        → CallsEach (length (now (keys .entry))) (me .0) r
+        (steps.timer1 (tableOf leaf (now (keys .entry))) (me .0) time (ownOf own))) ⌝ }
 {
     let near = leafset(keys, leaf, me, own.candidates | own.held);
     let to = sets::minus(own.candidates, own.held) & near;
@@ -55,8 +59,11 @@ pub fn on_ping_ask_inv(
     own: NodeRecord,
     message: MessageRecord,
 ) -> Reply
-    requires { ⌜ InTable (now keys) (message .sender .0) (own .held) × OwnFits (length (now keys)) own × (leaf ≤ 8) × (me .0 < 64) ⌝ }
-    ensures { λ r. ⌜ ((time : ℕ) → Replies (length (now (keys .entry))) r (steps.onPingAskInv (tableOf leaf (now (keys .entry))) (me .0) time (ownOf own) (messageOf message))) ⌝ }
+    requires table { ⌜ InTable (now keys) (message .sender .0) (own .held) × OwnFits (length (now keys)) own
+        × (leaf ≤ 8) × (me .0 < 64) ⌝ }
+    ensures effect { λ r. ⌜ ((time : ℕ)
+        → Replies (length (now (keys .entry))) r
+        (steps.onPingAskInv (tableOf leaf (now (keys .entry))) (me .0) time (ownOf own) (messageOf message))) ⌝ }
 {
     let view = leafset(keys, leaf, message.sender, own.held);
     let next = add_candidate(own, message.sender);
@@ -68,15 +75,17 @@ pub fn on_ping_ask_inv(
 
 // "On 4: the view joins the candidates."
 pub fn on_pong_ask_inv(own: NodeRecord, message: MessageRecord) -> Reply
-    ensures { λ r. ⌜ ((t : Table) (me time n : ℕ) → OwnFits n own → Within n (message .view) → Replies n r (steps.onPongAskInv t me time (ownOf own) (messageOf message))) ⌝ }
+    ensures effect { λ r. ⌜ ((t : Table) (me time n : ℕ) → OwnFits n own → Within n (message .view)
+        → Replies n r (steps.onPongAskInv t me time (ownOf own) (messageOf message))) ⌝ }
 {
     Reply::quiet(add_candidates(own, message.view))
 }
 
 // "On 5: answer 6."
 pub fn on_ping_invite(me: NodeNumber, own: NodeRecord, message: MessageRecord) -> Reply
-    requires { ⌜ (me .0 < 64) × (message .sender .0 < 64) ⌝ }
-    ensures { λ r. ⌜ ((t : Table) (time n : ℕ) → OwnFits n own → Replies n r (steps.onPingInvite t (me .0) time (ownOf own) (messageOf message))) ⌝ }
+    requires bounds { ⌜ (me .0 < 64) × (message .sender .0 < 64) ⌝ }
+    ensures effect { λ r. ⌜ ((t : Table) (time n : ℕ) → OwnFits n own
+        → Replies n r (steps.onPingInvite t (me .0) time (ownOf own) (messageOf message))) ⌝ }
 {
     Reply::sending(own, plain(MessageWord::PONG_INVITE, me, message.sender))
 }
@@ -90,8 +99,10 @@ pub fn on_pong_invite(
     own: NodeRecord,
     message: MessageRecord,
 ) -> Reply
-    requires { ⌜ InTable (now keys) (me .0) (own .held) × OwnFits (length (now keys)) own × (leaf ≤ 8) × (time .0 < 2 ^ 24) × (message .sender .0 < length (now keys)) ⌝ }
-    ensures { λ r. ⌜ Replies (length (now (keys .entry))) r (steps.onPongInvite (tableOf leaf (now (keys .entry))) (me .0) (time .0) (ownOf own) (messageOf message)) ⌝ }
+    requires table { ⌜ InTable (now keys) (me .0) (own .held) × OwnFits (length (now keys)) own × (leaf ≤ 8)
+        × (time .0 < 2 ^ 24) × (message .sender .0 < length (now keys)) ⌝ }
+    ensures effect { λ r. ⌜ Replies (length (now (keys .entry))) r
+        (steps.onPongInvite (tableOf leaf (now (keys .entry))) (me .0) (time .0) (ownOf own) (messageOf message)) ⌝ }
 {
     let y = message.sender;
     let near = leafset(keys, leaf, me, sets::with(own.held, y));

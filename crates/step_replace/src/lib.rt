@@ -26,8 +26,11 @@ use word_ring::MessageWord;
 
 // Timer 3: "each held z outside my leafset with a spare". The own record stays; each spare gets a request.
 pub fn timer3(keys: &[u32], leaf: u32, me: NodeNumber, own: NodeRecord) -> u64
-    requires { ⌜ InTable (now keys) (me .0) (own .held) × RoomNode own × (leaf ≤ 8) × ((z : ℕ) → spareAt own z ≤ 64) ⌝ }
-    ensures { λ r. ⌜ ((time : ℕ) → RequestsEach (me .0) time own r (steps.timer3 (tableOf leaf (now (keys .entry))) (me .0) time (ownOf own))) ⌝ }
+    requires table { ⌜ InTable (now keys) (me .0) (own .held) × RoomNode own × (leaf ≤ 8)
+        × ((z : ℕ) → spareAt own z ≤ 64) ⌝ }
+    ensures effect { λ r. ⌜ ((time : ℕ)
+        → RequestsEach (me .0) time own r
+        (steps.timer3 (tableOf leaf (now (keys .entry))) (me .0) time (ownOf own))) ⌝ }
 {
     let outside = outside(keys, leaf, me, own.held);
     spared(own, outside)
@@ -35,8 +38,8 @@ pub fn timer3(keys: &[u32], leaf: u32, me: NodeNumber, own: NodeRecord) -> u64
 
 // The members of the set that have a spare.
 fn spared(own: NodeRecord, set: u64) -> u64
-    requires { ⌜ RoomNode own ⌝ }
-    ensures { λ r. ⌜ ((z : ℕ) → ofBits r z ≡ (ofBits set z && not (eqb (spareAt own z) noneNode))) ⌝ }
+    requires record { ⌜ RoomNode own ⌝ }
+    ensures members { λ r. ⌜ ((z : ℕ) → ofBits r z ≡ (ofBits set z && not (eqb (spareAt own z) noneNode))) ⌝ }
 {
     let mut out = 0;
     let mut rest = set;
@@ -59,8 +62,10 @@ pub fn on_ping_replace(
     own: NodeRecord,
     message: MessageRecord,
 ) -> Reply
-    requires { ⌜ (me .0 < 64) × (time .0 < 2 ^ 24) × (message .subject .0 < 64) × RoomNode own × RoomMessage message ⌝ }
-    ensures { λ r. ⌜ ((t : Table) (n : ℕ) → OwnFits n own → Replies n r (steps.onPingReplace t (me .0) (time .0) (ownOf own) (messageOf message))) ⌝ }
+    requires record { ⌜ (me .0 < 64) × (time .0 < 2 ^ 24) × (message .subject .0 < 64) × RoomNode own
+        × RoomMessage message ⌝ }
+    ensures effect { λ r. ⌜ ((t : Table) (n : ℕ) → OwnFits n own
+        → Replies n r (steps.onPingReplace t (me .0) (time .0) (ownOf own) (messageOf message))) ⌝ }
 {
     if !sets::has(own.held, message.subject) {
         return Reply::quiet(own);
@@ -78,15 +83,19 @@ pub fn on_ping_replace(
 
 // Whether a stamp is earlier than another of the same clock.
 fn is_before(stamp: Stamp, other: Stamp) -> bool
-    ensures { λ r. ⌜ r ≡ ltb (stamp .0) (other .0) ⌝ }
+    ensures value { λ r. ⌜ r ≡ ltb (stamp .0) (other .0) ⌝ }
 {
     stamp.0 < other.0
 }
 
 // "take y in; then, if z's commit is below the message's stamp, let go of z and set y's commit to now"
 fn replaced(time: Stamp, own: NodeRecord, y: NodeNumber, z: NodeNumber, stamp: Stamp) -> NodeRecord
-    requires { ⌜ (time .0 < 2 ^ 24) × (y .0 < 64) × (z .0 < 64) × OwnFits 64 own ⌝ }
-    ensures { λ r. ⌜ ((n : ℕ) → OwnFits n own → y .0 < n → Owns n r (if ltb (stampAt own (z .0)) (stamp .0) then steps.setCommit (y .0) (time .0) (steps.release (z .0) (steps.hold (time .0) (y .0) (ownOf own))) else steps.hold (time .0) (y .0) (ownOf own))) ⌝ }
+    requires record { ⌜ (time .0 < 2 ^ 24) × (y .0 < 64) × (z .0 < 64) × OwnFits 64 own ⌝ }
+    ensures record { λ r. ⌜ ((n : ℕ) → OwnFits n own → y .0 < n
+        → Owns n r
+        (if ltb (stampAt own (z .0)) (stamp .0)
+        then steps.setCommit (y .0) (time .0) (steps.release (z .0) (steps.hold (time .0) (y .0) (ownOf own)))
+        else steps.hold (time .0) (y .0) (ownOf own))) ⌝ }
 {
     let next = hold(own, time, y);
     let at = z.0 as usize;
@@ -106,8 +115,10 @@ pub fn on_pong_replace(
     own: NodeRecord,
     message: MessageRecord,
 ) -> Reply
-    requires { ⌜ InTable (now keys) (me .0) (own .held) × OwnFits (length (now keys)) own × (leaf ≤ 8) × (time .0 < 2 ^ 24) × (message .sender .0 < length (now keys)) × (message .subject .0 < 64) ⌝ }
-    ensures { λ r. ⌜ Replies (length (now (keys .entry))) r (steps.onPongReplace (tableOf leaf (now (keys .entry))) (me .0) (time .0) (ownOf own) (messageOf message)) ⌝ }
+    requires table { ⌜ InTable (now keys) (me .0) (own .held) × OwnFits (length (now keys)) own × (leaf ≤ 8)
+        × (time .0 < 2 ^ 24) × (message .sender .0 < length (now keys)) × (message .subject .0 < 64) ⌝ }
+    ensures effect { λ r. ⌜ Replies (length (now (keys .entry))) r
+        (steps.onPongReplace (tableOf leaf (now (keys .entry))) (me .0) (time .0) (ownOf own) (messageOf message)) ⌝ }
 {
     let outside = outside(keys, leaf, me, own.held);
     let at = message.subject.0 as usize;

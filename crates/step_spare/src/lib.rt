@@ -20,8 +20,10 @@ use word_ring::MessageWord;
 
 // "type 7 to each held stand outside my leafset of the held"
 pub fn timer2(keys: &[u32], leaf: u32, me: NodeNumber, own: NodeRecord) -> Calls
-    requires { ⌜ InTable (now keys) (me .0) (own .held) × OwnFits (length (now keys)) own × (leaf ≤ 8) ⌝ }
-    ensures { λ r. ⌜ ((time : ℕ) → CallsEach (length (now (keys .entry))) (me .0) r (steps.timer2 (tableOf leaf (now (keys .entry))) (me .0) time (ownOf own))) ⌝ }
+    requires table { ⌜ InTable (now keys) (me .0) (own .held) × OwnFits (length (now keys)) own × (leaf ≤ 8) ⌝ }
+    ensures effect { λ r. ⌜ ((time : ℕ)
+        → CallsEach (length (now (keys .entry))) (me .0) r
+        (steps.timer2 (tableOf leaf (now (keys .entry))) (me .0) time (ownOf own))) ⌝ }
 {
     let outside = outside(keys, leaf, me, own.held);
     Calls {
@@ -40,8 +42,11 @@ pub fn on_ping_ask_repl(
     own: NodeRecord,
     message: MessageRecord,
 ) -> Reply
-    requires { ⌜ InTable (now keys) (me .0) (own .held) × OwnFits (length (now keys)) own × (leaf ≤ 8) × (message .sender .0 < length (now keys)) ⌝ }
-    ensures { λ r. ⌜ ((time : ℕ) → Replies (length (now (keys .entry))) r (steps.onPingAskRepl (tableOf leaf (now (keys .entry))) (me .0) time (ownOf own) (messageOf message))) ⌝ }
+    requires table { ⌜ InTable (now keys) (me .0) (own .held) × OwnFits (length (now keys)) own × (leaf ≤ 8)
+        × (message .sender .0 < length (now keys)) ⌝ }
+    ensures effect { λ r. ⌜ ((time : ℕ)
+        → Replies (length (now (keys .entry))) r
+        (steps.onPingAskRepl (tableOf leaf (now (keys .entry))) (me .0) time (ownOf own) (messageOf message))) ⌝ }
 {
     let spare = closest(keys, leaf, me, own.held, message.sender);
     Reply::sending(
@@ -52,8 +57,10 @@ pub fn on_ping_ask_repl(
 
 // "On 8: if the sender is held, its spare becomes the subject."
 pub fn on_pong_ask_repl(own: NodeRecord, message: MessageRecord) -> Reply
-    requires { ⌜ RoomNode own × RoomMessage message ⌝ }
-    ensures { λ r. ⌜ ((t : Table) (me time n : ℕ) → OwnFits n own → Replies n r (steps.onPongAskRepl t me time (ownOf own) (messageOf message))) ⌝ }
+    requires record { ⌜ RoomNode own ⌝ }
+    requires message { ⌜ RoomMessage message ⌝ }
+    ensures effect { λ r. ⌜ ((t : Table) (me time n : ℕ) → OwnFits n own
+        → Replies n r (steps.onPongAskRepl t me time (ownOf own) (messageOf message))) ⌝ }
 {
     if !sets::has(own.held, message.sender) {
         return Reply::quiet(own);

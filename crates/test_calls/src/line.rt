@@ -15,8 +15,8 @@ pub struct Outcome {
 
 // Puts the numbers of a line at the start of `out`, and answers where they end.
 fn put(out: &mut [u8], numbers: &[u64; 5]) -> usize
-    requires { ⌜ 105 ≤ length (now out) ⌝ }
-    ensures { λ r. ⌜ r ≤ 105 ⌝ }
+    requires room { ⌜ 105 ≤ length (now out) ⌝ }
+    ensures bound { λ r. ⌜ r ≤ 105 ⌝ }
 {
     let mut end = bench_lines::put_number(out, 0, numbers[0]);
     for i in 1..5 {
@@ -25,10 +25,10 @@ fn put(out: &mut [u8], numbers: &[u64; 5]) -> usize
     bench_lines::put_byte(out, end, NEWLINE)
 }
 
-// Prints the line of a call: the command's number, the answer, the value, how many words the call changed, and the digest
-// of all words after it.
+// Prints the line of a call: the command's number, the answer, the value, how many words the call changed, and the
+// digest of all words after it.
 pub fn print(number: u32, outcome: Outcome, before: &[u32], words: &[u32])
-    requires { ⌜ length (now before) ≡ length (now words) ⌝ }
+    requires lengths { ⌜ length (now before) ≡ length (now words) ⌝ }
 {
     let changed = memory::differing(before, words);
     let digest = memory::digest(words);

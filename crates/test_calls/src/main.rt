@@ -16,7 +16,7 @@ const MOST: u32 = 1_000_000;
 
 // A call, with its line.
 fn call(command: Command, words: &mut [u32], list: &[u32], places: &mut [u8])
-    requires { ⌜ length (now words) ≡ 13442 ⌝ }
+    requires length { ⌜ length (now words) ≡ 13442 ⌝ }
 {
     let mut before = [0u32; 13442];
     memory::copy(words, &mut before);
@@ -26,7 +26,7 @@ fn call(command: Command, words: &mut [u32], list: &[u32], places: &mut [u8])
 }
 
 fn run(command: Command, words: &mut [u32], list: &mut [u32], places: &mut [u8])
-    requires { ⌜ length (now words) ≡ 13442 ⌝ }
+    requires length { ⌜ length (now words) ≡ 13442 ⌝ }
 {
     let number = command.number;
     match number {
@@ -37,7 +37,7 @@ fn run(command: Command, words: &mut [u32], list: &mut [u32], places: &mut [u8])
 }
 
 fn run_all(words: &mut [u32], list: &mut [u32], places: &mut [u8])
-    requires { ⌜ length (now words) ≡ 13442 ⌝ }
+    requires length { ⌜ length (now words) ≡ 13442 ⌝ }
 {
     for _ in 0..MOST {
         let next = command::read();

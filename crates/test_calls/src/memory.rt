@@ -6,7 +6,7 @@ ghost use Rattle.io.specs.Counts.{Counts};
 
 // n, or the number of words where n is above it.
 pub fn at_most(n: u32, words: &[u32]) -> usize
-    ensures { λ r. ⌜ Counts r (now (words .entry)) ⌝ }
+    ensures end { λ r. ⌜ Counts r (now (words .entry)) ⌝ }
 {
     let wanted = n as usize;
     let most = words.len();
@@ -22,7 +22,7 @@ pub fn fill(words: &mut [u32], from: u32, to: u32, value: u32) {
 }
 
 pub fn copy(words: &[u32], to: &mut [u32])
-    requires { ⌜ length (now words) ≡ length (now to) ⌝ }
+    requires lengths { ⌜ length (now words) ≡ length (now to) ⌝ }
 {
     for i in 0..words.len() {
         to[i] = words[i];
@@ -31,7 +31,7 @@ pub fn copy(words: &[u32], to: &mut [u32])
 
 // The number of places at which the words differ.
 pub fn differing(before: &[u32], after: &[u32]) -> u64
-    requires { ⌜ length (now before) ≡ length (now after) ⌝ }
+    requires lengths { ⌜ length (now before) ≡ length (now after) ⌝ }
 {
     let mut count = 0;
     for i in 0..before.len() {
@@ -44,8 +44,8 @@ pub fn differing(before: &[u32], after: &[u32]) -> u64
 
 // One more word. 31 is odd, so lists that differ in one word have different digests.
 fn digested(digest: u64, word: u32) -> u64
-    requires { ⌜ digest < 2 ^ 32 ⌝ }
-    ensures { λ r. ⌜ r < 2 ^ 32 ⌝ }
+    requires bounds { ⌜ digest < 2 ^ 32 ⌝ }
+    ensures bound { λ r. ⌜ r < 2 ^ 32 ⌝ }
 {
     (31 * digest + word as u64) % 0x1_0000_0000
 }

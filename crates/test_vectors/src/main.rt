@@ -1,5 +1,5 @@
-// Plays the scripts that the arguments name, and compares every byte of what each prints with the file of that name that
-// ends in .out.
+// Plays the scripts that the arguments name, and compares every byte of what each prints with the file of that name
+// that ends in .out.
 ghost use mathlib.Core.Path.{_≡_};
 ghost use Prim.Native.Nat.{_≤_};
 ghost use lib.ListN.{length};
@@ -12,7 +12,7 @@ const MOST: u64 = 0x1000_0000_0000;
 
 // Opens the file of a name and an ending.
 fn open(name: &[u8], ending: &[u8; 4]) -> i32
-    requires { ⌜ length (now name) ≤ 100 ⌝ }
+    requires lengths { ⌜ length (now name) ≤ 100 ⌝ }
 {
     let mut path = [0u8; 104];
     let middle = bench_lines::put_bytes(&mut path, 0, name);
@@ -22,7 +22,7 @@ fn open(name: &[u8], ending: &[u8; 4]) -> i32
 
 // Whether the bytes are the next ones of the file.
 fn are_next(file: i32, bytes: &[u8], room: &mut [u8]) -> bool
-    requires { ⌜ length (now bytes) ≤ length (now room) ⌝ }
+    requires lengths { ⌜ length (now bytes) ≤ length (now room) ⌝ }
 {
     let size = bytes.len();
     let n = io::read_full(file, &mut room[..size]);
@@ -44,7 +44,8 @@ fn compare(
     out: &mut [u8],
     room: &mut [u8],
 ) -> bool
-    requires { ⌜ (length (now words) ≡ 13441) × (length (now bytes) ≡ 4096) × (length (now out) ≡ 160000) × (length (now room) ≡ 160000) ⌝ }
+    requires words { ⌜ (length (now words) ≡ 13441) × (length (now bytes) ≡ 4096) × (length (now out) ≡ 160000)
+        × (length (now room) ≡ 160000) ⌝ }
 {
     let mut session = Session::new();
     for _ in 0..MOST {
@@ -62,7 +63,7 @@ fn compare(
 
 // Plays the script of a name, and compares.
 fn run(name: &[u8]) -> bool
-    requires { ⌜ length (now name) ≤ 100 ⌝ }
+    requires lengths { ⌜ length (now name) ≤ 100 ⌝ }
 {
     let mut words = [0u32; 13441];
     let mut bytes = [0u8; Session::CHUNK];
@@ -95,7 +96,7 @@ fn print(name: &[u8], same: bool) {
 
 // Runs the script of argument i: 1 if it printed what is expected, else 0.
 fn run_argument(i: usize) -> u64
-    ensures { λ r. ⌜ r ≤ 1 ⌝ }
+    ensures bound { λ r. ⌜ r ≤ 1 ⌝ }
 {
     let mut name = [0u8; 100];
     let n = os::arg(i, &mut name);

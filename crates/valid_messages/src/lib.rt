@@ -16,7 +16,8 @@ use valid_nodes::clear::clear;
 
 // "Of the four that use the subject, only type 8 may have 64 there"
 fn subject_fits(tag: u16, subject: u16, n: u16) -> bool
-    ensures { λ r. ⌜ ((t : Table) (m : Message) → size t ≡ n → m .type ≡ tag → m .subject ≡ subject → r ≡ subjectFits t m) ⌝ }
+    ensures value { λ r. ⌜ ((t : Table) (m : Message) → size t ≡ n → m .type ≡ tag → m .subject ≡ subject
+        → r ≡ subjectFits t m) ⌝ }
 {
     let used = (8 <= tag) & (tag <= 11);
     (used & ((subject < n) | ((tag == 8) & (subject == 64)))) | (!used & (subject == 64))
@@ -24,7 +25,8 @@ fn subject_fits(tag: u16, subject: u16, n: u16) -> bool
 
 // The first word of a message, in two halves.
 fn first_fits(low: u16, high: u16, n: u16) -> bool
-    ensures { λ r. ⌜ ((ws : List ℕ) (t : Table) (k : ℕ) → size t ≡ n → at ws (messagePlace k) % 2 ^ 16 ≡ low → at ws (messagePlace k) / 2 ^ 16 ≡ high → r ≡ firstReads ws t k) ⌝ }
+    ensures value { λ r. ⌜ ((ws : List ℕ) (t : Table) (k : ℕ) → size t ≡ n → at ws (messagePlace k) % 2 ^ 16 ≡ low
+        → at ws (messagePlace k) / 2 ^ 16 ≡ high → r ≡ firstReads ws t k) ⌝ }
 {
     let tag = low % 16;
     let sender = (low >> 4) % 64;
@@ -41,15 +43,16 @@ fn first_fits(low: u16, high: u16, n: u16) -> bool
 
 // The upper half of a word.
 fn upper(word: u32) -> u16
-    ensures { λ r. ⌜ r ≡ word / 2 ^ 16 ⌝ }
+    ensures value { λ r. ⌜ r ≡ word / 2 ^ 16 ⌝ }
 {
     (word >> 16) as u16
 }
 
 // The first words of `count` messages from message `from` on, in two halves.
 fn halve(words: &[u32], from: usize, count: usize, lows: &mut [u16], highs: &mut [u16])
-    requires { ⌜ (length (now words) ≡ 13441) × (length (now lows) ≡ 64) × (length (now highs) ≡ 64) × (count ≤ 64) × (from + count ≤ 1024) ⌝ }
-    ensures { λ _. ⌜ Halves (now (words .entry)) from (now (lows .exit)) (now (highs .exit)) count ⌝ }
+    requires words { ⌜ (length (now words) ≡ 13441) × (length (now lows) ≡ 64) × (length (now highs) ≡ 64)
+        × (count ≤ 64) × (from + count ≤ 1024) ⌝ }
+    ensures halves { λ _. ⌜ Halves (now (words .entry)) from (now (lows .exit)) (now (highs .exit)) count ⌝ }
 {
     for k in 0..count {
         let first = words[8321 + 5 * (from + k)];
@@ -60,8 +63,10 @@ fn halve(words: &[u32], from: usize, count: usize, lows: &mut [u16], highs: &mut
 
 // The halves of so many first words fit. The loop has no branch, so that it is done eight messages at a time.
 fn halves_fit(lows: &[u16; 64], highs: &[u16; 64], n: u16, count: usize) -> bool
-    requires { ⌜ count ≤ 64 ⌝ }
-    ensures { λ r. ⌜ ((ws : List ℕ) (t : Table) (from : ℕ) → size t ≡ n → Halves ws from (now (lows .entry)) (now (highs .entry)) count → r ≡ all count (λ k. firstReads ws t (from + k))) ⌝ }
+    requires bounds { ⌜ count ≤ 64 ⌝ }
+    ensures value { λ r. ⌜ ((ws : List ℕ) (t : Table) (from : ℕ) → size t ≡ n
+        → Halves ws from (now (lows .entry)) (now (highs .entry)) count
+        → r ≡ all count (λ k. firstReads ws t (from + k))) ⌝ }
 {
     let mut ok = true;
     for k in 0..count {
@@ -72,8 +77,9 @@ fn halves_fit(lows: &[u16; 64], highs: &[u16; 64], n: u16, count: usize) -> bool
 
 // The first words of `count` messages from message `from` on.
 fn block_reads(words: &[u32], n: u32, from: usize, count: usize) -> bool
-    requires { ⌜ (length (now words) ≡ 13441) × (n ≤ 64) × (count ≤ 64) × (from + count ≤ 1024) ⌝ }
-    ensures { λ r. ⌜ ((t : Table) → size t ≡ n → r ≡ all count (λ k. firstReads (now (words .entry)) t (from + k))) ⌝ }
+    requires words { ⌜ (length (now words) ≡ 13441) × (n ≤ 64) × (count ≤ 64) × (from + count ≤ 1024) ⌝ }
+    ensures value { λ r. ⌜ ((t : Table) → size t ≡ n
+        → r ≡ all count (λ k. firstReads (now (words .entry)) t (from + k))) ⌝ }
 {
     let mut lows = [0; 64];
     let mut highs = [0; 64];
@@ -83,15 +89,15 @@ fn block_reads(words: &[u32], n: u32, from: usize, count: usize) -> bool
 
 // How many of the messages that are left go into a block.
 fn block_size(left: usize) -> usize
-    ensures { λ r. ⌜ (r ≤ left) × (r ≤ 64) × (1 ≤ left → 1 ≤ r) ⌝ }
+    ensures bound { λ r. ⌜ (r ≤ left) × (r ≤ 64) × (1 ≤ left → 1 ≤ r) ⌝ }
 {
     if left < 64 { left } else { 64 }
 }
 
 // The first words of m messages, block by block.
 fn firsts_read(words: &[u32], n: u32, m: usize) -> bool
-    requires { ⌜ (length (now words) ≡ 13441) × (n ≤ 64) × (m ≤ 1024) ⌝ }
-    ensures { λ r. ⌜ ((t : Table) → size t ≡ n → r ≡ all m (firstReads (now (words .entry)) t)) ⌝ }
+    requires words { ⌜ (length (now words) ≡ 13441) × (n ≤ 64) × (m ≤ 1024) ⌝ }
+    ensures value { λ r. ⌜ ((t : Table) → size t ≡ n → r ≡ all m (firstReads (now (words .entry)) t)) ⌝ }
 {
     let mut ok = true;
     let mut from = 0;
@@ -105,8 +111,8 @@ fn firsts_read(words: &[u32], n: u32, m: usize) -> bool
 
 // The m messages of the words read, with a table of n nodes, and nothing after them.
 pub fn messages_read(words: &[u32], n: u32, m: usize) -> bool
-    requires { ⌜ (length (now words) ≡ 13441) × (1 ≤ n) × (n ≤ 64) × (m ≤ 1024) ⌝ }
-    ensures { λ r. ⌜ ((t : Table) → size t ≡ n → r ≡ messagesRead (now (words .entry)) t m) ⌝ }
+    requires words { ⌜ (length (now words) ≡ 13441) × (1 ≤ n) × (n ≤ 64) × (m ≤ 1024) ⌝ }
+    ensures value { λ r. ⌜ ((t : Table) → size t ≡ n → r ≡ messagesRead (now (words .entry)) t m) ⌝ }
 {
     firsts_read(words, n, m) & rests_read(words, n, m) & clear(words, 8321 + 5 * m, 13441)
 }

@@ -1,5 +1,5 @@
-// Whether the rests of the messages read: the stamp and the view. Each type and each receiver has four words of bits that have to
-// be those of an empty rest, so that a message is tested without a branch, its four words at once.
+// Whether the rests of the messages read: the stamp and the view. Each type and each receiver has four words of bits
+// that have to be those of an empty rest, so that a message is tested without a branch, its four words at once.
 ghost use mathlib.Core.Path.{_≡_};
 ghost use Prim.Native.Nat.{ℕ, _-_, _^_, _<_, _≤_};
 ghost use lib.Bits.{bitXor};
@@ -15,7 +15,8 @@ const NO_VIEW: u32 = 0x8000_0000;
 
 // How many of the 24 nodes from `from` on are below n.
 fn part(n: u32, from: u32) -> u32
-    ensures { λ r. ⌜ (r ≡ partOf n from) × (r ≤ 24) ⌝ }
+    ensures value { λ r. ⌜ r ≡ partOf n from ⌝ }
+    ensures bound { λ r. ⌜ r ≤ 24 ⌝ }
 {
     if n <= from {
         return 0;
@@ -28,15 +29,15 @@ fn part(n: u32, from: u32) -> u32
 
 // All bits but the lowest ones.
 fn above(free: u32) -> u32
-    requires { ⌜ free ≤ 24 ⌝ }
-    ensures { λ r. ⌜ r ≡ bitsAbove free ⌝ }
+    requires bounds { ⌜ free ≤ 24 ⌝ }
+    ensures value { λ r. ⌜ r ≡ bitsAbove free ⌝ }
 {
     0xFFFF_FFFF - ((1 << free) - 1)
 }
 
 // "Type 4 uses the view; .. 9 and 10 subject and stamp"
 fn of_types(n: u32) -> [u32; 64]
-    ensures { λ r. ⌜ r ≡ ofTypes n ⌝ }
+    ensures value { λ r. ⌜ r ≡ ofTypes n ⌝ }
 {
     let mut table = [0xFFFF_FFFF; 64];
     table[17] = above(part(n, 0));
@@ -49,7 +50,7 @@ fn of_types(n: u32) -> [u32; 64]
 
 // "A view holds only stands below n, and not its receiver." Places for 72, three times 24, are filled.
 fn of_receivers() -> [u32; 288]
-    ensures { λ r. ⌜ OfReceivers r ⌝ }
+    ensures table { λ r. ⌜ OfReceivers r ⌝ }
 {
     let mut table = [0; 288];
     for b in 0..24 {
@@ -62,7 +63,7 @@ fn of_receivers() -> [u32; 288]
 
 // The bits in which two words differ.
 fn apart(word: u32, empty: u32) -> u32
-    ensures { λ r. ⌜ r ≡ bitXor word empty ⌝ }
+    ensures value { λ r. ⌜ r ≡ bitXor word empty ⌝ }
 {
     word ^ empty
 }
@@ -76,8 +77,9 @@ fn wrong(
     i: usize,
     empty: u32,
 ) -> u32
-    requires { ⌜ (length (now words) ≡ 13441) × (k < 1024) × (i < 4) ⌝ }
-    ensures { λ r. ⌜ (r ≡ wrongAt (now (words .entry)) (now (types .entry)) (now (receivers .entry)) k i empty) × (beyond (now (words .entry)) k i empty < 2 ^ 32) ⌝ }
+    requires words { ⌜ (length (now words) ≡ 13441) × (k < 1024) × (i < 4) ⌝ }
+    ensures value { λ r. ⌜ r ≡ wrongAt (now (words .entry)) (now (types .entry)) (now (receivers .entry)) k i empty ⌝ }
+    ensures small { λ r. ⌜ beyond (now (words .entry)) k i empty < 2 ^ 32 ⌝ }
 {
     let at = 8321 + 5 * k;
     let first = words[at];
@@ -88,8 +90,11 @@ fn wrong(
 
 // Nothing is wrong in m rests.
 fn nothing_wrong(words: &[u32], types: &[u32; 64], receivers: &[u32; 288], m: usize) -> bool
-    requires { ⌜ (length (now words) ≡ 13441) × (m ≤ 1024) ⌝ }
-    ensures { λ r. ⌜ (r ≡ all m (nothingWrong (now (words .entry)) (now (types .entry)) (now (receivers .entry)))) × ((k : ℕ) → k < m → Small (now (words .entry)) k) ⌝ }
+    requires length { ⌜ length (now words) ≡ 13441 ⌝ }
+    requires bounds { ⌜ m ≤ 1024 ⌝ }
+    ensures value { λ r. ⌜ r
+        ≡ all m (nothingWrong (now (words .entry)) (now (types .entry)) (now (receivers .entry))) ⌝ }
+    ensures small { λ r. ⌜ ((k : ℕ) → k < m → Small (now (words .entry)) k) ⌝ }
 {
     let mut stamp = 0;
     let mut low = 0;
@@ -106,8 +111,8 @@ fn nothing_wrong(words: &[u32], types: &[u32; 64], receivers: &[u32; 288], m: us
 
 // The rests of m messages.
 pub fn rests_read(words: &[u32], n: u32, m: usize) -> bool
-    requires { ⌜ (length (now words) ≡ 13441) × (n ≤ 64) × (m ≤ 1024) ⌝ }
-    ensures { λ r. ⌜ ((t : Table) → size t ≡ n → r ≡ all m (restReads (now (words .entry)) t)) ⌝ }
+    requires words { ⌜ (length (now words) ≡ 13441) × (n ≤ 64) × (m ≤ 1024) ⌝ }
+    ensures value { λ r. ⌜ ((t : Table) → size t ≡ n → r ≡ all m (restReads (now (words .entry)) t)) ⌝ }
 {
     let types = of_types(n);
     let receivers = of_receivers();

@@ -16,7 +16,7 @@ use Rattle.model.specs.Fields.{bits, flag}
 use Rattle.model.specs.Words.{keyWord, clockWord, nodePlace, keysDiffer, decodeTable}
 use Rattle.model.proofs.Laws.{or-left, or-right, or-case, clash, not-in, not-out, same-test, all-in, all-out, length-tabulate, getD-tabulate}
 use Rattle.valid_nodes.specs.Nodes.{clear, sizeOf, keyAt, clockAt, nodeReads, nodesRead}
-use Rattle.valid_nodes.specs.Marks.{keyOf, markOf, isNew}
+use Rattle.valid_nodes.specs.Hashes.{keyOf, hashOf, isNew}
 use Rattle.valid_nodes.proofs.Gather.{two, all-both, all-cong}
 use Rattle.valid_nodes.proofs.Formats.{key-format, clock-format, xor-above}
 
@@ -91,22 +91,22 @@ module _ (ws : List ℕ) (n : ℕ) where
           (λ p. let q = eqb-true y x p in absurd (omega arith))
           (λ p. rw (key-is ws y hy₁, key-is ws x hx₁) at p)
 
--- ---- marks
+-- ---- hashes
 
--- the mark of each key before x was met
-abbrev pub Marked : List Bool → List ℕ → ℕ → Type 0
-Marked met ws x = (y : ℕ) → y < x → getD met (markOf (keyOf ws y)) false ≡ true
+-- the hash of each key before x was met
+abbrev pub Hashed : List Bool → List ℕ → ℕ → Type 0
+Hashed met ws x = (y : ℕ) → y < x → getD met (hashOf (keyOf ws y)) false ≡ true
 
-pub unmet-new : (met : List Bool) (ws : List ℕ) (x : ℕ) → Marked met ws x → getD met (markOf (keyOf ws x)) false ≡ false → isNew ws x ≡ true
+pub unmet-new : (met : List Bool) (ws : List ℕ) (x : ℕ) → Hashed met ws x → getD met (hashOf (keyOf ws x)) false ≡ false → isNew ws x ≡ true
 unfolding isNew
-unmet-new met ws x marked unmet =
+unmet-new met ws x hashed unmet =
     all-in x (λ y. not (eqb (keyOf ws y) (keyOf ws x)))
-    (λ y h. not-in (ne-eqb (keyOf ws y) (keyOf ws x) (λ e. clash (marked y h) (ap (λ (k : ℕ). getD met (markOf k) false) e ∙ unmet))))
+    (λ y h. not-in (ne-eqb (keyOf ws y) (keyOf ws x) (λ e. clash (hashed y h) (ap (λ (k : ℕ). getD met (hashOf k) false) e ∙ unmet))))
 
-pub marked-more : (met : List Bool) (ws : List ℕ) (x : ℕ) → length met ≡ 512 → Marked met ws x → Marked (set met (markOf (keyOf ws x)) true) ws (x + 1)
-marked-more met ws x long marked y h =
-    elim (ℕ-discrete (markOf (keyOf ws y)) (markOf (keyOf ws x))) [
-      | yes e ↦ rw e (getD-set-same met (markOf (keyOf ws x)) true false (omega (arith, long)))
-      | no d ↦ getD-set-other met (markOf (keyOf ws x)) (markOf (keyOf ws y)) true false d
-          ∙ marked y (elim (ℕ-discrete y x) [ yes e ↦ absurd (d (ap (λ (s : ℕ). markOf (keyOf ws s)) e)) | no n ↦ omega arith ])
+pub hashed-more : (met : List Bool) (ws : List ℕ) (x : ℕ) → length met ≡ 512 → Hashed met ws x → Hashed (set met (hashOf (keyOf ws x)) true) ws (x + 1)
+hashed-more met ws x long hashed y h =
+    elim (ℕ-discrete (hashOf (keyOf ws y)) (hashOf (keyOf ws x))) [
+      | yes e ↦ rw e (getD-set-same met (hashOf (keyOf ws x)) true false (omega (arith, long)))
+      | no d ↦ getD-set-other met (hashOf (keyOf ws x)) (hashOf (keyOf ws y)) true false d
+          ∙ hashed y (elim (ℕ-discrete y x) [ yes e ↦ absurd (d (ap (λ (s : ℕ). hashOf (keyOf ws s)) e)) | no n ↦ omega arith ])
     ]

@@ -6,8 +6,8 @@ ghost use Rattle.valid_nodes.specs.Nodes.{clear as isClear};
 
 // The words from place `from` up to `to` are 0.
 pub fn clear(words: &[u32], from: usize, to: usize) -> bool
-    requires { ⌜ (length (now words) ≡ 13441) × (from ≤ to) × (to ≤ 13441) ⌝ }
-    ensures { λ r. ⌜ r ≡ isClear (now (words .entry)) from to ⌝ }
+    requires words { ⌜ (length (now words) ≡ 13441) × (from ≤ to) × (to ≤ 13441) ⌝ }
+    ensures value { λ r. ⌜ r ≡ isClear (now (words .entry)) from to ⌝ }
 {
     let mut met = 0;
     for i in from..to {

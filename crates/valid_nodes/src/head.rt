@@ -5,21 +5,21 @@ ghost use Rattle.valid_nodes.specs.Nodes.{headReads};
 
 // The table's size.
 pub fn size(w: u32) -> u32
-    ensures { λ r. ⌜ r ≡ bits 4 7 w ⌝ }
+    ensures value { λ r. ⌜ r ≡ bits 4 7 w ⌝ }
 {
     (w >> 4) % 128
 }
 
 // The count of messages.
 pub fn count(w: u32) -> u32
-    ensures { λ r. ⌜ r ≡ bits 11 11 w ⌝ }
+    ensures value { λ r. ⌜ r ≡ bits 11 11 w ⌝ }
 {
     (w >> 11) % 2048
 }
 
 // w is a word 0, and its parts are in range.
 pub fn head_reads(w: u32) -> bool
-    ensures { λ r. ⌜ r ≡ headReads w ⌝ }
+    ensures value { λ r. ⌜ r ≡ headReads w ⌝ }
 {
     let leaf = w % 16;
     let n = size(w);

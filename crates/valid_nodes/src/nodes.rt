@@ -5,13 +5,15 @@ ghost use Prim.Native.Nat.{_≤_, _<_};
 ghost use lib.ListN.{length};
 ghost use Rattle.model.specs.Words.{keysDiffer, decodeTable};
 ghost use Rattle.valid_nodes.specs.Nodes.{sizeOf, nodesRead};
-ghost use Rattle.valid_nodes.specs.Marks.{markOf, keyOf, isNew};
+ghost use Rattle.valid_nodes.specs.Hashes.{hashOf, keyOf, isNew};
 use super::clear::clear;
 
-// The words of n nodes, and nothing after them. What is or-ed is 0 in a word of the right kind whose unnamed bits are 0.
+// The words of n nodes, and nothing after them. What is or-ed is 0 in a word of the right kind whose unnamed bits
+// are 0.
 pub fn nodes_read(words: &[u32], n: usize) -> bool
-    requires { ⌜ (length (now words) ≡ 13441) × (n ≤ 64) ⌝ }
-    ensures { λ r. ⌜ r ≡ nodesRead (now (words .entry)) n ⌝ }
+    requires length { ⌜ length (now words) ≡ 13441 ⌝ }
+    requires bounds { ⌜ n ≤ 64 ⌝ }
+    ensures value { λ r. ⌜ r ≡ nodesRead (now (words .entry)) n ⌝ }
 {
     let mut keys = 0;
     let mut clocks = 0;
@@ -23,10 +25,11 @@ pub fn nodes_read(words: &[u32], n: usize) -> bool
     (keys >> 25 == 0) & (clocks >> 24 == 0) & clear(words, 1 + 2 * n, 129)
 }
 
-// The mark of the key of node x.
-fn mark(words: &[u32], x: usize) -> usize
-    requires { ⌜ (length (now words) ≡ 13441) × (x < 64) ⌝ }
-    ensures { λ r. ⌜ r ≡ markOf (keyOf (now (words .entry)) x) ⌝ }
+// The hash of the key of node x.
+fn hash(words: &[u32], x: usize) -> usize
+    requires length { ⌜ length (now words) ≡ 13441 ⌝ }
+    requires bounds { ⌜ x < 64 ⌝ }
+    ensures value { λ r. ⌜ r ≡ hashOf (keyOf (now (words .entry)) x) ⌝ }
 {
     let key = words[1 + 2 * x] % 0x100_0000;
     (((key as u64) * 0x9E37_79B1 >> 23) % 512) as usize
@@ -34,8 +37,9 @@ fn mark(words: &[u32], x: usize) -> usize
 
 // The key of node x is not met before x.
 fn key_is_new(words: &[u32], x: usize) -> bool
-    requires { ⌜ (length (now words) ≡ 13441) × (x < 64) ⌝ }
-    ensures { λ r. ⌜ r ≡ isNew (now (words .entry)) x ⌝ }
+    requires length { ⌜ length (now words) ≡ 13441 ⌝ }
+    requires bounds { ⌜ x < 64 ⌝ }
+    ensures value { λ r. ⌜ r ≡ isNew (now (words .entry)) x ⌝ }
 {
     let key = words[1 + 2 * x] % 0x100_0000;
     let mut ok = true;
@@ -45,10 +49,10 @@ fn key_is_new(words: &[u32], x: usize) -> bool
     ok
 }
 
-// The same, looked for only where the key's mark was met.
-fn marked_is_new(words: &[u32], x: usize, met: bool) -> bool
-    requires { ⌜ (length (now words) ≡ 13441) × (x < 64) × (met ≡ false → isNew (now words) x ≡ true) ⌝ }
-    ensures { λ r. ⌜ r ≡ isNew (now (words .entry)) x ⌝ }
+// The same, looked for only where the key's hash was met.
+fn hashed_is_new(words: &[u32], x: usize, met: bool) -> bool
+    requires words { ⌜ (length (now words) ≡ 13441) × (x < 64) × (met ≡ false → isNew (now words) x ≡ true) ⌝ }
+    ensures value { λ r. ⌜ r ≡ isNew (now (words .entry)) x ⌝ }
 {
     if !met {
         return true;
@@ -58,16 +62,16 @@ fn marked_is_new(words: &[u32], x: usize, met: bool) -> bool
 
 // The n keys differ.
 pub fn keys_differ(words: &[u32], n: usize) -> bool
-    requires { ⌜ (length (now words) ≡ 13441) × (n ≤ 64) × (n ≡ sizeOf (now words)) ⌝ }
-    ensures { λ r. ⌜ r ≡ keysDiffer (decodeTable (now (words .entry))) ⌝ }
+    requires words { ⌜ (length (now words) ≡ 13441) × (n ≤ 64) × (n ≡ sizeOf (now words)) ⌝ }
+    ensures value { λ r. ⌜ r ≡ keysDiffer (decodeTable (now (words .entry))) ⌝ }
 {
     let mut met = [false; 512];
     for x in 0..n {
-        let m = mark(words, x);
-        if !marked_is_new(words, x, met[m]) {
+        let h = hash(words, x);
+        if !hashed_is_new(words, x, met[h]) {
             return false;
         }
-        met[m] = true;
+        met[h] = true;
     }
     true
 }

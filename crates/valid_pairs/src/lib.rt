@@ -17,18 +17,19 @@ const NO_LINK: u32 = 0x3000_0000;
 
 const NO_SPARE: u32 = 0x4000_0040;
 
-// u without bit 25, the candidate mark, plus 2^24 - 1. Bit 24 of that is clear exactly where a held pair has a stamp and
-// another has none; it is then at most 2^25 - 1 plus the clock exactly where the stamp is at most the clock.
+// u without the candidate mark, plus 2^24 - 1. Bit 24 of that is clear exactly where a held pair has a stamp and another
+// has none; it is then at most 2^25 - 1 plus the clock exactly where the stamp is at most the clock.
 fn lifted(u: u32) -> u32
-    ensures { λ r. ⌜ r ≡ u / 2 ^ 26 * 2 ^ 26 + u % 2 ^ 25 + 16777215 ⌝ }
+    ensures value { λ r. ⌜ r ≡ u / 2 ^ 26 * 2 ^ 26 + u % 2 ^ 25 + 16777215 ⌝ }
 {
     (u & 0xFDFF_FFFF) + 0xFF_FFFF
 }
 
 // The row of a running node x. Each condition has a word in which the bits that break it are gathered.
 fn running_row(words: &[u32], links: &[u32; 127], spares: &[u32; 127], x: usize, n: usize) -> Row
-    requires { ⌜ GivenRow (now words) (now links) (now spares) x n ⌝ }
-    ensures { λ r. ⌜ (r .fits ≡ linksFit (now (words .entry)) n x) × (r .bare ≡ noSpares (now (words .entry)) n x) ⌝ }
+    requires row { ⌜ GivenRow (now words) (now links) (now spares) x n ⌝ }
+    ensures fits { λ r. ⌜ r .fits ≡ linksFit (now (words .entry)) n x ⌝ }
+    ensures bare { λ r. ⌜ r .bare ≡ noSpares (now (words .entry)) n x ⌝ }
 {
     let most = 0x1FF_FFFF + words[1 + 2 * x + 1] % 0x100_0000;
     let mut link = 0;
@@ -49,8 +50,8 @@ fn running_row(words: &[u32], links: &[u32; 127], spares: &[u32; 127], x: usize,
 
 // The row of a node x that is off: nothing but what a pair without a link and a spare has.
 fn off_row(words: &[u32], links: &[u32; 127], spares: &[u32; 127], x: usize, n: usize) -> bool
-    requires { ⌜ GivenRow (now words) (now links) (now spares) x n ⌝ }
-    ensures { λ r. ⌜ r ≡ noLinks (now (words .entry)) n x && noSpares (now (words .entry)) n x ⌝ }
+    requires row { ⌜ GivenRow (now words) (now links) (now spares) x n ⌝ }
+    ensures value { λ r. ⌜ r ≡ noLinks (now (words .entry)) n x && noSpares (now (words .entry)) n x ⌝ }
 {
     let mut link = 0;
     let mut spare = 0;
@@ -62,8 +63,8 @@ fn off_row(words: &[u32], links: &[u32; 127], spares: &[u32; 127], x: usize, n: 
     (link == 0) & (spare == 0)
 }
 
-// The pairs of a running x with n nodes. A row without spares is done by its links, which is quicker: that is tried first
-// where the row before had none.
+// The pairs of a running x with n nodes. A row without spares is done by its links, which is quicker: that is tried
+// first where the row before had none.
 fn running_pairs_read(
     words: &[u32],
     links: &[u32; 127],
@@ -72,8 +73,9 @@ fn running_pairs_read(
     n: usize,
     bare: bool,
 ) -> Row
-    requires { ⌜ GivenRow (now words) (now links) (now spares) x n × RunningRow (now words) x ⌝ }
-    ensures { λ r. ⌜ r .fits ≡ all n (pairReads (now (words .entry)) n x) ⌝ }
+    requires row { ⌜ GivenRow (now words) (now links) (now spares) x n ⌝ }
+    requires running { ⌜ RunningRow (now words) x ⌝ }
+    ensures fits { λ r. ⌜ r .fits ≡ all n (pairReads (now (words .entry)) n x) ⌝ }
 {
     if !bare {
         return whole_row(words, x, n);
@@ -97,8 +99,8 @@ fn row_pairs_read(
     n: usize,
     bare: bool,
 ) -> Row
-    requires { ⌜ GivenRow (now words) (now links) (now spares) x n ⌝ }
-    ensures { λ r. ⌜ r .fits ≡ all n (pairReads (now (words .entry)) n x) ⌝ }
+    requires row { ⌜ GivenRow (now words) (now links) (now spares) x n ⌝ }
+    ensures fits { λ r. ⌜ r .fits ≡ all n (pairReads (now (words .entry)) n x) ⌝ }
 {
     let own = 129 + 2 * (64 * x + x);
     if !((words[own] | words[own + 1]) == 0) {
@@ -125,8 +127,8 @@ fn row_reads(
     n: usize,
     bare: bool,
 ) -> Row
-    requires { ⌜ GivenRow (now words) (now links) (now spares) x n ⌝ }
-    ensures { λ r. ⌜ r .fits ≡ rowReads (now (words .entry)) n x ⌝ }
+    requires row { ⌜ GivenRow (now words) (now links) (now spares) x n ⌝ }
+    ensures fits { λ r. ⌜ r .fits ≡ rowReads (now (words .entry)) n x ⌝ }
 {
     let row = row_pairs_read(words, links, spares, x, n, bare);
     let after = clear(words, 129 + 2 * (64 * x + n), 129 + 2 * (64 * x + 64));
@@ -136,11 +138,12 @@ fn row_reads(
     }
 }
 
-// The pairs of n nodes, and nothing after them. The tables are read at 63 - x + z, which is 63 where x is z: there, the words
-// are 0.
+// The pairs of n nodes, and nothing after them. The tables are read at 63 - x + z, which is 63 where x is z: there, the
+// words are 0.
 pub fn pairs_read(words: &[u32], n: usize) -> bool
-    requires { ⌜ (length (now words) ≡ 13441) × (n ≤ 64) ⌝ }
-    ensures { λ r. ⌜ r ≡ pairsRead (now (words .entry)) n ⌝ }
+    requires length { ⌜ length (now words) ≡ 13441 ⌝ }
+    requires bounds { ⌜ n ≤ 64 ⌝ }
+    ensures value { λ r. ⌜ r ≡ pairsRead (now (words .entry)) n ⌝ }
 {
     let mut links = [NO_LINK; 127];
     links[63] = 0;

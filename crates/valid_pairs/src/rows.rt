@@ -15,8 +15,8 @@ pub struct Row {
 
 // The words w and p of the pair of x with another z.
 fn pair_fits(w: u32, p: u32, clock: u32, n: u32, x: u32, z: u32) -> bool
-    requires { ⌜ (clock < 2 ^ 24) × (n ≤ 64) × (x < 64) × (z < 64) ⌝ }
-    ensures { λ r. ⌜ r ≡ linkReads clock w && spareReads n x z w p ⌝ }
+    requires bounds { ⌜ (clock < 2 ^ 24) × (n ≤ 64) × (x < 64) × (z < 64) ⌝ }
+    ensures value { λ r. ⌜ r ≡ linkReads clock w && spareReads n x z w p ⌝ }
 {
     let link = w & 0xFDFF_FFFF;
     let held = std::num::wrapping_sub_u32(link, 0x3100_0001) < clock;
@@ -27,7 +27,8 @@ fn pair_fits(w: u32, p: u32, clock: u32, n: u32, x: u32, z: u32) -> bool
 }
 
 fn one_if(b: bool) -> u32
-    ensures { λ r. ⌜ (r ≡ (if b then 1 else 0)) × (r ≤ 1) ⌝ }
+    ensures value { λ r. ⌜ r ≡ (if b then 1 else 0) ⌝ }
+    ensures bound { λ r. ⌜ r ≤ 1 ⌝ }
 {
     if b {
         return 1;
@@ -37,8 +38,8 @@ fn one_if(b: bool) -> u32
 
 // The pairs of a running x with the other nodes: all of them fit, and that of x with itself, which is 0, does not.
 pub fn whole_row(words: &[u32], x: usize, n: usize) -> Row
-    requires { ⌜ (length (now words) ≡ 13441) × (n ≤ 64) × (x < n) × (linkAt (now words) x x ≡ 0) ⌝ }
-    ensures { λ r. ⌜ r .fits ≡ all n (othersRead (now (words .entry)) n x) ⌝ }
+    requires words { ⌜ (length (now words) ≡ 13441) × (n ≤ 64) × (x < n) × (linkAt (now words) x x ≡ 0) ⌝ }
+    ensures fits { λ r. ⌜ r .fits ≡ all n (othersRead (now (words .entry)) n x) ⌝ }
 {
     let clock = words[1 + 2 * x + 1] % 0x100_0000;
     let mut fit = 0;

@@ -9,8 +9,8 @@ use valid_pairs::pairs_read;
 
 // The words read as a ring. Word 0 is looked at first: the others are looked for by what it says.
 pub fn reads_as_ring(words: &[u32]) -> bool
-    requires { ⌜ length (now words) ≡ 13441 ⌝ }
-    ensures { λ r. ⌜ r ≡ readsAsRing (now (words .entry)) ⌝ }
+    requires length { ⌜ length (now words) ≡ 13441 ⌝ }
+    ensures value { λ r. ⌜ r ≡ readsAsRing (now (words .entry)) ⌝ }
 {
     let w = words[0];
     if !head::head_reads(w) {

@@ -11,7 +11,7 @@ use word::EventWord;
 
 // Whether each part has room in its bits, and the timer is 0 to 4.
 fn parts_fit(e: Event) -> bool
-    ensures { λ r. ⌜ r ≡ partsFit e ⌝ }
+    ensures value { λ r. ⌜ r ≡ partsFit e ⌝ }
 {
     match e {
         Event::On(x) => x.0 < 64,
@@ -26,7 +26,7 @@ fn parts_fit(e: Event) -> bool
 
 // Whether the event is a contact or a notice of one node with itself.
 fn same_node(e: Event) -> bool
-    ensures { λ r. ⌜ r ≡ sameNode e ⌝ }
+    ensures value { λ r. ⌜ r ≡ sameNode e ⌝ }
 {
     match e {
         Event::On(_) => false,
@@ -41,7 +41,8 @@ fn same_node(e: Event) -> bool
 
 // The word of an event, or refusal 4 or 5.
 pub fn write_event(e: Event) -> Writing
-    ensures { λ r. ⌜ (r .answer ≡ eventAnswer e) × (r .word ≡ writeEvent e) ⌝ }
+    ensures answer { λ r. ⌜ r .answer ≡ eventAnswer e ⌝ }
+    ensures word { λ r. ⌜ r .word ≡ writeEvent e ⌝ }
 {
     if !parts_fit(e) {
         return Writing {
@@ -63,7 +64,7 @@ pub fn write_event(e: Event) -> Writing
 
 // The event of a word, or refusal 4 or 5.
 pub fn read_event(word: u32) -> Reading
-    ensures { λ r. ⌜ r ≡ readEvent word ⌝ }
+    ensures value { λ r. ⌜ r ≡ readEvent word ⌝ }
 {
     let e = EventWord(word).event();
     if EventWord::new(e).0 != word {

@@ -25,14 +25,14 @@ impl EventWord {
 
     // The word of kind `kind` whose other bits are `parts`.
     fn of_kind(kind: u32, parts: u32) -> EventWord
-        requires { ⌜ (kind < 16) × (parts < 2 ^ 28) ⌝ }
-        ensures { λ r. ⌜ r .0 ≡ ofKind kind parts ⌝ }
+        requires bounds { ⌜ (kind < 16) × (parts < 2 ^ 28) ⌝ }
+        ensures value { λ r. ⌜ r .0 ≡ ofKind kind parts ⌝ }
     {
         EventWord(kind * 0x1000_0000 + parts)
     }
 
     pub fn new(e: Event) -> EventWord
-        ensures { λ r. ⌜ r .0 ≡ wordOf e ⌝ }
+        ensures value { λ r. ⌜ r .0 ≡ wordOf e ⌝ }
     {
         match e {
             Event::On(x) => EventWord::of_kind(EventWord::ON, wide(x)),
@@ -47,7 +47,7 @@ impl EventWord {
 
     // The event that the named bits give.
     pub fn event(self) -> Event
-        ensures { λ r. ⌜ r ≡ eventOf (self .0) ⌝ }
+        ensures value { λ r. ⌜ r ≡ eventOf (self .0) ⌝ }
     {
         let x = NodeNumber((self.0 % 64) as u8);
         let other = NodeNumber((self.0 / 64 % 64) as u8);
@@ -67,7 +67,8 @@ impl EventWord {
 }
 
 fn wide(x: NodeNumber) -> u32
-    ensures { λ r. ⌜ (r ≡ x .0) × (r < 256) ⌝ }
+    ensures value { λ r. ⌜ r ≡ x .0 ⌝ }
+    ensures bound { λ r. ⌜ r < 256 ⌝ }
 {
     x.0 as u32
 }

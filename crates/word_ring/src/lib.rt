@@ -9,7 +9,8 @@ use model::values::Stamp;
 
 // A mark as a bit.
 fn mark(b: bool) -> u32
-    ensures { λ r. ⌜ (r ≡ bit b) × (r ≤ 1) ⌝ }
+    ensures value { λ r. ⌜ r ≡ bit b ⌝ }
+    ensures bound { λ r. ⌜ r ≤ 1 ⌝ }
 {
     if b { 1 } else { 0 }
 }
@@ -21,26 +22,26 @@ impl HeadWord {
     pub const KIND: u32 = 1;
 
     pub fn new(leaf: u32, nodes: u32, messages: u32) -> HeadWord
-        requires { ⌜ (leaf < 2 ^ 4) × (nodes < 2 ^ 7) × (messages < 2 ^ 11) ⌝ }
-        ensures { λ r. ⌜ r .0 ≡ headWord leaf nodes messages ⌝ }
+        requires bounds { ⌜ (leaf < 2 ^ 4) × (nodes < 2 ^ 7) × (messages < 2 ^ 11) ⌝ }
+        ensures value { λ r. ⌜ r .0 ≡ headWord leaf nodes messages ⌝ }
     {
         HeadWord(HeadWord::KIND * 0x1000_0000 + (messages * 0x800 + nodes * 0x10 + leaf))
     }
 
     pub fn leaf(self) -> u32
-        ensures { λ r. ⌜ r ≡ bits 0 4 (self .0) ⌝ }
+        ensures value { λ r. ⌜ r ≡ bits 0 4 (self .0) ⌝ }
     {
         self.0 % 0x10
     }
 
     pub fn nodes(self) -> u32
-        ensures { λ r. ⌜ r ≡ bits 4 7 (self .0) ⌝ }
+        ensures value { λ r. ⌜ r ≡ bits 4 7 (self .0) ⌝ }
     {
         self.0 / 0x10 % 0x80
     }
 
     pub fn messages(self) -> u32
-        ensures { λ r. ⌜ r ≡ bits 11 11 (self .0) ⌝ }
+        ensures value { λ r. ⌜ r ≡ bits 11 11 (self .0) ⌝ }
     {
         self.0 / 0x800 % 0x800
     }
@@ -53,20 +54,20 @@ impl KeyWord {
     pub const KIND: u32 = 2;
 
     pub fn new(key: Key, running: bool) -> KeyWord
-        requires { ⌜ key .0 < 2 ^ 24 ⌝ }
-        ensures { λ r. ⌜ r .0 ≡ keyWord (key .0) running ⌝ }
+        requires bounds { ⌜ key .0 < 2 ^ 24 ⌝ }
+        ensures value { λ r. ⌜ r .0 ≡ keyWord (key .0) running ⌝ }
     {
         KeyWord(KeyWord::KIND * 0x1000_0000 + (mark(running) * 0x100_0000 + key.0))
     }
 
     pub fn key(self) -> Key
-        ensures { λ r. ⌜ r .0 ≡ bits 0 24 (self .0) ⌝ }
+        ensures value { λ r. ⌜ r .0 ≡ bits 0 24 (self .0) ⌝ }
     {
         Key(self.0 % 0x100_0000)
     }
 
     pub fn running(self) -> bool
-        ensures { λ r. ⌜ r ≡ flag 24 (self .0) ⌝ }
+        ensures value { λ r. ⌜ r ≡ flag 24 (self .0) ⌝ }
     {
         self.0 / 0x100_0000 % 2 == 1
     }
@@ -79,14 +80,14 @@ impl ClockWord {
     pub const KIND: u32 = 5;
 
     pub fn new(clock: Stamp) -> ClockWord
-        requires { ⌜ clock .0 < 2 ^ 24 ⌝ }
-        ensures { λ r. ⌜ r .0 ≡ clockWord (clock .0) ⌝ }
+        requires bounds { ⌜ clock .0 < 2 ^ 24 ⌝ }
+        ensures value { λ r. ⌜ r .0 ≡ clockWord (clock .0) ⌝ }
     {
         ClockWord(ClockWord::KIND * 0x1000_0000 + clock.0)
     }
 
     pub fn clock(self) -> Stamp
-        ensures { λ r. ⌜ r .0 ≡ bits 0 24 (self .0) ⌝ }
+        ensures value { λ r. ⌜ r .0 ≡ bits 0 24 (self .0) ⌝ }
     {
         Stamp(self.0 % 0x100_0000)
     }
@@ -99,8 +100,8 @@ impl PairWord {
     pub const KIND: u32 = 3;
 
     pub fn new(commit: Stamp, held: bool, candidate: bool) -> PairWord
-        requires { ⌜ commit .0 < 2 ^ 24 ⌝ }
-        ensures { λ r. ⌜ r .0 ≡ pairWord (commit .0) held candidate ⌝ }
+        requires bounds { ⌜ commit .0 < 2 ^ 24 ⌝ }
+        ensures value { λ r. ⌜ r .0 ≡ pairWord (commit .0) held candidate ⌝ }
     {
         PairWord(
             PairWord::KIND * 0x1000_0000
@@ -109,19 +110,19 @@ impl PairWord {
     }
 
     pub fn commit(self) -> Stamp
-        ensures { λ r. ⌜ r .0 ≡ bits 0 24 (self .0) ⌝ }
+        ensures value { λ r. ⌜ r .0 ≡ bits 0 24 (self .0) ⌝ }
     {
         Stamp(self.0 % 0x100_0000)
     }
 
     pub fn held(self) -> bool
-        ensures { λ r. ⌜ r ≡ flag 24 (self .0) ⌝ }
+        ensures value { λ r. ⌜ r ≡ flag 24 (self .0) ⌝ }
     {
         self.0 / 0x100_0000 % 2 == 1
     }
 
     pub fn candidate(self) -> bool
-        ensures { λ r. ⌜ r ≡ flag 25 (self .0) ⌝ }
+        ensures value { λ r. ⌜ r ≡ flag 25 (self .0) ⌝ }
     {
         self.0 / 0x200_0000 % 2 == 1
     }
@@ -134,14 +135,14 @@ impl SpareWord {
     pub const KIND: u32 = 4;
 
     pub fn new(spare: NodeNumber) -> SpareWord
-        requires { ⌜ spare .0 < 2 ^ 7 ⌝ }
-        ensures { λ r. ⌜ r .0 ≡ spareWord (spare .0) ⌝ }
+        requires bounds { ⌜ spare .0 < 2 ^ 7 ⌝ }
+        ensures value { λ r. ⌜ r .0 ≡ spareWord (spare .0) ⌝ }
     {
         SpareWord(SpareWord::KIND * 0x1000_0000 + (spare.0 as u32))
     }
 
     pub fn spare(self) -> NodeNumber
-        ensures { λ r. ⌜ r .0 ≡ bits 0 7 (self .0) ⌝ }
+        ensures value { λ r. ⌜ r .0 ≡ bits 0 7 (self .0) ⌝ }
     {
         NodeNumber((self.0 % 0x80) as u8)
     }
@@ -183,8 +184,8 @@ impl MessageWord {
         receiver: NodeNumber,
         subject: NodeNumber,
     ) -> MessageWord
-        requires { ⌜ (tag < 2 ^ 4) × (sender .0 < 2 ^ 6) × (receiver .0 < 2 ^ 6) × (subject .0 < 2 ^ 7) ⌝ }
-        ensures { λ r. ⌜ r .0 ≡ messageWord tag (sender .0) (receiver .0) (subject .0) ⌝ }
+        requires bounds { ⌜ (tag < 2 ^ 4) × (sender .0 < 2 ^ 6) × (receiver .0 < 2 ^ 6) × (subject .0 < 2 ^ 7) ⌝ }
+        ensures value { λ r. ⌜ r .0 ≡ messageWord tag (sender .0) (receiver .0) (subject .0) ⌝ }
     {
         MessageWord(
             MessageWord::KIND * 0x1000_0000
@@ -196,25 +197,25 @@ impl MessageWord {
     }
 
     pub fn tag(self) -> u8
-        ensures { λ r. ⌜ r ≡ bits 0 4 (self .0) ⌝ }
+        ensures value { λ r. ⌜ r ≡ bits 0 4 (self .0) ⌝ }
     {
         (self.0 % 0x10) as u8
     }
 
     pub fn sender(self) -> NodeNumber
-        ensures { λ r. ⌜ r .0 ≡ bits 4 6 (self .0) ⌝ }
+        ensures value { λ r. ⌜ r .0 ≡ bits 4 6 (self .0) ⌝ }
     {
         NodeNumber((self.0 / 0x10 % 0x40) as u8)
     }
 
     pub fn receiver(self) -> NodeNumber
-        ensures { λ r. ⌜ r .0 ≡ bits 10 6 (self .0) ⌝ }
+        ensures value { λ r. ⌜ r .0 ≡ bits 10 6 (self .0) ⌝ }
     {
         NodeNumber((self.0 / 0x400 % 0x40) as u8)
     }
 
     pub fn subject(self) -> NodeNumber
-        ensures { λ r. ⌜ r .0 ≡ bits 16 7 (self .0) ⌝ }
+        ensures value { λ r. ⌜ r .0 ≡ bits 16 7 (self .0) ⌝ }
     {
         NodeNumber((self.0 / 0x1_0000 % 0x80) as u8)
     }
@@ -227,14 +228,14 @@ impl StampWord {
     pub const KIND: u32 = 7;
 
     pub fn new(stamp: Stamp) -> StampWord
-        requires { ⌜ stamp .0 < 2 ^ 24 ⌝ }
-        ensures { λ r. ⌜ r .0 ≡ stampWord (stamp .0) ⌝ }
+        requires bounds { ⌜ stamp .0 < 2 ^ 24 ⌝ }
+        ensures value { λ r. ⌜ r .0 ≡ stampWord (stamp .0) ⌝ }
     {
         StampWord(StampWord::KIND * 0x1000_0000 + stamp.0)
     }
 
     pub fn stamp(self) -> Stamp
-        ensures { λ r. ⌜ r .0 ≡ bits 0 24 (self .0) ⌝ }
+        ensures value { λ r. ⌜ r .0 ≡ bits 0 24 (self .0) ⌝ }
     {
         Stamp(self.0 % 0x100_0000)
     }
@@ -247,14 +248,14 @@ impl ViewWord {
     pub const KIND: u32 = 8;
 
     pub fn new(part: u32) -> ViewWord
-        requires { ⌜ part < 2 ^ 24 ⌝ }
-        ensures { λ r. ⌜ r .0 ≡ viewWord part ⌝ }
+        requires bounds { ⌜ part < 2 ^ 24 ⌝ }
+        ensures value { λ r. ⌜ r .0 ≡ viewWord part ⌝ }
     {
         ViewWord(ViewWord::KIND * 0x1000_0000 + part)
     }
 
     pub fn part(self) -> u32
-        ensures { λ r. ⌜ r ≡ bits 0 24 (self .0) ⌝ }
+        ensures value { λ r. ⌜ r ≡ bits 0 24 (self .0) ⌝ }
     {
         self.0 % 0x100_0000
     }

@@ -7,7 +7,7 @@ use denote.Ref.{now}
 use borrow.Author.Needs.{needs}
 use Rattle.model.specs.Sets.{all}
 use Rattle.model.specs.Fields.{bits}
-use Rattle.valid_nodes.specs.Marks.{isNew}
+use Rattle.valid_nodes.specs.Hashes.{isNew}
 use Rattle.valid_nodes.specs.Nodes.{keyAt}
 use Rattle.valid_nodes.proofs.Formats.{lowest}
 use Rattle.valid_nodes.proofs.Gather.{all-more}

@@ -1,4 +1,4 @@
--- Keys that were met, by their marks.
+-- Keys that were met, by their hashes.
 use Prim.Native.Nat.{ℕ, _*_, _/_, _%_, _^_}
 use mathlib.Core.Bool.{Bool, not}
 use mathlib.Core.List.{List}
@@ -7,9 +7,9 @@ use Rattle.model.specs.Sets.{all}
 use Rattle.model.specs.Fields.{bits}
 use Rattle.valid_nodes.specs.Nodes.{keyAt}
 
--- the mark of a key, below 512
-abbrev pub markOf : ℕ → ℕ
-markOf key = key * 2654435761 / 2 ^ 23 % 512
+-- the hash of a key, below 512
+abbrev pub hashOf : ℕ → ℕ
+hashOf key = key * 2654435761 / 2 ^ 23 % 512
 
 abbrev pub keyOf : List ℕ → ℕ → ℕ
 keyOf ws s = bits 0 24 (keyAt ws s)
