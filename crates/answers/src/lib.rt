@@ -3,9 +3,6 @@ ghost use mathlib.Core.Path.{_≡_};
 ghost use Rattle.model.specs.Answers.{numberOf};
 use model::answer::Answer;
 
-// The clock's last value: where it must rise, refusal 10.
-pub const LAST: u32 = 16_777_215;
-
 // Document 01's number of the answer.
 pub fn number(answer: Answer) -> u32
     ensures answer { λ r. ⌜ r ≡ numberOf answer ⌝ }

@@ -19,8 +19,7 @@ pub enum Next {
 
 impl<'a> Script<'a> {
     pub fn new(words: &'a [u32], at: usize) -> Script<'a>
-        ensures words { λ r. ⌜ r .words ≡ words .entry ⌝ }
-        ensures at { λ r. ⌜ r .at ≡ at ⌝ }
+        ensures parts { λ r. ⌜ (r .words ≡ words .entry) × (r .at ≡ at) ⌝ }
     {
         Script { words, at }
     }
@@ -34,8 +33,8 @@ impl<'a> Script<'a> {
 
     // The script moved on by one word; at the end it stays.
     pub fn moved(self) -> Script<'a>
-        ensures words { λ r. ⌜ r .words ≡ self .entry .words ⌝ }
-        ensures at { λ r. ⌜ r .at ≡ afterAt (now (self .entry .words)) (self .entry .at) ⌝ }
+        ensures parts { λ r. ⌜ (r .words ≡ self .entry .words)
+            × (r .at ≡ afterAt (now (self .entry .words)) (self .entry .at)) ⌝ }
     {
         let after = after_at(self.words, self.at);
         Script {

@@ -19,7 +19,7 @@ pub fn step(session: Session, bytes: &[u8], words: &mut [u32], out: &mut [u8]) -
         (turn (session .opened) (session .count) (decode (now (words .entry))) (now (bytes .entry))) (now (words .exit))
         (now (out .entry)) (now (out .exit)) r ⌝ }
 {
-    let mut script = [0u32; 1024];
+    let mut script = [0u32; Session::WORDS];
     let n = loading::load(bytes, &mut script);
     take_words(session, &script[..n], bytes.len(), words, out)
 }

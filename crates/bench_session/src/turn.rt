@@ -23,6 +23,9 @@ impl Session {
     // The bytes of a chunk. A shorter one is the last.
     pub const CHUNK: usize = 4096;
 
+    // Its words.
+    pub const WORDS: usize = Session::CHUNK / 4;
+
     // Room for what a chunk prints.
     pub const ROOM: usize = 160_000;
 

@@ -8,6 +8,8 @@ ghost use Rattle.model.specs.Buffer.{openBuffer};
 ghost use Rattle.answers.specs.Applied.{written};
 ghost use Rattle.call_open.specs.Keys.{keyDiffers, keysFit};
 use model::answer::Answer;
+use word_ring::limit;
+use word_ring::place;
 
 // "Opening takes L and a list of n keys, stand 0's first, and writes a fresh ring over the lent buffer, whose old words
 // don't matter."
@@ -15,7 +17,7 @@ pub fn open(words: &mut [u32], leaf: u32, keys: &[u32]) -> Answer
     ensures written { λ r. ⌜ written r (now (words .exit))
         ≡ openBuffer (now (words .entry)) (tableOf leaf (now (keys .entry))) ⌝ }
 {
-    if words.len() != 13441 {
+    if words.len() != place::LENGTH {
         return Answer::WrongLength;
     }
     if !in_range(leaf, keys) {
@@ -41,7 +43,7 @@ fn keys_fit(keys: &[u32]) -> bool
 {
     let mut ok = true;
     for s in 0..keys.len() {
-        ok = ok & (keys[s] <= 16_777_215);
+        ok = ok & (keys[s] <= limit::KEY);
     }
     ok
 }

@@ -7,12 +7,13 @@ ghost use Rattle.model.specs.Questions.{connectionAnswer, groupsAnswer};
 ghost use Rattle.call_refusals.specs.Asked.{nodesRefusals};
 use model::answer::Answer;
 use model::values::NodeNumber;
+use word_ring::place;
 
 // 1 and 6, which every question begins with.
 pub fn of_words(words: &[u32]) -> Answer
     ensures answer { λ r. ⌜ r ≡ groupsAnswer (now (words .entry)) ⌝ }
 {
-    if words.len() != 13441 {
+    if words.len() != place::LENGTH {
         return Answer::WrongLength;
     }
     if !valid_ring::reads_as_ring(words) {

@@ -16,6 +16,7 @@ use model::values::NodeNumber;
 use model::values::Stamp;
 use records::effect::Calls;
 use records::effect::Reply;
+use word_ring::limit;
 
 // Node x, of n, acts at `time` with one message or none, after the m messages.
 pub fn reply(
@@ -36,7 +37,7 @@ pub fn reply(
         ring_nodes::store(words, n, x, time, own);
         return Answer::Accepted;
     }
-    if m == 1024 {
+    if m == limit::MESSAGES {
         return Answer::PoolFull;
     }
     let message = reply.message;
@@ -61,7 +62,7 @@ pub fn calls(
 {
     let own = calls.own;
     let to = calls.to;
-    if 1024 < m + sets::size(to) as usize {
+    if limit::MESSAGES < m + sets::size(to) as usize {
         return Answer::PoolFull;
     }
     ring_nodes::store(words, n, x, time, own);
@@ -86,7 +87,7 @@ pub fn requests(
         ≡ applied (now (words .entry)) (acted (x .0) (requestsEffect (x .0) (time .0) own to) ρ)) ⌝ }
 {
     let more = sets::size(to) as usize;
-    if 1024 < m + more {
+    if limit::MESSAGES < m + more {
         return Answer::PoolFull;
     }
     ring_nodes::store(words, n, x, time, own);

@@ -7,11 +7,11 @@ ghost use Rattle.model.specs.Answers.{firstOf};
 ghost use Rattle.model.specs.Words.{decode, readsAsRing};
 ghost use Rattle.model.specs.declared.answer.Answer.the-variants.{Accepted};
 ghost use Rattle.event_act.specs.Acting.{mayAct, IsActor};
-use answers::LAST;
 use model::answer::Answer;
 use model::node::NodeRecord;
 use model::values::NodeNumber;
 use model::values::Stamp;
+use word_ring::limit;
 
 // A node of n, with m messages in flight: `time` is its "now", `own` its own record.
 pub struct Actor {
@@ -32,7 +32,7 @@ pub fn may_act(words: &[u32], x: NodeNumber) -> Answer
     if !ring_nodes::is_running(words, x) {
         return Answer::NodeOff;
     }
-    if ring_nodes::clock(words, x).0 == LAST {
+    if ring_nodes::clock(words, x).0 == limit::CLOCK {
         return Answer::ClockSpent;
     }
     Answer::Accepted

@@ -4,10 +4,10 @@ ghost use mathlib.Core.Bool.{true};
 ghost use Rattle.model.specs.Words.{readsAsRing};
 ghost use Rattle.model.specs.declared.event.Event.the-variants.{On, Off};
 ghost use Rattle.answers.specs.Applied.{written, eventOn};
-use answers::LAST;
 use model::answer::Answer;
 use model::values::NodeNumber;
 use model::values::Stamp;
+use word_ring::limit;
 
 pub fn on(words: &mut [u32], x: NodeNumber) -> Answer
     requires ring { ⌜ readsAsRing (now words) ≡ true ⌝ }
@@ -20,7 +20,7 @@ pub fn on(words: &mut [u32], x: NodeNumber) -> Answer
         return Answer::AlreadyRunning;
     }
     let clock = ring_nodes::clock(words, x).0;
-    if clock == LAST {
+    if clock == limit::CLOCK {
         return Answer::ClockSpent;
     }
     ring_nodes::start(words, x, Stamp(clock + 1));

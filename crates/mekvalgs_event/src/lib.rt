@@ -91,7 +91,7 @@ fn fit(p: Parts) -> bool
         EventWord::ON | EventWord::OFF => (p.second == 0) & (p.first < 64),
         EventWord::NOTICE | EventWord::CONTACT => (p.first < 64) & (p.second < 64),
         EventWord::TIMER => (p.first < 64) & (p.second <= 4),
-        EventWord::DELIVER | EventWord::LOSE => (p.second == 0) & (p.first < 1024),
+        EventWord::DELIVER | EventWord::LOSE => (p.second == 0) & (p.first < EventWord::POSITIONS),
         _ => false,
     }
 }

@@ -1,5 +1,4 @@
 pub mod Difference
-pub mod UpTo
 pub mod Linked
 pub mod Walk
 pub mod Turn

@@ -6,35 +6,19 @@ ghost use Prim.Native.Nat.{ℕ, _<_, _≤_};
 ghost use lib.ListN.{length};
 ghost use Rattle.model.specs.Sets.{ofBits};
 ghost use Rattle.model.specs.Leafset.{size};
-ghost use Rattle.model.specs.Ring.{isRunning};
 ghost use Rattle.model.specs.Words.{ringLength, decodeTable, decode};
 ghost use Rattle.model.specs.Connection as model;
 ghost use Rattle.ring_connection.specs.Links.{heldAt, Closed};
 use model::values::NodeNumber;
-use word_ring::KeyWord;
 use word_ring::PairWord;
-
-// The nodes that run.
-fn running(words: &[u32], n: usize) -> u64
-    requires words { ⌜ (length (now words) ≡ ringLength) × (n ≡ size (decodeTable (now words))) × (n ≤ 64) ⌝ }
-    ensures members { λ r. ⌜ ((x : ℕ) → ofBits r x ≡ isRunning (decode (now (words .entry))) x) ⌝ }
-{
-    let mut set = 0;
-    for x in 0..n {
-        let more = sets::with(set, NodeNumber(x as u8));
-        if KeyWord(words[1 + 2 * x]).running() {
-            set = more;
-        }
-    }
-    set
-}
+use word_ring::place;
 
 // Whether x holds z.
 fn holds(words: &[u32], x: NodeNumber, z: NodeNumber) -> bool
     requires words { ⌜ (length (now words) ≡ ringLength) × (x .0 < 64) × (z .0 < 64) ⌝ }
     ensures value { λ r. ⌜ r ≡ heldAt (now (words .entry)) (x .0) (z .0) ⌝ }
 {
-    PairWord(words[129 + 2 * (64 * (x.0 as usize) + (z.0 as usize))]).held()
+    PairWord(words[place::PAIRS + 2 * (64 * (x.0 as usize) + (z.0 as usize))]).held()
 }
 
 // The members of the set that x holds or that hold x.
@@ -82,7 +66,7 @@ pub fn connected(words: &[u32], n: usize, a: NodeNumber, b: NodeNumber) -> bool
         × (b .0 < n) ⌝ }
     ensures value { λ r. ⌜ r ≡ model.connected (decode (now (words .entry))) (a .0) (b .0) ⌝ }
 {
-    let running = running(words, n);
+    let running = ring_nodes::running(words, n);
     if !sets::has(running, a) {
         return false;
     }
@@ -95,7 +79,7 @@ pub fn groups(words: &[u32], n: usize) -> u32
     ensures value { λ r. ⌜ r ≡ model.groups (decode (now (words .entry))) ⌝ }
 {
     let mut groups = 0;
-    let mut left = running(words, n);
+    let mut left = ring_nodes::running(words, n);
     while left != 0 {
         left = apart(words, left, sets::lowest(left));
         groups += 1;

@@ -9,6 +9,7 @@ use model::values::Key;
 use model::values::NodeNumber;
 use word_ring::HeadWord;
 use word_ring::KeyWord;
+use word_ring::place;
 
 // L.
 pub fn leaf(words: &[u32]) -> u32
@@ -42,7 +43,7 @@ pub fn key(words: &[u32], x: NodeNumber) -> Key
     requires bounds { ⌜ x .0 < size (decodeTable (now words)) ⌝ }
     ensures value { λ r. ⌜ r .0 ≡ model.key (decodeTable (now (words .entry))) (x .0) ⌝ }
 {
-    KeyWord(words[1 + 2 * (x.0 as usize)]).key()
+    KeyWord(words[place::NODES + 2 * (x.0 as usize)]).key()
 }
 
 // The keys of the n nodes, node 0's first.
@@ -53,7 +54,7 @@ pub fn keys(words: &[u32], n: usize) -> [u32; 64]
 {
     let mut keys = [0; 64];
     for x in 0..n {
-        keys[x] = KeyWord(words[1 + 2 * x]).key().0;
+        keys[x] = KeyWord(words[place::NODES + 2 * x]).key().0;
     }
     keys
 }

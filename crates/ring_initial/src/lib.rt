@@ -12,6 +12,7 @@ use model::values::Stamp;
 use word_ring::ClockWord;
 use word_ring::HeadWord;
 use word_ring::KeyWord;
+use word_ring::place;
 
 // Writes the initial ring over any old words.
 pub fn write(words: &mut [u32], leaf: u32, keys: &[u32])
@@ -20,7 +21,7 @@ pub fn write(words: &mut [u32], leaf: u32, keys: &[u32])
     ensures words { λ _. ⌜ now (words .exit) ≡ encode (initial (tableOf leaf (now (keys .entry)))) ⌝ }
 {
     let n = keys.len();
-    ring_ranges::clear(words, 0, 13441);
+    ring_ranges::clear(words, 0, place::LENGTH);
     words[0] = HeadWord::new(leaf, n as u32, 0).0;
     write_nodes(words, keys);
     write_pairs(words, n);
@@ -36,7 +37,7 @@ fn write_nodes(words: &mut [u32], keys: &[u32])
 {
     let clock = ClockWord::new(Stamp(0)).0;
     for s in 0..keys.len() {
-        let at = 1 + 2 * s;
+        let at = place::NODES + 2 * s;
         words[at] = KeyWord::new(Key(keys[s]), false).0;
         words[at + 1] = clock;
     }

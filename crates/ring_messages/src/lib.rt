@@ -23,6 +23,10 @@ use word_ring::HeadWord;
 use word_ring::MessageWord;
 use word_ring::StampWord;
 use word_ring::ViewWord;
+use word_ring::place;
+
+// Message m - 1 stands at this and 5 times m.
+const BEFORE_MESSAGES: usize = place::MESSAGES - 5;
 
 // The message at position k.
 pub fn load(words: &[u32], k: usize) -> MessageRecord
@@ -30,7 +34,7 @@ pub fn load(words: &[u32], k: usize) -> MessageRecord
     requires bounds { ⌜ k < 1024 ⌝ }
     ensures loaded { λ r. ⌜ LoadedMessage (now (words .entry)) k r ⌝ }
 {
-    let at = 8321 + 5 * k;
+    let at = place::MESSAGES + 5 * k;
     let first = MessageWord(words[at]);
     let stamp = StampWord(words[at + 1]).stamp();
     let view = view_of(words[at + 2], words[at + 3], words[at + 4]);
@@ -60,8 +64,8 @@ pub fn remove(words: &mut [u32], m: usize, k: usize)
         → Encodes (now (words .exit)) n (m - 1) (removeMessage k ρ)) ⌝ }
 {
     set_count(words, m - 1);
-    ring_ranges::move_down(words, 8321 + 5 * k, 8316 + 5 * m);
-    ring_ranges::clear(words, 8316 + 5 * m, 8321 + 5 * m);
+    ring_ranges::move_down(words, place::MESSAGES + 5 * k, BEFORE_MESSAGES + 5 * m);
+    ring_ranges::clear(words, BEFORE_MESSAGES + 5 * m, place::MESSAGES + 5 * m);
 }
 
 // Puts a message after the m messages.
@@ -71,7 +75,7 @@ pub fn append(words: &mut [u32], m: usize, message: MessageRecord)
         → Encodes (now (words .exit)) n (m + 1) (setMessages (ρ .messages ++ (messageOf message ∷ [])) ρ)) ⌝ }
 {
     set_count(words, m + 1);
-    let at = 8321 + 5 * m;
+    let at = place::MESSAGES + 5 * m;
     words[at] = MessageWord::new(
         message.tag,
         message.sender,

@@ -3,8 +3,9 @@ ghost use mathlib.Core.Path.{_≡_};
 ghost use Prim.Native.Nat.{ℕ, _^_, _<_, _+_, _≤_};
 ghost use lib.ListN.{length};
 ghost use Rattle.model.specs.Leafset.{size};
-ghost use Rattle.model.specs.Ring.{Ring};
-ghost use Rattle.model.specs.Words.{ringLength, decodeTable, decodeNode};
+ghost use Rattle.model.specs.Sets.{ofBits};
+ghost use Rattle.model.specs.Ring.{Ring, isRunning};
+ghost use Rattle.model.specs.Words.{ringLength, decodeTable, decodeNode, decode};
 ghost use Rattle.model.specs.Play.{started, stopped};
 ghost use Rattle.model.specs.Structs.{ownOf, RoomNode};
 ghost use Rattle.ring_head.specs.Parts.{Encodes, update, setRunning, setClock, stepped};
@@ -13,6 +14,7 @@ use model::values::NodeNumber;
 use model::values::Stamp;
 use word_ring::ClockWord;
 use word_ring::KeyWord;
+use word_ring::place;
 
 // Whether node x runs.
 pub fn is_running(words: &[u32], x: NodeNumber) -> bool
@@ -20,7 +22,22 @@ pub fn is_running(words: &[u32], x: NodeNumber) -> bool
     requires bounds { ⌜ x .0 < size (decodeTable (now words)) ⌝ }
     ensures value { λ r. ⌜ r ≡ decodeNode (now (words .entry)) (x .0) .running ⌝ }
 {
-    KeyWord(words[1 + 2 * (x.0 as usize)]).running()
+    KeyWord(words[place::NODES + 2 * (x.0 as usize)]).running()
+}
+
+// The nodes that run.
+pub fn running(words: &[u32], n: usize) -> u64
+    requires words { ⌜ (length (now words) ≡ ringLength) × (n ≡ size (decodeTable (now words))) × (n ≤ 64) ⌝ }
+    ensures members { λ r. ⌜ ((x : ℕ) → ofBits r x ≡ isRunning (decode (now (words .entry))) x) ⌝ }
+{
+    let mut set = 0;
+    for x in 0..n {
+        let more = sets::with(set, NodeNumber(x as u8));
+        if KeyWord(words[place::NODES + 2 * x]).running() {
+            set = more;
+        }
+    }
+    set
 }
 
 // The clock of node x.
@@ -29,7 +46,7 @@ pub fn clock(words: &[u32], x: NodeNumber) -> Stamp
     requires bounds { ⌜ x .0 < size (decodeTable (now words)) ⌝ }
     ensures value { λ r. ⌜ r .0 ≡ decodeNode (now (words .entry)) (x .0) .clock ⌝ }
 {
-    let at = 1 + 2 * (x.0 as usize);
+    let at = place::NODES + 2 * (x.0 as usize);
     ClockWord(words[at + 1]).clock()
 }
 
@@ -40,7 +57,7 @@ pub fn set_running(words: &mut [u32], x: NodeNumber, running: bool)
     ensures value { λ _. ⌜ ((ρ : Ring) (n m : ℕ) → Encodes (now (words .entry)) n m ρ → x .0 < n
         → Encodes (now (words .exit)) n m (update (x .0) (setRunning running) ρ)) ⌝ }
 {
-    let at = 1 + 2 * (x.0 as usize);
+    let at = place::NODES + 2 * (x.0 as usize);
     let key = KeyWord(words[at]).key();
     words[at] = KeyWord::new(key, running).0;
 }
@@ -51,7 +68,7 @@ pub fn set_clock(words: &mut [u32], x: NodeNumber, clock: Stamp)
     ensures value { λ _. ⌜ ((ρ : Ring) (n m : ℕ) → Encodes (now (words .entry)) n m ρ → x .0 < n
         → Encodes (now (words .exit)) n m (update (x .0) (setClock (clock .0)) ρ)) ⌝ }
 {
-    let at = 1 + 2 * (x.0 as usize);
+    let at = place::NODES + 2 * (x.0 as usize);
     words[at + 1] = ClockWord::new(clock).0;
 }
 

@@ -16,6 +16,7 @@ use model::values::NodeNumber;
 use model::values::Stamp;
 use word_ring::PairWord;
 use word_ring::SpareWord;
+use word_ring::place;
 
 // The own record of node x, of n.
 pub fn load(words: &[u32], n: usize, x: NodeNumber) -> NodeRecord
@@ -32,7 +33,7 @@ pub fn load(words: &[u32], n: usize, x: NodeNumber) -> NodeRecord
         if z == me {
             continue;
         }
-        let at = 129 + 2 * (64 * me + z);
+        let at = place::PAIRS + 2 * (64 * me + z);
         let first = PairWord(words[at]);
         held = joined(held, z, first.held());
         candidates = joined(candidates, z, first.candidate());
@@ -65,7 +66,7 @@ pub fn store(words: &mut [u32], x: usize, a: usize, b: usize, own: NodeRecord)
     ensures value { λ _. ⌜ Stored (now (words .entry)) (now (words .exit)) x a b (ownOf own) ⌝ }
 {
     for z in a..b {
-        let at = 129 + 2 * (64 * x + z);
+        let at = place::PAIRS + 2 * (64 * x + z);
         words[at] = pair_word(own.commit[z], own.held, own.candidates, z);
         words[at + 1] = SpareWord::new(own.spare[z]).0;
     }
@@ -88,7 +89,7 @@ pub fn clear(words: &mut [u32], x: usize, a: usize, b: usize)
     let first = PairWord::new(Stamp(0), false, false).0;
     let second = SpareWord::new(NodeNumber::NONE).0;
     for z in a..b {
-        let at = 129 + 2 * (64 * x + z);
+        let at = place::PAIRS + 2 * (64 * x + z);
         words[at] = first;
         words[at + 1] = second;
     }

@@ -10,6 +10,10 @@ ghost use mathlib.Core.Path.{_≡_};
 ghost use lib.ListN.{length};
 use command::Command;
 use command::Next;
+use word_ring::place;
+
+// The buffer has one word more than a ring.
+const WORDS: usize = place::LENGTH + 1;
 
 // More commands than any input has.
 const MOST: u32 = 1_000_000;
@@ -18,7 +22,7 @@ const MOST: u32 = 1_000_000;
 fn call(command: Command, words: &mut [u32], list: &[u32], places: &mut [u8])
     requires length { ⌜ length (now words) ≡ 13442 ⌝ }
 {
-    let mut before = [0u32; 13442];
+    let mut before = [0u32; WORDS];
     memory::copy(words, &mut before);
     let end = memory::at_most(command.lent, words);
     let outcome = calls::call(command, &mut words[..end], list, places);
@@ -48,10 +52,10 @@ fn run_all(words: &mut [u32], list: &mut [u32], places: &mut [u8])
     }
 }
 
-// The buffer has one word more than a ring. The list has keys, and after them a script; the places take the answers of
+// The list has keys, and after them a script; the places take the answers of
 // a replay.
 fn main() {
-    let mut words = [0u32; 13442];
+    let mut words = [0u32; WORDS];
     let mut list = [0u32; 1200];
     let mut places = [0u8; 1040];
     run_all(&mut words, &mut list, &mut places);

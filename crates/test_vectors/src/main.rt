@@ -3,9 +3,11 @@
 ghost use mathlib.Core.Path.{_≡_};
 ghost use Prim.Native.Nat.{_≤_};
 ghost use lib.ListN.{length};
+ghost use Rattle.model.specs.Words.{ringLength};
 use bench_session::chunks;
 use bench_session::turn::Session;
 use libc::STDOUT_FILENO;
+use word_ring::place;
 
 // More chunks than any script has.
 const MOST: u64 = 0x1000_0000_0000;
@@ -44,7 +46,7 @@ fn compare(
     out: &mut [u8],
     room: &mut [u8],
 ) -> bool
-    requires words { ⌜ (length (now words) ≡ 13441) × (length (now bytes) ≡ 4096) × (length (now out) ≡ 160000)
+    requires words { ⌜ (length (now words) ≡ ringLength) × (length (now bytes) ≡ 4096) × (length (now out) ≡ 160000)
         × (length (now room) ≡ 160000) ⌝ }
 {
     let mut session = Session::new();
@@ -65,7 +67,7 @@ fn compare(
 fn run(name: &[u8]) -> bool
     requires lengths { ⌜ length (now name) ≤ 100 ⌝ }
 {
-    let mut words = [0u32; 13441];
+    let mut words = [0u32; place::LENGTH];
     let mut bytes = [0u8; Session::CHUNK];
     let mut out = [0u8; Session::ROOM];
     let mut room = [0u8; Session::ROOM];

@@ -8,19 +8,35 @@ ghost use lib.ListN.{length};
 ghost use Rattle.model.specs.Sets.{all};
 ghost use Rattle.model.specs.Leafset.{Table, size};
 ghost use Rattle.model.specs.Ring.{Message};
-ghost use Rattle.model.specs.Words.{at, messagePlace, subjectFits};
+ghost use Rattle.model.specs.Words.{ringLength, at, messagePlace, subjectFits};
 ghost use Rattle.valid_messages.specs.Messages.{messagesRead};
 ghost use Rattle.valid_messages.specs.Parts.{firstReads, Halves};
 use rests::rests_read;
 use valid_nodes::clear::clear;
+use word_ring::MessageWord;
+use word_ring::place;
+
+// In the upper half of a first word the kind stands above the subject's seven bits.
+const KIND: u16 = (MessageWord::KIND * 0x20) as u16;
+
+const NO_SUBJECT: u16 = 64;
+
+const PING_CONTACT: u16 = MessageWord::PING_CONTACT as u16;
+
+const PONG_ASK_REPL: u16 = MessageWord::PONG_ASK_REPL as u16;
+
+const PING_DELOOPY: u16 = MessageWord::PING_DELOOPY as u16;
+
+const PONG_DELOOPY: u16 = MessageWord::PONG_DELOOPY as u16;
 
 // "Of the four that use the subject, only type 8 may have 64 there"
 fn subject_fits(tag: u16, subject: u16, n: u16) -> bool
     ensures value { λ r. ⌜ ((t : Table) (m : Message) → size t ≡ n → m .type ≡ tag → m .subject ≡ subject
         → r ≡ subjectFits t m) ⌝ }
 {
-    let used = (8 <= tag) & (tag <= 11);
-    (used & ((subject < n) | ((tag == 8) & (subject == 64)))) | (!used & (subject == 64))
+    let used = (PONG_ASK_REPL <= tag) & (tag <= PING_DELOOPY);
+    (used & ((subject < n) | ((tag == PONG_ASK_REPL) & (subject == NO_SUBJECT))))
+        | (!used & (subject == NO_SUBJECT))
 }
 
 // The first word of a message, in two halves.
@@ -32,13 +48,13 @@ fn first_fits(low: u16, high: u16, n: u16) -> bool
     let sender = (low >> 4) % 64;
     let receiver = low >> 10;
     let subject = high % 128;
-    (high >> 7 == 0xC0)
-        & ((1 <= tag) & (tag <= 12))
+    (high >> 7 == KIND)
+        & ((PING_CONTACT <= tag) & (tag <= PONG_DELOOPY))
         & (sender < n)
         & (receiver < n)
         & !(sender == receiver)
         & subject_fits(tag, subject, n)
-        & (!(tag == 8) | (!(subject == sender) & !(subject == receiver)))
+        & (!(tag == PONG_ASK_REPL) | (!(subject == sender) & !(subject == receiver)))
 }
 
 // The upper half of a word.
@@ -50,12 +66,12 @@ fn upper(word: u32) -> u16
 
 // The first words of `count` messages from message `from` on, in two halves.
 fn halve(words: &[u32], from: usize, count: usize, lows: &mut [u16], highs: &mut [u16])
-    requires words { ⌜ (length (now words) ≡ 13441) × (length (now lows) ≡ 64) × (length (now highs) ≡ 64)
+    requires words { ⌜ (length (now words) ≡ ringLength) × (length (now lows) ≡ 64) × (length (now highs) ≡ 64)
         × (count ≤ 64) × (from + count ≤ 1024) ⌝ }
     ensures halves { λ _. ⌜ Halves (now (words .entry)) from (now (lows .exit)) (now (highs .exit)) count ⌝ }
 {
     for k in 0..count {
-        let first = words[8321 + 5 * (from + k)];
+        let first = words[place::MESSAGES + 5 * (from + k)];
         lows[k] = (first % 0x1_0000) as u16;
         highs[k] = upper(first);
     }
@@ -77,7 +93,7 @@ fn halves_fit(lows: &[u16; 64], highs: &[u16; 64], n: u16, count: usize) -> bool
 
 // The first words of `count` messages from message `from` on.
 fn block_reads(words: &[u32], n: u32, from: usize, count: usize) -> bool
-    requires words { ⌜ (length (now words) ≡ 13441) × (n ≤ 64) × (count ≤ 64) × (from + count ≤ 1024) ⌝ }
+    requires words { ⌜ (length (now words) ≡ ringLength) × (n ≤ 64) × (count ≤ 64) × (from + count ≤ 1024) ⌝ }
     ensures value { λ r. ⌜ ((t : Table) → size t ≡ n
         → r ≡ all count (λ k. firstReads (now (words .entry)) t (from + k))) ⌝ }
 {
@@ -96,7 +112,7 @@ fn block_size(left: usize) -> usize
 
 // The first words of m messages, block by block.
 fn firsts_read(words: &[u32], n: u32, m: usize) -> bool
-    requires words { ⌜ (length (now words) ≡ 13441) × (n ≤ 64) × (m ≤ 1024) ⌝ }
+    requires words { ⌜ (length (now words) ≡ ringLength) × (n ≤ 64) × (m ≤ 1024) ⌝ }
     ensures value { λ r. ⌜ ((t : Table) → size t ≡ n → r ≡ all m (firstReads (now (words .entry)) t)) ⌝ }
 {
     let mut ok = true;
@@ -111,8 +127,10 @@ fn firsts_read(words: &[u32], n: u32, m: usize) -> bool
 
 // The m messages of the words read, with a table of n nodes, and nothing after them.
 pub fn messages_read(words: &[u32], n: u32, m: usize) -> bool
-    requires words { ⌜ (length (now words) ≡ 13441) × (1 ≤ n) × (n ≤ 64) × (m ≤ 1024) ⌝ }
+    requires words { ⌜ (length (now words) ≡ ringLength) × (1 ≤ n) × (n ≤ 64) × (m ≤ 1024) ⌝ }
     ensures value { λ r. ⌜ ((t : Table) → size t ≡ n → r ≡ messagesRead (now (words .entry)) t m) ⌝ }
 {
-    firsts_read(words, n, m) & rests_read(words, n, m) & clear(words, 8321 + 5 * m, 13441)
+    firsts_read(words, n, m)
+        & rests_read(words, n, m)
+        & clear(words, place::MESSAGES + 5 * m, place::LENGTH)
 }

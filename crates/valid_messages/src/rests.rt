@@ -4,14 +4,32 @@ ghost use mathlib.Core.Path.{_≡_};
 ghost use Prim.Native.Nat.{ℕ, _-_, _^_, _<_, _≤_};
 ghost use lib.Bits.{bitXor};
 ghost use lib.ListN.{length};
+ghost use Rattle.model.specs.Words.{ringLength};
 ghost use Rattle.model.specs.Sets.{all};
 ghost use Rattle.model.specs.Leafset.{Table, size};
 ghost use Rattle.valid_messages.specs.Rests.{restReads};
 ghost use Rattle.valid_messages.specs.Masks.{part as partOf, above as bitsAbove, ofTypes, OfReceivers, beyond, wrong as wrongAt, nothingWrong, Small};
+use word_ring::MessageWord;
+use word_ring::StampWord;
+use word_ring::ViewWord;
+use word_ring::place;
 
-const NO_STAMP: u32 = 0x7000_0000;
+const NO_STAMP: u32 = StampWord::EMPTY;
 
-const NO_VIEW: u32 = 0x8000_0000;
+const NO_VIEW: u32 = ViewWord::EMPTY;
+
+// Four words a type: the places of the view of type 4, and of the stamps of types 9 and 10.
+const VIEW: usize = 4 * (MessageWord::PONG_ASK_INV as usize);
+
+const LOW: usize = VIEW + 1;
+
+const MIDDLE: usize = VIEW + 2;
+
+const HIGH: usize = VIEW + 3;
+
+const REQUEST: usize = 4 * (MessageWord::PING_REPLACE as usize);
+
+const ACKNOWLEDGEMENT: usize = 4 * (MessageWord::PONG_REPLACE as usize);
 
 // How many of the 24 nodes from `from` on are below n.
 fn part(n: u32, from: u32) -> u32
@@ -40,11 +58,11 @@ fn of_types(n: u32) -> [u32; 64]
     ensures value { λ r. ⌜ r ≡ ofTypes n ⌝ }
 {
     let mut table = [0xFFFF_FFFF; 64];
-    table[17] = above(part(n, 0));
-    table[18] = above(part(n, 24));
-    table[19] = above(part(n, 48));
-    table[36] = above(24);
-    table[40] = above(24);
+    table[LOW] = above(part(n, 0));
+    table[MIDDLE] = above(part(n, 24));
+    table[HIGH] = above(part(n, 48));
+    table[REQUEST] = above(24);
+    table[ACKNOWLEDGEMENT] = above(24);
     table
 }
 
@@ -77,11 +95,11 @@ fn wrong(
     i: usize,
     empty: u32,
 ) -> u32
-    requires words { ⌜ (length (now words) ≡ 13441) × (k < 1024) × (i < 4) ⌝ }
+    requires words { ⌜ (length (now words) ≡ ringLength) × (k < 1024) × (i < 4) ⌝ }
     ensures value { λ r. ⌜ r ≡ wrongAt (now (words .entry)) (now (types .entry)) (now (receivers .entry)) k i empty ⌝ }
     ensures small { λ r. ⌜ beyond (now (words .entry)) k i empty < 2 ^ 32 ⌝ }
 {
-    let at = 8321 + 5 * k;
+    let at = place::MESSAGES + 5 * k;
     let first = words[at];
     let met = apart(words[at + (1 + i)], empty);
     (met & types[4 * ((first % 16) as usize) + i])
@@ -90,7 +108,7 @@ fn wrong(
 
 // Nothing is wrong in m rests.
 fn nothing_wrong(words: &[u32], types: &[u32; 64], receivers: &[u32; 288], m: usize) -> bool
-    requires length { ⌜ length (now words) ≡ 13441 ⌝ }
+    requires length { ⌜ length (now words) ≡ ringLength ⌝ }
     requires bounds { ⌜ m ≤ 1024 ⌝ }
     ensures value { λ r. ⌜ r
         ≡ all m (nothingWrong (now (words .entry)) (now (types .entry)) (now (receivers .entry))) ⌝ }
@@ -111,7 +129,7 @@ fn nothing_wrong(words: &[u32], types: &[u32; 64], receivers: &[u32; 288], m: us
 
 // The rests of m messages.
 pub fn rests_read(words: &[u32], n: u32, m: usize) -> bool
-    requires words { ⌜ (length (now words) ≡ 13441) × (n ≤ 64) × (m ≤ 1024) ⌝ }
+    requires words { ⌜ (length (now words) ≡ ringLength) × (n ≤ 64) × (m ≤ 1024) ⌝ }
     ensures value { λ r. ⌜ ((t : Table) → size t ≡ n → r ≡ all m (restReads (now (words .entry)) t)) ⌝ }
 {
     let types = of_types(n);

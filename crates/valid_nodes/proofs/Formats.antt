@@ -70,9 +70,9 @@ pub xor-above : (low a b : ℕ) → eqb (bitXor a b / 2 ^ low) 0 ≡ eqb (a / 2 
 xor-above low a b = ap (λ (u : ℕ). eqb u 0) (xor-shr a b low) ∙ xor-test (a / 2 ^ low) (b / 2 ^ low)
 
 -- word 0, as the code joins its tests
-pub head-tests : (w : ℕ) → (eqb (w / 2 ^ 22) 64 && leb 1 (w % 16) && leb (w % 16) 8 && leb 1 (bits 4 7 w) && leb (bits 4 7 w) 64 && leb (bits 11 11 w) 1024) ≡ headReads w
+pub head-tests : (w : ℕ) → (eqb (w / 2 ^ 22) 64 && leb 1 (bits 0 4 w) && leb (bits 0 4 w) 8 && leb 1 (bits 4 7 w) && leb (bits 4 7 w) 64 && leb (bits 11 11 w) 1024) ≡ headReads w
 unfolding headReads
-head-tests w = regroup (eqb (w / 2 ^ 22) 64) (leb 1 (w % 16)) (leb (w % 16) 8) (leb 1 (bits 4 7 w)) (leb (bits 4 7 w) 64) (leb (bits 11 11 w) 1024) ∙ rw (head-format w, lowest 4 w)
+head-tests w = regroup (eqb (w / 2 ^ 22) 64) (leb 1 (bits 0 4 w)) (leb (bits 0 4 w) 8) (leb 1 (bits 4 7 w)) (leb (bits 4 7 w) 64) (leb (bits 11 11 w) 1024) ∙ rw (head-format w)
   where
     regroup : (a b c d e f : Bool) → (a && b && c && d && e && f) ≡ every (a ∷ (b && c) ∷ (d && e) ∷ f ∷ [])
     regroup false b c d e f = refl

@@ -3,9 +3,19 @@ ghost use mathlib.Core.Path.{_≡_};
 ghost use mathlib.Core.Bool.{_&&_};
 ghost use Prim.Native.Nat.{_^_, _≤_, _<_};
 ghost use lib.ListN.{length};
+ghost use Rattle.model.specs.Words.{ringLength};
 ghost use Rattle.model.specs.Choice.{if_then_else_};
 ghost use Rattle.model.specs.Sets.{all};
 ghost use Rattle.valid_pairs.specs.Pairs.{linkAt, linkReads, spareReads, othersRead};
+use word_ring::KeyWord;
+use word_ring::PairWord;
+use word_ring::SpareWord;
+use word_ring::place;
+
+// The bits of a pair's first word but the candidate mark, and that word of a pair held since 1.
+const NO_CANDIDATE: u32 = 0xFFFF_FFFF - PairWord::CANDIDATE;
+
+const HELD_FROM_1: u32 = PairWord::EMPTY + PairWord::HELD + 1;
 
 // What is seen of a row: whether it reads, and a guess whether the next one has no spare.
 pub struct Row {
@@ -18,12 +28,12 @@ fn pair_fits(w: u32, p: u32, clock: u32, n: u32, x: u32, z: u32) -> bool
     requires bounds { ⌜ (clock < 2 ^ 24) × (n ≤ 64) × (x < 64) × (z < 64) ⌝ }
     ensures value { λ r. ⌜ r ≡ linkReads clock w && spareReads n x z w p ⌝ }
 {
-    let link = w & 0xFDFF_FFFF;
-    let held = std::num::wrapping_sub_u32(link, 0x3100_0001) < clock;
-    let spare = p ^ 0x4000_0000;
-    let none = p == 0x4000_0040;
+    let link = w & NO_CANDIDATE;
+    let held = std::num::wrapping_sub_u32(link, HELD_FROM_1) < clock;
+    let spare = p ^ SpareWord::EMPTY;
+    let none = p == SpareWord::NONE;
     let named = (spare < n) & !(spare == x) & !(spare == z);
-    ((link == 0x3000_0000) & none) | (held & (none | named))
+    ((link == PairWord::EMPTY) & none) | (held & (none | named))
 }
 
 fn one_if(b: bool) -> u32
@@ -38,14 +48,14 @@ fn one_if(b: bool) -> u32
 
 // The pairs of a running x with the other nodes: all of them fit, and that of x with itself, which is 0, does not.
 pub fn whole_row(words: &[u32], x: usize, n: usize) -> Row
-    requires words { ⌜ (length (now words) ≡ 13441) × (n ≤ 64) × (x < n) × (linkAt (now words) x x ≡ 0) ⌝ }
+    requires words { ⌜ (length (now words) ≡ ringLength) × (n ≤ 64) × (x < n) × (linkAt (now words) x x ≡ 0) ⌝ }
     ensures fits { λ r. ⌜ r .fits ≡ all n (othersRead (now (words .entry)) n x) ⌝ }
 {
-    let clock = words[1 + 2 * x + 1] % 0x100_0000;
+    let clock = words[place::NODES + 2 * x + 1] % KeyWord::RUNNING;
     let mut fit = 0;
     let mut met = 0;
     for z in 0..n {
-        let at = 129 + 2 * (64 * x + z);
+        let at = place::PAIRS + 2 * (64 * x + z);
         fit = fit
             + one_if(pair_fits(
                 words[at],
@@ -59,6 +69,6 @@ pub fn whole_row(words: &[u32], x: usize, n: usize) -> Row
     }
     Row {
         fits: fit + 1 == n as u32,
-        bare: met == 0x4000_0040,
+        bare: met == SpareWord::NONE,
     }
 }

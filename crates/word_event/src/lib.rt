@@ -9,6 +9,8 @@ use model::event::Reading;
 use model::event::Writing;
 use word::EventWord;
 
+const POSITIONS: u16 = EventWord::POSITIONS as u16;
+
 // Whether each part has room in its bits, and the timer is 0 to 4.
 fn parts_fit(e: Event) -> bool
     ensures value { λ r. ⌜ r ≡ partsFit e ⌝ }
@@ -19,8 +21,8 @@ fn parts_fit(e: Event) -> bool
         Event::Notice(x, z) => (x.0 < 64) & (z.0 < 64),
         Event::Contact(x, y) => (x.0 < 64) & (y.0 < 64),
         Event::Timer(x, k) => (x.0 < 64) & (k <= 4),
-        Event::Deliver(i) => i < 1024,
-        Event::Lose(i) => i < 1024,
+        Event::Deliver(i) => i < POSITIONS,
+        Event::Lose(i) => i < POSITIONS,
     }
 }
 

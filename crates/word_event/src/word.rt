@@ -23,6 +23,9 @@ impl EventWord {
 
     pub const LOSE: u32 = 15;
 
+    // A message's position has ten bits.
+    pub const POSITIONS: u32 = 0x400;
+
     // The word of kind `kind` whose other bits are `parts`.
     fn of_kind(kind: u32, parts: u32) -> EventWord
         requires bounds { ⌜ (kind < 16) × (parts < 2 ^ 28) ⌝ }
@@ -52,7 +55,7 @@ impl EventWord {
         let x = NodeNumber((self.0 % 64) as u8);
         let other = NodeNumber((self.0 / 64 % 64) as u8);
         let timer = (self.0 / 4096 % 8) as u8;
-        let position = (self.0 % 1024) as u16;
+        let position = (self.0 % EventWord::POSITIONS) as u16;
         let kind = self.0 / 0x1000_0000;
         match kind {
             EventWord::OFF => Event::Off(x),

@@ -1,4 +1,8 @@
-// The ring's words as types: kinds and message types, constructors and readers.
+// The ring's words as types: kinds and message types, constructors and readers. Beside a kind, EMPTY is its word with
+// every named bit 0; a field that does not begin at bit 0 has the value of its lowest bit.
+pub mod limit;
+pub mod place;
+
 ghost use mathlib.Core.Path.{_≡_};
 ghost use Prim.Native.Nat.{_^_, _<_, _≤_};
 ghost use Rattle.model.specs.Fields.{bits, bit, flag};
@@ -21,11 +25,17 @@ pub struct HeadWord(pub u32);
 impl HeadWord {
     pub const KIND: u32 = 1;
 
+    pub const EMPTY: u32 = HeadWord::KIND * 0x1000_0000;
+
+    pub const NODES: u32 = 0x10;
+
+    pub const MESSAGES: u32 = 0x800;
+
     pub fn new(leaf: u32, nodes: u32, messages: u32) -> HeadWord
         requires bounds { ⌜ (leaf < 2 ^ 4) × (nodes < 2 ^ 7) × (messages < 2 ^ 11) ⌝ }
         ensures value { λ r. ⌜ r .0 ≡ headWord leaf nodes messages ⌝ }
     {
-        HeadWord(HeadWord::KIND * 0x1000_0000 + (messages * 0x800 + nodes * 0x10 + leaf))
+        HeadWord(HeadWord::EMPTY + (messages * HeadWord::MESSAGES + nodes * HeadWord::NODES + leaf))
     }
 
     pub fn leaf(self) -> u32
@@ -37,13 +47,13 @@ impl HeadWord {
     pub fn nodes(self) -> u32
         ensures value { λ r. ⌜ r ≡ bits 4 7 (self .0) ⌝ }
     {
-        self.0 / 0x10 % 0x80
+        self.0 / HeadWord::NODES % 0x80
     }
 
     pub fn messages(self) -> u32
         ensures value { λ r. ⌜ r ≡ bits 11 11 (self .0) ⌝ }
     {
-        self.0 / 0x800 % 0x800
+        self.0 / HeadWord::MESSAGES % 0x800
     }
 }
 
@@ -53,23 +63,27 @@ pub struct KeyWord(pub u32);
 impl KeyWord {
     pub const KIND: u32 = 2;
 
+    pub const EMPTY: u32 = KeyWord::KIND * 0x1000_0000;
+
+    pub const RUNNING: u32 = 0x100_0000;
+
     pub fn new(key: Key, running: bool) -> KeyWord
         requires bounds { ⌜ key .0 < 2 ^ 24 ⌝ }
         ensures value { λ r. ⌜ r .0 ≡ keyWord (key .0) running ⌝ }
     {
-        KeyWord(KeyWord::KIND * 0x1000_0000 + (mark(running) * 0x100_0000 + key.0))
+        KeyWord(KeyWord::EMPTY + (mark(running) * KeyWord::RUNNING + key.0))
     }
 
     pub fn key(self) -> Key
         ensures value { λ r. ⌜ r .0 ≡ bits 0 24 (self .0) ⌝ }
     {
-        Key(self.0 % 0x100_0000)
+        Key(self.0 % KeyWord::RUNNING)
     }
 
     pub fn running(self) -> bool
         ensures value { λ r. ⌜ r ≡ flag 24 (self .0) ⌝ }
     {
-        self.0 / 0x100_0000 % 2 == 1
+        self.0 / KeyWord::RUNNING % 2 == 1
     }
 }
 
@@ -79,11 +93,13 @@ pub struct ClockWord(pub u32);
 impl ClockWord {
     pub const KIND: u32 = 5;
 
+    pub const EMPTY: u32 = ClockWord::KIND * 0x1000_0000;
+
     pub fn new(clock: Stamp) -> ClockWord
         requires bounds { ⌜ clock .0 < 2 ^ 24 ⌝ }
         ensures value { λ r. ⌜ r .0 ≡ clockWord (clock .0) ⌝ }
     {
-        ClockWord(ClockWord::KIND * 0x1000_0000 + clock.0)
+        ClockWord(ClockWord::EMPTY + clock.0)
     }
 
     pub fn clock(self) -> Stamp
@@ -99,32 +115,38 @@ pub struct PairWord(pub u32);
 impl PairWord {
     pub const KIND: u32 = 3;
 
+    pub const EMPTY: u32 = PairWord::KIND * 0x1000_0000;
+
+    pub const HELD: u32 = 0x100_0000;
+
+    pub const CANDIDATE: u32 = 0x200_0000;
+
     pub fn new(commit: Stamp, held: bool, candidate: bool) -> PairWord
         requires bounds { ⌜ commit .0 < 2 ^ 24 ⌝ }
         ensures value { λ r. ⌜ r .0 ≡ pairWord (commit .0) held candidate ⌝ }
     {
         PairWord(
-            PairWord::KIND * 0x1000_0000
-                + (mark(candidate) * 0x200_0000 + mark(held) * 0x100_0000 + commit.0),
+            PairWord::EMPTY
+                + (mark(candidate) * PairWord::CANDIDATE + mark(held) * PairWord::HELD + commit.0),
         )
     }
 
     pub fn commit(self) -> Stamp
         ensures value { λ r. ⌜ r .0 ≡ bits 0 24 (self .0) ⌝ }
     {
-        Stamp(self.0 % 0x100_0000)
+        Stamp(self.0 % PairWord::HELD)
     }
 
     pub fn held(self) -> bool
         ensures value { λ r. ⌜ r ≡ flag 24 (self .0) ⌝ }
     {
-        self.0 / 0x100_0000 % 2 == 1
+        self.0 / PairWord::HELD % 2 == 1
     }
 
     pub fn candidate(self) -> bool
         ensures value { λ r. ⌜ r ≡ flag 25 (self .0) ⌝ }
     {
-        self.0 / 0x200_0000 % 2 == 1
+        self.0 / PairWord::CANDIDATE % 2 == 1
     }
 }
 
@@ -134,11 +156,15 @@ pub struct SpareWord(pub u32);
 impl SpareWord {
     pub const KIND: u32 = 4;
 
+    pub const EMPTY: u32 = SpareWord::KIND * 0x1000_0000;
+
+    pub const NONE: u32 = SpareWord::EMPTY + 64;
+
     pub fn new(spare: NodeNumber) -> SpareWord
         requires bounds { ⌜ spare .0 < 2 ^ 7 ⌝ }
         ensures value { λ r. ⌜ r .0 ≡ spareWord (spare .0) ⌝ }
     {
-        SpareWord(SpareWord::KIND * 0x1000_0000 + (spare.0 as u32))
+        SpareWord(SpareWord::EMPTY + (spare.0 as u32))
     }
 
     pub fn spare(self) -> NodeNumber
@@ -153,6 +179,14 @@ pub struct MessageWord(pub u32);
 
 impl MessageWord {
     pub const KIND: u32 = 6;
+
+    pub const EMPTY: u32 = MessageWord::KIND * 0x1000_0000;
+
+    pub const SENDER: u32 = 0x10;
+
+    pub const RECEIVER: u32 = 0x400;
+
+    pub const SUBJECT: u32 = 0x1_0000;
 
     pub const PING_CONTACT: u8 = 1;
 
@@ -188,10 +222,10 @@ impl MessageWord {
         ensures value { λ r. ⌜ r .0 ≡ messageWord tag (sender .0) (receiver .0) (subject .0) ⌝ }
     {
         MessageWord(
-            MessageWord::KIND * 0x1000_0000
-                + ((subject.0 as u32) * 0x1_0000
-                    + (receiver.0 as u32) * 0x400
-                    + (sender.0 as u32) * 0x10
+            MessageWord::EMPTY
+                + ((subject.0 as u32) * MessageWord::SUBJECT
+                    + (receiver.0 as u32) * MessageWord::RECEIVER
+                    + (sender.0 as u32) * MessageWord::SENDER
                     + (tag as u32)),
         )
     }
@@ -205,19 +239,19 @@ impl MessageWord {
     pub fn sender(self) -> NodeNumber
         ensures value { λ r. ⌜ r .0 ≡ bits 4 6 (self .0) ⌝ }
     {
-        NodeNumber((self.0 / 0x10 % 0x40) as u8)
+        NodeNumber((self.0 / MessageWord::SENDER % 0x40) as u8)
     }
 
     pub fn receiver(self) -> NodeNumber
         ensures value { λ r. ⌜ r .0 ≡ bits 10 6 (self .0) ⌝ }
     {
-        NodeNumber((self.0 / 0x400 % 0x40) as u8)
+        NodeNumber((self.0 / MessageWord::RECEIVER % 0x40) as u8)
     }
 
     pub fn subject(self) -> NodeNumber
         ensures value { λ r. ⌜ r .0 ≡ bits 16 7 (self .0) ⌝ }
     {
-        NodeNumber((self.0 / 0x1_0000 % 0x80) as u8)
+        NodeNumber((self.0 / MessageWord::SUBJECT % 0x80) as u8)
     }
 }
 
@@ -227,11 +261,13 @@ pub struct StampWord(pub u32);
 impl StampWord {
     pub const KIND: u32 = 7;
 
+    pub const EMPTY: u32 = StampWord::KIND * 0x1000_0000;
+
     pub fn new(stamp: Stamp) -> StampWord
         requires bounds { ⌜ stamp .0 < 2 ^ 24 ⌝ }
         ensures value { λ r. ⌜ r .0 ≡ stampWord (stamp .0) ⌝ }
     {
-        StampWord(StampWord::KIND * 0x1000_0000 + stamp.0)
+        StampWord(StampWord::EMPTY + stamp.0)
     }
 
     pub fn stamp(self) -> Stamp
@@ -247,11 +283,13 @@ pub struct ViewWord(pub u32);
 impl ViewWord {
     pub const KIND: u32 = 8;
 
+    pub const EMPTY: u32 = ViewWord::KIND * 0x1000_0000;
+
     pub fn new(part: u32) -> ViewWord
         requires bounds { ⌜ part < 2 ^ 24 ⌝ }
         ensures value { λ r. ⌜ r .0 ≡ viewWord part ⌝ }
     {
-        ViewWord(ViewWord::KIND * 0x1000_0000 + part)
+        ViewWord(ViewWord::EMPTY + part)
     }
 
     pub fn part(self) -> u32

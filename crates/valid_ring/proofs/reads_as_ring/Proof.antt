@@ -21,33 +21,33 @@ returns c =
 nodes-read-requires : tie.Need-nodes-read-requires
 nodes-read-requires c κs =
     let h = head-ranges (at (now (c .before .before .before .before .before .before .args .words)) 0) (sym (c .before .before .before .head-reads .ensures) ∙ not-false (c .before .before .before .head-reads .result) (c .before .before .if1 .left)) in
-    let e = c .before .size .ensures in
+    let e = c .before .nodes .ensures in
     (c .before .before .before .before .before .before .pre, omega arith)
 
 keys-differ-requires : tie.Need-keys-differ-requires
 keys-differ-requires c κs =
     let h = head-ranges (at (now (c .before .before .before .before .before .before .before .args .words)) 0) (sym (c .before .before .before .before .head-reads .ensures) ∙ not-false (c .before .before .before .before .head-reads .result) (c .before .before .before .if1 .left)) in
-    let e = c .before .before .size .ensures in
+    let e = c .before .before .nodes .ensures in
     (c .before .before .before .before .before .before .before .pre, omega arith, e)
 
 pairs-read-requires : tie.Need-pairs-read-requires
 pairs-read-requires c κs =
     let h = head-ranges (at (now (c .before .before .before .before .before .before .before .before .args .words)) 0) (sym (c .before .before .before .before .before .head-reads .ensures) ∙ not-false (c .before .before .before .before .before .head-reads .result) (c .before .before .before .before .if1 .left)) in
-    let e = c .before .before .before .size .ensures in
+    let e = c .before .before .before .nodes .ensures in
     (c .before .before .before .before .before .before .before .before .pre, omega arith)
 
 messages-read-requires : tie.Need-messages-read-requires
 messages-read-requires c κs =
     let h = head-ranges (at (now (c .before .before .before .before .before .before .before .before .before .args .words)) 0) (sym (c .before .before .before .before .before .before .head-reads .ensures) ∙ not-false (c .before .before .before .before .before .before .head-reads .result) (c .before .before .before .before .before .if1 .left)) in
-    let e = c .before .before .before .before .size .ensures in
-    let f = c .before .before .before .count .ensures in
+    let e = c .before .before .before .before .nodes .ensures in
+    let f = c .before .before .before .messages .ensures in
     (c .before .before .before .before .before .before .before .before .before .pre, omega arith, omega arith, omega arith)
 
 returns-2 : tie.Need-returns-2
 returns-2 c =
     let ws = now (c .before .before .before .before .before .before .before .before .before .before .args .words) in
-    let e = c .before .before .before .before .before .size .ensures in
-    let f = c .before .before .before .before .count .ensures in
+    let e = c .before .before .before .before .before .nodes .ensures in
+    let f = c .before .before .before .before .messages .ensures in
     ap₂ _&&_ (ap₂ _&&_ (ap₂ _&&_
     (c .before .before .before .nodes-read .ensures ∙ ap (nodesRead ws) e)
     (c .before .before .keys-differ .ensures))

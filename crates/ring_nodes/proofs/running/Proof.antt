@@ -1,4 +1,3 @@
--- `connection::running` meets its contract.
 use mathlib.Core.Path.{_≡_, sym, ap, _∙_}
 use mathlib.Core.Logic.{⊎-elim}
 use mathlib.Core.Bool.{_&&_}
@@ -11,9 +10,9 @@ use Rattle.model.specs.Leafset.{size}
 use Rattle.model.specs.Fields.{flag}
 use Rattle.model.specs.Words.{at, nodePlace, decodeTable, decodeNode, decode}
 use Rattle.sets.proofs.Bits.{of-none}
-use Rattle.ring_connection.proofs.UpTo.{upTo, up-to-none, up-to-kept, up-to-passed}
-use Rattle.ring_connection.proofs.running.Statement.{statement}
-use Rattle.ring_connection.proofs.running.Tie as tie
+use Rattle.sets.proofs.UpTo.{upTo, up-to-none, up-to-kept, up-to-passed}
+use Rattle.ring_nodes.proofs.running.Statement.{statement}
+use Rattle.ring_nodes.proofs.running.Tie as tie
 
 abbrev Inv-loop : tie.InvT-loop
 Inv-loop words n set₀ x₀ set x = (x ≤ n) × (ofBits set ≡ upTo x (λ y. flag 24 (at words (nodePlace y))))
