@@ -1,4 +1,5 @@
-// The commands of calls_test, the words that they work on, and the lines that it prints.
+// Runs the public calls by commands from standard input, and prints a line for each call. The file stdout has what
+// document 01 demands of them, by an implementation of its own (compare/README.md).
 mod ask;
 mod calls;
 mod command;

@@ -1,4 +1,4 @@
--- `messageReads` in two parts: the first word of a message here, the rest in `valid_rests`.
+-- `messageReads` in two parts: the first word of a message here, the rest in Rests.
 use mathlib.Core.Path.{_≡_}
 use Prim.Native.Nat.{ℕ, _+_, _/_, _%_, _^_, _<_}
 use mathlib.Core.Bool.{Bool, not, _&&_}

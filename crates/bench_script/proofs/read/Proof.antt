@@ -1,4 +1,4 @@
--- `script::read` meets its contract: a walk of its MIR, by hand. A `Script` is made in a local and passed to `next` and to `moved`;
+-- `bench_script::read` meets its contract: a walk of its MIR, by hand. A `Script` is made in a local and passed to `next` and to `moved`;
 -- the result is made of what the one answers and of the position of the other. All that the proof knows of the three is that each
 -- meets its contract. In a local of a body MIR erases the lifetime of the struct's type, so a value is shown to have the type at
 -- `erased`: what the struct owns does not say the lifetime's name.

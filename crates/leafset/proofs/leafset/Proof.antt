@@ -1,4 +1,3 @@
--- `leafset::leafset::leafset` meets its contract.
 use mathlib.Core.Path.{_∙_}
 use native.Mathlib.Omega.{arith}
 use lib.Bits.{or-lt}

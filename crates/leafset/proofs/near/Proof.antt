@@ -1,4 +1,3 @@
--- `leafset::leafset::near` meets its contract.
 use borrow.Author.Needs.{needs}
 use Rattle.model.specs.Sets.{ofBits}
 use Rattle.leafset_nearest.specs.Span.{spanTo}

@@ -1,4 +1,3 @@
--- `spare_choice::closest` meets its contract.
 use mathlib.Core.Path.{subst₂}
 use Prim.Native.Nat.{ℕ, _<_, _≤_}
 use borrow.Author.Needs.{needs}

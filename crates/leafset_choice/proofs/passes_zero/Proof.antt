@@ -1,4 +1,3 @@
--- `choices::passes_zero` meets its contract.
 use borrow.Author.Needs.{needs}
 use Rattle.sets.proofs.Bits.{none-left, first-bit}
 use Rattle.leafset_choice.proofs.Choices.{successor-low, passes-found, passes-nobody}

@@ -1,4 +1,3 @@
--- `choices::successor` meets its contract.
 use borrow.Author.Needs.{needs}
 use Rattle.leafset_choice.proofs.Choices.{successor-found}
 use Rattle.leafset_choice.proofs.successor.Statement.{statement}

@@ -1,4 +1,3 @@
--- `nearness::rank` meets its contract.
 use mathlib.Core.Path.{sym, ap₂, _∙_}
 use borrow.Author.Needs.{needs}
 use Rattle.leafset_nearest.specs.Span.{rank}

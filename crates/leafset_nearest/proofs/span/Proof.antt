@@ -1,4 +1,3 @@
--- `nearness::span` meets its contract.
 use borrow.Author.Needs.{needs}
 use Rattle.leafset_nearest.proofs.span.Statement.{statement}
 use Rattle.leafset_nearest.proofs.span.Tie as tie

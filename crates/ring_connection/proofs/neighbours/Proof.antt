@@ -1,4 +1,3 @@
--- `connection::neighbours` meets its contract.
 use mathlib.Core.Path.{sym, ap₂, _∙_}
 use mathlib.Core.Logic.{⊎-elim}
 use mathlib.Core.Bool.{_||_}

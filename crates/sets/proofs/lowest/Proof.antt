@@ -1,4 +1,3 @@
--- `sets::lowest` meets its contract.
 use native.Mathlib.Omega.{arith}
 use lib.Count.{trailing-le}
 use Rattle.sets.proofs.Bits.{trailing-lowest}

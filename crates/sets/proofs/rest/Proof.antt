@@ -1,4 +1,3 @@
--- `sets::rest` meets its contract.
 use borrow.Author.Needs.{needs}
 use Rattle.sets.proofs.Bits.{and-rest}
 use Rattle.sets.proofs.rest.Statement.{statement}

@@ -1,4 +1,3 @@
--- `sets::size` meets its contract.
 use Rattle.sets.proofs.Bits.{ones-count}
 use Rattle.sets.proofs.size.Statement.{statement}
 use Rattle.sets.proofs.size.Tie as tie

@@ -1,4 +1,3 @@
--- `sets::without` meets its contract.
 use mathlib.Core.Path.{ap, _∙_}
 use Prim.Native.Nat.{ℕ, _-_}
 use lib.Bits.{bitAnd, and-le-l}

@@ -1,4 +1,3 @@
--- `protocol::contact::contact` meets its contract.
 use borrow.Author.Needs.{needs}
 use Rattle.model.specs.Steps as steps
 use Rattle.records.proofs.Changes.{unchanged}

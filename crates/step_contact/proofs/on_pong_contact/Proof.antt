@@ -1,4 +1,3 @@
--- `joining::on_pong_contact` meets its contract.
 use borrow.Author.Needs.{needs}
 use Rattle.model.specs.Steps as steps
 use Rattle.step_contact.proofs.on_pong_contact.Statement.{statement}

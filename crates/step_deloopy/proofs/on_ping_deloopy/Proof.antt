@@ -1,4 +1,3 @@
--- `joining::on_ping_deloopy` meets its contract.
 use mathlib.Core.Path.{sym, ap, _∙_}
 use Prim.Native.Nat.{ℕ}
 use native.Mathlib.Omega.{arith}

@@ -1,4 +1,3 @@
--- `joining::on_pong_deloopy` meets its contract.
 use borrow.Author.Needs.{needs}
 use Rattle.model.specs.Steps as steps
 use Rattle.step_deloopy.proofs.on_pong_deloopy.Statement.{statement}

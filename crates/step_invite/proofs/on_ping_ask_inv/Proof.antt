@@ -1,4 +1,3 @@
--- `inviting::on_ping_ask_inv` meets its contract.
 use mathlib.Core.Path.{ap, _∙_}
 use borrow.Author.Needs.{needs}
 use Rattle.model.specs.Steps as steps

@@ -1,4 +1,3 @@
--- `inviting::on_pong_ask_inv` meets its contract.
 use borrow.Author.Needs.{needs}
 use Rattle.model.specs.Steps as steps
 use Rattle.step_invite.proofs.on_pong_ask_inv.Statement.{statement}

@@ -1,4 +1,3 @@
--- `timers::timer0` meets its contract.
 use mathlib.Core.Path.{refl}
 use lib.Dec.{lit<}
 use Rattle.model.specs.Steps as steps

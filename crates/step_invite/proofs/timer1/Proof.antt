@@ -1,4 +1,3 @@
--- `timers::timer1` meets its contract.
 use lib.Dec.{lit<}
 use borrow.Author.Needs.{needs}
 use Rattle.model.specs.Steps as steps

@@ -1,4 +1,3 @@
--- `timers::requests` meets its contract.
 use mathlib.Core.Path.{sym, ap, _∙_, fun-ext}
 use mathlib.Core.Bool.{not, _&&_}
 use native.Mathlib.Omega.{arith}

@@ -1,4 +1,3 @@
--- `offering::on_ping_ask_repl` meets its contract.
 use mathlib.Core.Path.{ap, _∙_}
 use Prim.Native.Nat.{_^_, _<_}
 use native.Mathlib.Omega.{arith}

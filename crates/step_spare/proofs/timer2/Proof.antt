@@ -1,4 +1,3 @@
--- `timers::timer2` meets its contract.
 use lib.Dec.{lit<}
 use borrow.Author.Needs.{needs}
 use Rattle.model.specs.Sets.{ofBits}

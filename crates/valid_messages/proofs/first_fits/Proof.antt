@@ -1,4 +1,3 @@
--- `valid_messages::first_fits` meets its contract.
 use Prim.Native.Nat.{_%_}
 use native.Mathlib.Nat.{div-one}
 use lib.ListN.{getD}

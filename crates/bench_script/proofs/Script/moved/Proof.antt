@@ -1,4 +1,4 @@
--- `script::Script::moved` meets its contract: a walk of its MIR, by hand. The struct is taken apart, `after_at` is called on the slice
+-- `bench_script::Script::moved` meets its contract: a walk of its MIR, by hand. The struct is taken apart, `after_at` is called on the slice
 -- and the number, and a struct is made anew of the slice and the number that it answers. The struct is Copy: one copy of what it owns
 -- is kept whole for the exit, and another, with the new number's facts in the place of at's, is what the result owns.
 use mathlib.Core.Path.{_≡_, refl, ap}

@@ -1,4 +1,4 @@
--- `script::Script::new` meets its contract: a walk of its MIR, by hand. A `Script` is made of the slice and the number passed, in the
+-- `bench_script::Script::new` meets its contract: a walk of its MIR, by hand. A `Script` is made of the slice and the number passed, in the
 -- result's local. A `&[u32]` is Copy, so what it owns is had twice: once for words at exit, and once inside the result, beside the
 -- facts of at.
 use mathlib.Core.Path.{refl}

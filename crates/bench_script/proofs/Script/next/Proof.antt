@@ -1,4 +1,4 @@
--- `script::Script::next` meets its contract: a walk of its MIR, by hand. The struct is taken apart, and `next_at` is called on the
+-- `bench_script::Script::next` meets its contract: a walk of its MIR, by hand. The struct is taken apart, and `next_at` is called on the
 -- slice and the number. All that the proof knows of `next_at` is that it meets its contract.
 use mathlib.Core.Path.{_≡_, refl}
 use mathlib.Core.List.{[], _∷_}

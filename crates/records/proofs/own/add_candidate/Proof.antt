@@ -1,4 +1,3 @@
--- `effects::own::add_candidate` meets its contract.
 use borrow.Author.Needs.{needs}
 use Rattle.sets.proofs.Bits.{within-with}
 use Rattle.records.proofs.own.add_candidate.Statement.{statement}

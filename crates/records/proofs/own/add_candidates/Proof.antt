@@ -1,4 +1,3 @@
--- `effects::own::add_candidates` meets its contract.
 use borrow.Author.Needs.{needs}
 use Rattle.sets.proofs.Bits.{or-union, within-union}
 use Rattle.records.proofs.own.add_candidates.Statement.{statement}

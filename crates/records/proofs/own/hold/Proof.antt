@@ -1,4 +1,3 @@
--- `effects::own::hold` meets its contract.
 use mathlib.Core.Path.{sym, _∙_}
 use borrow.Author.Needs.{needs}
 use Rattle.model.specs.Steps as steps

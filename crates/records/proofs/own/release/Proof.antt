@@ -1,4 +1,3 @@
--- `effects::own::release` meets its contract.
 use borrow.Author.Needs.{needs}
 use Rattle.model.specs.Steps as steps
 use Rattle.sets.proofs.Bits.{within-without}

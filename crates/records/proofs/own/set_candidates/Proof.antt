@@ -1,4 +1,3 @@
--- `effects::own::set_candidates` meets its contract.
 use Rattle.records.proofs.Changes.{sets-changed}
 use Rattle.records.proofs.own.set_candidates.Statement.{statement}
 use Rattle.records.proofs.own.set_candidates.Tie as tie

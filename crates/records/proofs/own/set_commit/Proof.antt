@@ -1,4 +1,3 @@
--- `effects::own::set_commit` meets its contract.
 use borrow.Author.Needs.{needs}
 use Rattle.records.proofs.Changes.{commit-changed}
 use Rattle.records.proofs.own.set_commit.Statement.{statement}

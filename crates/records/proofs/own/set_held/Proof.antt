@@ -1,4 +1,3 @@
--- `effects::own::set_held` meets its contract.
 use native.Mathlib.Omega.{arith}
 use borrow.Author.Needs.{needs}
 use Rattle.model.specs.Steps.{setSpare}

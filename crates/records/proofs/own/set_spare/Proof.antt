@@ -1,4 +1,3 @@
--- `effects::own::set_spare` meets its contract.
 use borrow.Author.Needs.{needs}
 use Rattle.records.proofs.Changes.{spare-changed}
 use Rattle.records.proofs.own.set_spare.Statement.{statement}

@@ -1,4 +1,3 @@
--- `effects::reply::Reply::quiet` meets its contract.
 use mathlib.Core.Path.{refl, ap}
 use mathlib.Core.List.{[]}
 use borrow.Author.Needs.{needs}

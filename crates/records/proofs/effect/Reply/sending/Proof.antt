@@ -1,4 +1,3 @@
--- `effects::reply::Reply::sending` meets its contract.
 use mathlib.Core.Path.{ap₂}
 use mathlib.Core.List.{[], _∷_}
 use Rattle.model.specs.Ring.{Own, Message}

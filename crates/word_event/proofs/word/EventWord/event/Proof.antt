@@ -1,4 +1,3 @@
--- `event_words::EventWord::event` meets its contract.
 use mathlib.Core.Path.{_≡_, refl, sym, ap, _∙_}
 use mathlib.Core.List.{[], _∷_}
 use Prim.Native.Nat.{ℕ, suc, _-_, _/_, _%_, _^_, _<_}
