@@ -19,7 +19,7 @@ use Rattle.model.specs.Play.{setNode, setMessages, removeMessage, act, a
 use Rattle.model.specs.ConnectivityPreserved.{Harmless}
 use Rattle.model.specs.declared.event.Event.{Event}
 use Rattle.model.specs.declared.event.Event.the-variants.{On, Off, Notice, Contact, Timer, Deliver, Lose}
-use Rattle.model.proofs.Laws.{clash, and-in, and-right, or-left, or-right, not-in, if-law, put-law, put-each, put-here, put-else}
+use Rattle.model.proofs.Laws.{clash, and-right, or-left, or-right, if-law, put-law, put-each, put-here, put-else}
 use Rattle.model.proofs.Lists.{item, end, listed-at}
 use Rattle.model.proofs.Cut.{commit, clock, Acknowledgement, Young, Kept, EachPair, Change, quiet, answers, trades, Step}
 
@@ -210,7 +210,7 @@ module _ (r : Ring) (x : ℕ) where
   -- what a release of z, and a commit set to now, keep
   release-kept : (p : Own) (z b : ℕ) → ¬ (b ≡ z) → KeptIn p b → KeptIn (release z p) b
   unfolding release
-  release-kept p z b n k = (and-in (k .0) (not-in (ne-eqb b z n)), rw (put-else (p .commit) z 0 b n) (k .1))
+  release-kept p z b n k = (rw (ne-eqb b z n, k .0), rw (put-else (p .commit) z 0 b n) (k .1))
 
   put-kept : (p : Own) (y b : ℕ) → (p .commit b ≡ own .commit b) ⊎ (p .commit b ≡ now) → (put (p .commit) y now b ≡ own .commit b) ⊎ (put (p .commit) y now b ≡ now)
   put-kept p y b k = put-law (λ v. (v ≡ own .commit b) ⊎ (v ≡ now)) (p .commit) y now b (λ i. inr refl) (λ d. k)
@@ -226,12 +226,11 @@ module _ (r : Ring) (x : ℕ) where
   hold-taken : (y : ℕ) → Taken y (hold now y own)
   unfolding hold
   hold-taken y =
-      if-law (Taken y) (own .held y) own
-      (record { held = with (own .held) y; candidates = own .candidates; commit = put (own .commit) y now; spare = put (own .spare) y noneNode })
+      if-law (Taken y) (own .held y) own _
       (λ e. record { has = e; keeps = λ z h. (h, inl refl) })
       (λ e. record {
         has = or-right (own .held y) (eq-eqb y y refl);
-        keeps = λ z h. (or-left (eqb z y) h, put-kept own y z (inl refl));
+        keeps = λ z h. (or-left (eqb z y) h, inl (put-else (own .commit) y _ z (λ i. clash h (ap (own .held) i ∙ e))));
       })
 
   law-hold : (y : ℕ) → Law (record { own = hold now y own; sent = [] })
@@ -377,7 +376,7 @@ module _ (r : Ring) (x : ℕ) where
 
       trade-held : ¬ (y ≡ z) → trade .held y ≡ true
       unfolding trade release
-      trade-held n = and-in (hold-taken y .has) (not-in (ne-eqb y z n))
+      trade-held n = rw (ne-eqb y z n, hold-taken y .has)
 
       trade-commit : trade .commit y ≡ now
       unfolding trade

@@ -17,8 +17,8 @@ use Rattle.model.specs.Buffer.{Written, openAnswer, openBuffer, bufferAn
 use Rattle.model.specs.declared.answer.Answer.the-variants.{Accepted}
 use Rattle.model.proofs.Words.{decoded-back, reads-out}
 use Rattle.model.proofs.RoundTrip.{round-trip}
-use Rattle.model.proofs.Fits.{encoded-reads}
 use Rattle.model.proofs.Decoded.{reads-well}
+use Rattle.model.proofs.Fits.{encoded-reads}
 use Rattle.model.proofs.WellFormedPlay.{table-well, initial-well, word-well}
 
 -- what a buffer holds after what the rules for rings give
