@@ -60,7 +60,7 @@ fn view_of(low: u32, middle: u32, high: u32) -> u64
 // Takes the message at position k out of the m messages.
 pub fn remove(words: &mut [u32], m: usize, k: usize)
     requires words { ⌜ (length (now words) ≡ ringLength) × (m ≤ 1024) × (k < m) ⌝ }
-    ensures value { λ _. ⌜ ((ρ : Ring) (n : ℕ) → Encodes (now (words .entry)) n m ρ
+    ensures ring { λ _. ⌜ ((ρ : Ring) (n : ℕ) → Encodes (now (words .entry)) n m ρ
         → Encodes (now (words .exit)) n (m - 1) (removeMessage k ρ)) ⌝ }
 {
     set_count(words, m - 1);
@@ -71,7 +71,7 @@ pub fn remove(words: &mut [u32], m: usize, k: usize)
 // Puts a message after the m messages.
 pub fn append(words: &mut [u32], m: usize, message: MessageRecord)
     requires words { ⌜ (length (now words) ≡ ringLength) × (m < 1024) × RoomMessage message ⌝ }
-    ensures value { λ _. ⌜ ((ρ : Ring) (n : ℕ) → Encodes (now (words .entry)) n m ρ
+    ensures ring { λ _. ⌜ ((ρ : Ring) (n : ℕ) → Encodes (now (words .entry)) n m ρ
         → Encodes (now (words .exit)) n (m + 1) (setMessages (ρ .messages ++ (messageOf message ∷ [])) ρ)) ⌝ }
 {
     set_count(words, m + 1);
@@ -111,7 +111,7 @@ fn set_count(words: &mut [u32], m: usize)
 pub fn send_each(words: &mut [u32], m: usize, tag: u8, me: NodeNumber, to: u64) -> usize
     requires words { ⌜ (length (now words) ≡ ringLength) × (tag < 2 ^ 4) × (me .0 < 64)
         × (m + count 64 (ofBits to) ≤ 1024) ⌝ }
-    ensures value { λ r. ⌜ ((ρ : Ring) (n : ℕ) → Encodes (now (words .entry)) n m ρ
+    ensures ring { λ r. ⌜ ((ρ : Ring) (n : ℕ) → Encodes (now (words .entry)) n m ρ
         → Encodes (now (words .exit)) n r
         (setMessages (ρ .messages ++ map (steps.plain tag (me .0)) (members 64 (ofBits to))) ρ)) ⌝ }
 {
@@ -138,7 +138,7 @@ pub fn send_requests(
     requires words { ⌜ (length (now words) ≡ ringLength) × (me .0 < 64) × (time .0 < 2 ^ 24)
         × (m + count 64 (ofBits to) ≤ 1024) ⌝ }
     requires record { ⌜ RoomNode own × ((z : ℕ) → ofBits to z ≡ true → spareAt own z < 64) ⌝ }
-    ensures value { λ r. ⌜ ((ρ : Ring) (n : ℕ) → Encodes (now (words .entry)) n m ρ
+    ensures ring { λ r. ⌜ ((ρ : Ring) (n : ℕ) → Encodes (now (words .entry)) n m ρ
         → Encodes (now (words .exit)) n r
         (setMessages
         (ρ .messages

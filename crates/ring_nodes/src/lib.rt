@@ -54,7 +54,7 @@ pub fn clock(words: &[u32], x: NodeNumber) -> Stamp
 pub fn set_running(words: &mut [u32], x: NodeNumber, running: bool)
     requires length { ⌜ length (now words) ≡ ringLength ⌝ }
     requires bounds { ⌜ x .0 < 64 ⌝ }
-    ensures value { λ _. ⌜ ((ρ : Ring) (n m : ℕ) → Encodes (now (words .entry)) n m ρ → x .0 < n
+    ensures ring { λ _. ⌜ ((ρ : Ring) (n m : ℕ) → Encodes (now (words .entry)) n m ρ → x .0 < n
         → Encodes (now (words .exit)) n m (update (x .0) (setRunning running) ρ)) ⌝ }
 {
     let at = place::NODES + 2 * (x.0 as usize);
@@ -65,7 +65,7 @@ pub fn set_running(words: &mut [u32], x: NodeNumber, running: bool)
 // Writes the clock of node x.
 pub fn set_clock(words: &mut [u32], x: NodeNumber, clock: Stamp)
     requires words { ⌜ (length (now words) ≡ ringLength) × (x .0 < 64) × (clock .0 < 2 ^ 24) ⌝ }
-    ensures value { λ _. ⌜ ((ρ : Ring) (n m : ℕ) → Encodes (now (words .entry)) n m ρ → x .0 < n
+    ensures ring { λ _. ⌜ ((ρ : Ring) (n m : ℕ) → Encodes (now (words .entry)) n m ρ → x .0 < n
         → Encodes (now (words .exit)) n m (update (x .0) (setClock (clock .0)) ρ)) ⌝ }
 {
     let at = place::NODES + 2 * (x.0 as usize);
@@ -75,7 +75,7 @@ pub fn set_clock(words: &mut [u32], x: NodeNumber, clock: Stamp)
 // On at node x: sets the running mark, and its clock to `time`.
 pub fn start(words: &mut [u32], x: NodeNumber, time: Stamp)
     requires words { ⌜ (length (now words) ≡ ringLength) × (x .0 < 64) × (time .0 < 2 ^ 24) ⌝ }
-    ensures value { λ _. ⌜ ((ρ : Ring) (n m : ℕ) → Encodes (now (words .entry)) n m ρ → x .0 < n
+    ensures ring { λ _. ⌜ ((ρ : Ring) (n m : ℕ) → Encodes (now (words .entry)) n m ρ → x .0 < n
         → time .0 ≡ ρ .node (x .0) .clock + 1 → Encodes (now (words .exit)) n m (update (x .0) started ρ)) ⌝ }
 {
     set_running(words, x, true);
@@ -85,7 +85,7 @@ pub fn start(words: &mut [u32], x: NodeNumber, time: Stamp)
 // Off at node x, of n: clears the running mark and the own record.
 pub fn stop(words: &mut [u32], n: usize, x: NodeNumber)
     requires words { ⌜ (length (now words) ≡ ringLength) × (n ≤ 64) × (x .0 < n) ⌝ }
-    ensures value { λ _. ⌜ ((ρ : Ring) (m : ℕ) → Encodes (now (words .entry)) n m ρ
+    ensures ring { λ _. ⌜ ((ρ : Ring) (m : ℕ) → Encodes (now (words .entry)) n m ρ
         → Encodes (now (words .exit)) n m (update (x .0) stopped ρ)) ⌝ }
 {
     set_running(words, x, false);
@@ -97,7 +97,7 @@ pub fn stop(words: &mut [u32], n: usize, x: NodeNumber)
 // Writes what a step of node x, of n, leaves: its clock `time`, and its own record.
 pub fn store(words: &mut [u32], n: usize, x: NodeNumber, time: Stamp, own: NodeRecord)
     requires words { ⌜ (length (now words) ≡ ringLength) × (n ≤ 64) × (x .0 < n) × (time .0 < 2 ^ 24) × RoomNode own ⌝ }
-    ensures value { λ _. ⌜ ((ρ : Ring) (m : ℕ) → Encodes (now (words .entry)) n m ρ
+    ensures ring { λ _. ⌜ ((ρ : Ring) (m : ℕ) → Encodes (now (words .entry)) n m ρ
         → Encodes (now (words .exit)) n m (update (x .0) (stepped (time .0) (ownOf own)) ρ)) ⌝ }
 {
     set_clock(words, x, time);
