@@ -1,4 +1,5 @@
--- "exactly 2 times L stands": the leafset in a set that has at least 2 times L nodes without x.
+-- "the L nearest clockwise and the L nearest counter-clockwise, exactly 2 times L stands": the leafset in a set that has at least
+-- 2 times L nodes without x.
 use mathlib.Core.Path.{_≡_, refl, sym, ap, _∙_}
 use Prim.Native.Nat.{ℕ, zero, suc, _+_, _*_, _≤_, _<_, min, zero-le}
 use native.Mathlib.Nat.{le-of-lt, le-of-eq, add-comm}
@@ -13,7 +14,7 @@ use Rattle.model.specs.Sets.{Set, without, all, count}
 use Rattle.model.specs.Leafset.{Table, size, key, nearer, isNear, leafset}
 use Rattle.model.specs.WellFormed.{WellFormedTable}
 use Rattle.model.specs.Words.{keysDiffer}
-use Rattle.model.proofs.Laws.{and-left, and-right, or-case, not-out, decide, one, all-out, count-add, count-cong, count-none, count-one}
+use Rattle.model.proofs.Laws.{and-left, and-right, and-in, or-case, not-out, decide, one, all-out, count-add, count-cong, count-none, count-one, count-mono}
 
 -- ---- tests
 
@@ -49,13 +50,16 @@ split true true = refl
 split true false = refl
 split false k = refl
 
-either : (b p q : Bool) → (b ≡ true → p ≡ true → q ≡ true → ⊥) → one (b && (p || q)) ≡ one (b && p) + one (b && q)
+either : (p q : Bool) → (p ≡ true → q ≡ true → ⊥) → one (p || q) ≡ one p + one q
 unfolding one
-either false p q h = refl
-either true true true h = absurd (h refl refl refl)
-either true true false h = refl
-either true false true h = refl
-either true false false h = refl
+either true true h = absurd (h refl refl)
+either true false h = refl
+either false true h = refl
+either false false h = refl
+
+distribute : (b p q : Bool) → (b && (p || q)) ≡ ((b && p) || (b && q))
+distribute true p q = refl
+distribute false p q = refl
 
 -- ---- the L least by d of the members of S below n: there are L of them, or all
 
@@ -155,6 +159,23 @@ turned a b c ha hb hc nb nc h = complements (clockwise a b) (clockwise b a) (clo
 clockwise-lt : (a b : ℕ) → clockwise a b < 16777216
 clockwise-lt a b = omega arith
 
+-- ---- the two sides of a leafset
+
+-- A are L members of S, nearer to x by the distance d than any other member of S
+pub record Nearest (t : Table) (d : ℕ → ℕ → ℕ) (x : ℕ) (S A : Set) : Type 0 where
+  pub within : (y : ℕ) → A y ≡ true → S y ≡ true
+  pub number : count (size t) A ≡ t .leaf
+  pub nearest : (y z : ℕ) → A y ≡ true → S z ≡ true → A z ≡ false → d (key t x) (key t y) < d (key t x) (key t z)
+
+-- the leafset of x in S is two sides without a common node
+pub record Sides (t : Table) (x : ℕ) (S : Set) : Type 0 where
+  pub ahead : Set
+  pub behind : Set
+  pub ahead-nearest : Nearest t clockwise x (without S x) ahead
+  pub behind-nearest : Nearest t counterClockwise x (without S x) behind
+  pub apart : (y : ℕ) → y < size t → ahead y ≡ true → behind y ≡ true → ⊥
+  pub together : (y : ℕ) → leafset t x S y ≡ (ahead y || behind y)
+
 -- ---- the leafset of x in S, in a well-formed table
 
 module _ (t : Table) (g : WellFormedTable t) (x : ℕ) (hx : x < size t) (S : Set) where
@@ -194,10 +215,13 @@ module _ (t : Table) (g : WellFormedTable t) (x : ℕ) (hx : x < size t) (S : Se
   behind-inj y z hy hz ly lz e = same-key y z hy hz (counter-inj a (key t y) (key t z) (small x hx) (small y hy) (small z hz) e)
 
   -- the L nearest on one way
-  near-ahead : count n (λ y. left y && isNear t clockwise x left y) ≡ min (t .leaf) (count n left)
+  abbrev near : (ℕ → ℕ → ℕ) → Set
+  near d y = left y && isNear t d x left y
+
+  near-ahead : count n (near clockwise) ≡ min (t .leaf) (count n left)
   near-ahead = least-count left ahead n ahead-inj (t .leaf) 16777216 (λ y l e. clockwise-lt a (key t y))
 
-  near-behind : count n (λ y. left y && isNear t counterClockwise x left y) ≡ min (t .leaf) (count n left)
+  near-behind : count n (near counterClockwise) ≡ min (t .leaf) (count n left)
   near-behind = least-count left behind n behind-inj (t .leaf) 16777216 (λ y l e. clockwise-lt (key t y) a)
 
   -- seen from a member y, any other member is nearer on one way or on the other
@@ -221,29 +245,62 @@ module _ (t : Table) (g : WellFormedTable t) (x : ℕ) (hx : x < size t) (S : Se
       (λ lz. rw lz)
 
   -- nobody is among the L nearest on both ways
-  apart : (y : ℕ) → y < n → 2 * t .leaf ≤ count n left → left y ≡ true → isNear t clockwise x left y ≡ true → isNear t counterClockwise x left y ≡ true → ⊥
-  apart y hy enough ly p q =
+  apart : (y : ℕ) → y < n → 2 * t .leaf ≤ count n left → near clockwise y ≡ true → near counterClockwise y ≡ true → ⊥
+  apart y hy enough p q =
+      let ly : left y ≡ true = and-left (left y) _ p in
       let whole : count n left ≡ nearer t clockwise x left y + count n (λ z. left z && not (ltb (ahead z) (ahead y))) =
       count-add n (λ z. left z && ltb (ahead z) (ahead y)) (λ z. left z && not (ltb (ahead z) (ahead y))) left (λ z l. split (left z) (ltb (ahead z) (ahead y))) in
       let rest : count n (λ z. left z && not (ltb (ahead z) (ahead y))) ≡ nearer t counterClockwise x left y + count n (λ z. left z && eqb z y) =
       count-add n (λ z. left z && ltb (behind z) (behind y)) (λ z. left z && eqb z y) (λ z. left z && not (ltb (ahead z) (ahead y))) (λ z l. past y z hy l ly) in
       let itself : count n (λ z. left z && eqb z y) ≤ 1 =
       count-one n (λ z. left z && eqb z y) (λ u v hu hv eu ev. eqb-true u y (and-right (left u) _ eu) ∙ sym (eqb-true v y (and-right (left v) _ ev))) in
-      let here : nearer t clockwise x left y < t .leaf = ltb-true _ (t .leaf) p in
-      let there : nearer t counterClockwise x left y < t .leaf = ltb-true _ (t .leaf) q in
+      let here : nearer t clockwise x left y < t .leaf = ltb-true _ (t .leaf) (and-right (left y) _ p) in
+      let there : nearer t counterClockwise x left y < t .leaf = ltb-true _ (t .leaf) (and-right (left y) _ q) in
       omega arith
 
-  pub leafset-size : 2 * t .leaf ≤ count n left → count n (leafset t x S) ≡ 2 * t .leaf
-  unfolding leafset
-  leafset-size enough =
-      count-cong n (leafset t x S) near
-      (λ y l. ap (λ (few : Bool). left y && (few || isNear t clockwise x left y || isNear t counterClockwise x left y)) (le-ltb (count n left) (2 * t .leaf) enough))
-      ∙ count-add n (λ y. left y && isNear t clockwise x left y) (λ y. left y && isNear t counterClockwise x left y) near
-      (λ y l. either (left y) (isNear t clockwise x left y) (isNear t counterClockwise x left y) (apart y l enough))
-      ∙ sum
-    where
-      near : Set
-      near y = left y && (isNear t clockwise x left y || isNear t counterClockwise x left y)
+  -- a node among the L nearest by d is nearer than one that is not
+  near-nearest : (d : ℕ → ℕ → ℕ) (y z : ℕ) → near d y ≡ true → left z ≡ true → near d z ≡ false → d a (key t y) < d a (key t z)
+  near-nearest d y z p lz q =
+      elim (decLt (d a (key t y)) (d a (key t z))) [
+        | yes h ↦ h
+        | no h ↦
+            (let few : nearer t d x left y < t .leaf = ltb-true _ (t .leaf) (and-right (left y) _ p) in
+            let many : t .leaf ≤ nearer t d x left z = ltb-false _ (t .leaf) (rw lz at q) in
+            let mono : nearer t d x left z ≤ nearer t d x left y =
+            count-mono (λ v. left v && ltb (d a (key t v)) (d a (key t z))) (λ v. left v && ltb (d a (key t v)) (d a (key t y))) n
+            (λ v l e.
+            let i = ltb-true (d a (key t v)) (d a (key t z)) (and-right (left v) _ e) in
+            and-in (and-left (left v) _ e) (lt-ltb (d a (key t v)) (d a (key t y)) (omega arith))) in
+            absurd (omega arith))
+      ]
 
-      sum : count n (λ y. left y && isNear t clockwise x left y) + count n (λ y. left y && isNear t counterClockwise x left y) ≡ 2 * t .leaf
-      sum = omega (arith, near-ahead, near-behind)
+  nearest-by : (d : ℕ → ℕ → ℕ) → count n (near d) ≡ min (t .leaf) (count n left) → 2 * t .leaf ≤ count n left → Nearest t d x left (near d)
+  nearest-by d e enough =
+      record {
+        within = λ y p. and-left (left y) (isNear t d x left y) p;
+        number = omega arith;
+        nearest = near-nearest d;
+      }
+
+  pub leafset-sides : 2 * t .leaf ≤ count n left → Sides t x S
+  unfolding leafset
+  leafset-sides enough =
+      record {
+        ahead = near clockwise;
+        behind = near counterClockwise;
+        ahead-nearest = nearest-by clockwise near-ahead enough;
+        behind-nearest = nearest-by counterClockwise near-behind enough;
+        apart = λ y l p q. apart y l enough p q;
+        together = λ y.
+            ap (λ (few : Bool). left y && (few || isNear t clockwise x left y || isNear t counterClockwise x left y))
+            (le-ltb (count n left) (2 * t .leaf) enough)
+            ∙ distribute (left y) (isNear t clockwise x left y) (isNear t counterClockwise x left y);
+      }
+
+  pub leafset-size : 2 * t .leaf ≤ count n left → count n (leafset t x S) ≡ 2 * t .leaf
+  leafset-size enough =
+      let s : Sides t x S = leafset-sides enough in
+      let sum : count n (leafset t x S) ≡ count n (s .ahead) + count n (s .behind) =
+      count-add n (s .ahead) (s .behind) (leafset t x S)
+      (λ y l. ap one (s .together y) ∙ either (s .ahead y) (s .behind y) (s .apart y l)) in
+      omega arith

@@ -23,6 +23,7 @@ use Rattle.model.specs.declared.event.Event.the-variants.{On, Off, Notic
 use Rattle.model.specs.declared.event.Reading.the-variants.{Read}
 use Rattle.model.proofs.Answers.{risingFrom, LowestOf, lowest-given}
 use Rattle.model.proofs.Events as events
+use Rattle.model.proofs.LeafsetSize.{Sides}
 use Rattle.model.proofs.LeafsetSize as size-of
 use Rattle.model.proofs.Words as words
 use Rattle.model.proofs.RoundTrip as trip
@@ -89,7 +90,15 @@ no-other d e a b i = let p = events.reads d a in let q = events.reads e b in let
 
 -- ---- leafsets
 
--- "exactly 2 times L stands" (001, section 4)
+-- "the L nearest clockwise and the L nearest counter-clockwise": where 2 times L nodes are left, the leafset is two sides without a
+-- common node. Each has exactly L nodes, and these are nearer on their way than any other that is left.
+pub leafset-sides :
+    (t : Table) → WellFormedTable t → (x : ℕ) → x < size t → (S : Set)
+    → 2 * t .leaf ≤ count (size t) (without S x)
+    → Sides t x S
+leafset-sides t g x h S enough = size-of.leafset-sides t g x h S enough
+
+-- so it has "exactly 2 times L stands" (001, section 4)
 pub leafset-size :
     (t : Table) → WellFormedTable t → (x : ℕ) → x < size t → (S : Set)
     → 2 * t .leaf ≤ count (size t) (without S x)
