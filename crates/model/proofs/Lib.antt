@@ -17,5 +17,7 @@ pub mod Acting
 pub mod Follows
 pub mod ConnectivityPreserved
 pub mod LeafsetSize
+pub mod Questions
+pub mod ExampleRing
 pub mod Points
 pub mod Theorems

@@ -1,9 +1,9 @@
 -- Computed examples: the points P1 to P10 of document 01 and its traps as one table, and the worked example of its bench.
-use Prim.Native.Nat.{ℕ, suc}
+use Prim.Native.Nat.{ℕ, suc, _^_, _≤_, _<_}
 use mathlib.Core.Path.{_≡_, refl}
 use mathlib.Core.Bool.{true, false}
 use mathlib.Core.List.{List, [], _∷_}
-use lib.ListN.{replicate}
+use lib.ListN.{replicate, take}
 use native.Mathlib.Omega.{arith}
 use Rattle.model.specs.Key.{clockwise, distance}
 use Rattle.model.specs.Sets
@@ -18,6 +18,9 @@ use Rattle.model.specs.Buffer
 use Rattle.model.specs.Connection
 use Rattle.model.specs.Questions
 use Rattle.model.specs.Bench
+use Rattle.model.specs.WellFormed.{WellFormed}
+use Rattle.model.proofs.Questions.{leafset-asked}
+use Rattle.model.proofs.ExampleRing.{holding, five, node0, off, acknowledgement, ring, ring-well}
 
 -- `unfolding computed` opens every definition, for what is shown by computing
 unfoldable pub computed : Unit {0}
@@ -34,90 +37,110 @@ four = record { leaf = 1; keys = 10 ∷ 20 ∷ 30 ∷ 16777210 ∷ [] }
 pub near10 : ℕ → List ℕ
 near10 S = Sets.members 4 (Leafset.leafset four 0 (Sets.ofBits S))
 
--- type 7 from node 0, key 100, at node x of keys 100, 130, 90 and 110: the subject, for each L from 1 to 8
-pub asked : ℕ → ℕ → List ℕ
-asked x held = Sets.tabulate 8 λ i. Leafset.closest (record { leaf = suc i; keys = 100 ∷ 130 ∷ 90 ∷ 110 ∷ [] }) x (Sets.ofBits held) 0
-
--- node 0 of `four` holds the others, and node 2, outside its leafset, has spare 1; the held after type 10 from 1 with stamp 7, subject 2
-pub acknowledged : ℕ → List ℕ
-acknowledged commit = Sets.members 4 (Steps.onPongReplace four 0 9 o m .own .held)
+-- type 7 from node 0, key 100, is delivered at node x of keys 100, 130, 90 and 110, which holds the nodes that are given by their bits:
+-- what it sends, for each L from 1 to 8
+pub asked : ℕ → ℕ → List (List Ring.Message)
+asked x S = Sets.tabulate 8 λ i. Steps.deliver (record { leaf = suc i; keys = 100 ∷ 130 ∷ 90 ∷ 110 ∷ [] }) x 9 (holding S) m .sent
   where
-    o : Ring.Own
-    o = record { held = Sets.ofBits 0b1110; candidates = Sets.ofBits 0; commit = λ z. commit; spare = λ z. 1 }
-
     m : Ring.Message
-    m = Steps.stamped Steps.pongReplace 1 0 2 7
+    m = record { type = 7; sender = 0; receiver = x; subject = 64; stamp = 0; view = Sets.empty }
 
--- node 1 of the held 1 and 2 is released and held again at 9: its commit, its spare, the held
-pub again : List ℕ
-again = o .commit 1 ∷ o .spare 1 ∷ Sets.members 4 (o .held)
+-- one message for each of these L: type 8 from node x to node 0, with that subject
+pub offered : ℕ → ℕ → List (List Ring.Message)
+offered x y = replicate 8 (record { type = 8; sender = x; receiver = 0; subject = y; stamp = 0; view = Sets.empty } ∷ [])
+
+-- what an own record says of the nodes of a table of five
+pub record Shown : Type 0 where
+  pub held : List ℕ
+  pub commits : List ℕ
+  pub spares : List ℕ
+
+pub shown : Ring.Own → Shown
+shown o = record { held = Sets.members 5 (o .held); commits = Sets.tabulate 5 (o .commit); spares = Sets.tabulate 5 (o .spare) }
+
+-- node 0 holds the nodes that are given by their bits, and of them z = 2 with this commit and spare 1. Type 10 from y = 1 about z, with
+-- stamp 7, is delivered to it, at 9: what its own record says then
+pub acknowledged : ℕ → ℕ → Shown
+acknowledged S commit = shown (Steps.deliver (r .table) 0 9 (r .node 0 .own) (Ring.messageAt r 0) .own)
   where
-    o : Ring.Own
-    o = Steps.hold 9 1 (Steps.release 1 (record { held = Sets.ofBits 0b0110; candidates = Sets.ofBits 0; commit = λ z. 5; spare = λ z. 3 }))
+    r : Ring.Ring
+    r = ring S commit
 
-abbrev rows : List (Type 0)
-rows =
-    -- P1 to P10
-    (clockwise 16777215 0 ≡ 1)
-    ∷ ((k : ℕ) → clockwise k k ≡ 0)
-    ∷ (distance 0 8388608 ≡ 8388608)
-    ∷ (near10 0b1110 ≡ 1 ∷ 3 ∷ [])
-    ∷ (near10 0b0010 ≡ 1 ∷ [])
-    ∷ (near10 0b0110 ≡ 1 ∷ 2 ∷ [])
-    ∷ (asked 1 0b1100 ≡ replicate 8 3)
-    ∷ (asked 3 0b0100 ≡ replicate 8 64)
-    ∷ (acknowledged 7 ≡ 1 ∷ 2 ∷ 3 ∷ [])
-    ∷ (acknowledged 6 ≡ 1 ∷ 3 ∷ [])
-    -- "commit 0 for a stand taken in again"
-    ∷ (again ≡ 9 ∷ 64 ∷ 1 ∷ 2 ∷ [])
-    -- "offering the asker as its own spare": held, and nearest to itself
-    ∷ (asked 1 0b1101 ≡ replicate 8 3)
-    -- "sorting keys without the wrap": from the highest key on, the lowest is next, and key 0 is passed on the way there alone
-    ∷ (Leafset.successor four 3 (Sets.ofBits 0b0111) ≡ 0)
-    ∷ (Leafset.passesZero four 3 (Sets.ofBits 0b0111) ≡ true)
-    ∷ (Leafset.passesZero four 0 (Sets.ofBits 0b1110) ≡ false)
-    ∷ []
+-- node 1 of the held 1 and 2, with spare 3, is released and held again at 9
+pub again : Shown
+again = shown (Steps.hold 9 1 (Steps.release 1 (Steps.setSpare 1 3 (holding 0b0110))))
 
-abbrev EveryOne : List (Type 0) → Type 0
-EveryOne [] = Unit
-EveryOne (P ∷ Ps) = P × EveryOne Ps
+-- the table: the points and traps by name, and the leafset question
+pub record Points : Type 0 where
+  pub P1 : clockwise 16777215 0 ≡ 1
+  pub P2 : (k : ℕ) → clockwise k k ≡ 0
+  pub P3 : distance 0 8388608 ≡ 8388608
+  pub P4 : near10 0b1110 ≡ 1 ∷ 3 ∷ []
+  pub P5 : near10 0b0010 ≡ 1 ∷ []
+  pub P6 : near10 0b0110 ≡ 1 ∷ 2 ∷ []
+  pub P7 : asked 1 0b1100 ≡ offered 1 3
+  pub P8 : asked 3 0b0100 ≡ offered 3 64
+  -- "otherwise fit": the rings are well-formed. Before, y is not held, or (`-held`) is held with commit 5.
+  -- "comparing stamps with "not above"" would release z in P9 as well
+  pub P9-P10-fit : (S commit : ℕ) → S < 2 ^ 5 → Sets.ofBits S 0 ≡ false → Sets.ofBits S 2 ≡ true → 1 ≤ commit → commit ≤ 8
+      → WellFormed (ring S commit)
+  pub P9 : acknowledged 0b11100 7
+      ≡ record { held = 1 ∷ 2 ∷ 3 ∷ 4 ∷ []; commits = 0 ∷ 9 ∷ 7 ∷ 5 ∷ 5 ∷ []; spares = 64 ∷ 64 ∷ 1 ∷ 64 ∷ 64 ∷ [] }
+  pub P9-held : acknowledged 0b11110 7
+      ≡ record { held = 1 ∷ 2 ∷ 3 ∷ 4 ∷ []; commits = 0 ∷ 5 ∷ 7 ∷ 5 ∷ 5 ∷ []; spares = 64 ∷ 64 ∷ 1 ∷ 64 ∷ 64 ∷ [] }
+  pub P10 : acknowledged 0b11100 6
+      ≡ record { held = 1 ∷ 3 ∷ 4 ∷ []; commits = 0 ∷ 9 ∷ 0 ∷ 5 ∷ 5 ∷ []; spares = 64 ∷ 64 ∷ 64 ∷ 64 ∷ 64 ∷ [] }
+  pub P10-held : acknowledged 0b11110 6
+      ≡ record { held = 1 ∷ 3 ∷ 4 ∷ []; commits = 0 ∷ 9 ∷ 0 ∷ 5 ∷ 5 ∷ []; spares = 64 ∷ 64 ∷ 64 ∷ 64 ∷ 64 ∷ [] }
+  -- "commit 0 for a stand taken in again"
+  pub held-again : again ≡ record { held = 1 ∷ 2 ∷ []; commits = 0 ∷ 9 ∷ 5 ∷ 0 ∷ 0 ∷ []; spares = 64 ∷ 64 ∷ 64 ∷ 64 ∷ 64 ∷ [] }
+  -- "offering the asker as its own spare": held, and nearest to itself
+  pub asker-held : asked 1 0b1101 ≡ offered 1 3
+  -- "sorting keys without the wrap": from the highest key on, the lowest is next, and key 0 is passed on the way there alone
+  pub wrap-next : Leafset.successor four 3 (Sets.ofBits 0b0111) ≡ 0
+  pub wrap-passed : Leafset.passesZero four 3 (Sets.ofBits 0b0111) ≡ true
+  pub wrap-not-passed : Leafset.passesZero four 0 (Sets.ofBits 0b1110) ≡ false
+  -- the leafset question: "64 bits, bit s for stand s", of the leafset {3, 4} in the held {1, 2, 3, 4}
+  pub leafset-bits : Questions.leafsetOf (Words.encode (ring 0b11110 6)) 0 ≡ 0b11000
+  -- "A refused leafset question returns the empty set": about node 1, which is off; node 5, which is not of the
+  -- table; and a buffer that ends after the pairs of node 0
+  pub leafset-off : Questions.leafsetOf (Words.encode (ring 0b11110 6)) 1 ≡ 0
+  pub leafset-beyond : Questions.leafsetOf (Words.encode (ring 0b11110 6)) 5 ≡ 0
+  pub leafset-short : Questions.leafsetOf (take 257 (Words.encode (ring 0b11110 6))) 0 ≡ 0
 
 full-circle : (k : ℕ) → clockwise k k ≡ 0
 full-circle k = omega arith
 
-pub points : EveryOne rows
-unfolding computed four near10 asked acknowledged again
-points = (
-  refl,
-  (
-    full-circle,
-    (
-      refl,
-      (
-        refl,
-        (
-          refl,
-          (
-            refl,
-            (
-              refl,
-              (
-                refl,
-                (
-                  refl,
-                  (
-                    refl,
-                    (refl, (refl, (refl, (refl, (refl, tt))))),
-                  ),
-                ),
-              ),
-            ),
-          ),
-        ),
-      ),
-    ),
-  ),
-)
+fit : WellFormed (ring 0b11110 6)
+fit = ring-well 0b11110 6 (omega arith) refl refl (omega arith) (omega arith)
+
+pub points : Points
+unfolding computed four near10 holding asked offered shown five node0 off acknowledgement ring acknowledged again
+points =
+    record {
+      P1 = refl;
+      P2 = full-circle;
+      P3 = refl;
+      P4 = refl;
+      P5 = refl;
+      P6 = refl;
+      P7 = refl;
+      P8 = refl;
+      P9-P10-fit = ring-well;
+      P9 = refl;
+      P9-held = refl;
+      P10 = refl;
+      P10-held = refl;
+      held-again = refl;
+      asker-held = refl;
+      wrap-next = refl;
+      wrap-passed = refl;
+      wrap-not-passed = refl;
+      leafset-bits = leafset-asked (ring 0b11110 6) fit 0;
+      leafset-off = leafset-asked (ring 0b11110 6) fit 1;
+      leafset-beyond = leafset-asked (ring 0b11110 6) fit 5;
+      leafset-short = refl;
+    }
 
 -- ---- the worked example of "The bench program"
 

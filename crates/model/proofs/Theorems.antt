@@ -2,19 +2,20 @@
 use mathlib.Core.Path.{_≡_, refl, sym, ap, _∙_}
 use mathlib.Core.Logic.{_↔_}
 use Prim.Native.Nat.{ℕ, _*_, _≤_, _<_}
-use mathlib.Core.Bool.{Bool, true, false}
+use mathlib.Core.Bool.{Bool, true, false, _&&_}
 use mathlib.Core.List.{List}
+use lib.Dec.{ltb}
 use Rattle.model.specs.Choice.{if_then_else_}
-use Rattle.model.specs.Sets.{Set, without, count}
+use Rattle.model.specs.Sets.{Set, without, count, toBits}
 use Rattle.model.specs.Leafset.{Table, size, leafset}
-use Rattle.model.specs.Ring.{Ring, initial}
+use Rattle.model.specs.Ring.{Ring, initial, holds, isRunning}
 use Rattle.model.specs.WellFormed.{WellFormedTable, WellFormed}
 use Rattle.model.specs.Words.{encode, decode, readsAsRing}
 use Rattle.model.specs.Answers.{isAccepted}
 use Rattle.model.specs.Events.{wordOf, eventOf, eventRefusals, eventAnswer, writeEvent, wordRefusals, wordAnswer, readEvent}
 use Rattle.model.specs.Play.{stateRefusals}
 use Rattle.model.specs.Buffer.{openRefusals, openAnswer, openBuffer, playRefusals, bufferAnswer, playBuffer}
-use Rattle.model.specs.Questions.{leafsetRefusals, leafsetAnswer, connectionRefusals, connectionAnswer, groupsRefusals, groupsAnswer}
+use Rattle.model.specs.Questions.{leafsetRefusals, leafsetAnswer, leafsetOf, connectionRefusals, connectionAnswer, groupsRefusals, groupsAnswer}
 use Rattle.model.specs.Connection.{Connected, connected}
 use Rattle.model.specs.ConnectivityPreserved.{ConnectivityPreserved}
 use Rattle.model.specs.declared.answer.Answer.the-variants.{Accepted}
@@ -25,6 +26,7 @@ use Rattle.model.proofs.Answers.{risingFrom, LowestOf, lowest-given}
 use Rattle.model.proofs.Events as events
 use Rattle.model.proofs.LeafsetSize.{Sides}
 use Rattle.model.proofs.LeafsetSize as size-of
+use Rattle.model.proofs.Questions as questions
 use Rattle.model.proofs.Words as words
 use Rattle.model.proofs.RoundTrip as trip
 use Rattle.model.proofs.Fits as fits
@@ -146,6 +148,12 @@ refused-opening ws t e = rw e
 pub refused-playing : (ws : List ℕ) (w : ℕ) → isAccepted (playBuffer ws w .answer) ≡ false → playBuffer ws w .words ≡ ws
 unfolding playBuffer
 refused-playing ws w e = rw e
+
+-- the leafset question about a well-formed ring: "64 bits, bit s for stand s", of a running node; no node for any other number
+pub leafset-asked :
+    (r : Ring) → WellFormed r → (x : ℕ)
+    → leafsetOf (encode r) x ≡ (if ltb x (size (r .table)) && isRunning r x then toBits 64 (leafset (r .table) x (holds r x)) else 0)
+leafset-asked r g x = questions.leafset-asked r g x
 
 -- ---- connection
 
