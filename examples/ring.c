@@ -4,7 +4,8 @@
  *     cc -Iinclude examples/ring.c target/staticlib/libmekvalgs.a -o target/ring
  *     target/ring
  *
- * For each event: its count, the answer, the messages in flight. Then who is linked.
+ * For each event its answer and the messages in flight; then each node with those that it holds, read from the words,
+ * and who is linked. It prints what ring.out has.
  */
 #include <inttypes.h>
 #include <stdio.h>
@@ -21,10 +22,27 @@ static uint32_t event(uint32_t kind, uint32_t first, uint32_t second)
     return word;
 }
 
-/* "message count m (0 to 1,024) in 11-21" */
-static uint32_t in_flight(void)
+static void print_messages(void)
 {
-    return ring[0] >> 11 & 0x7FF;
+    uint32_t m = MEKVALGS_MESSAGES(ring[MEKVALGS_AT_HEAD]);
+    for (uint32_t i = 0; i < m; i++) {
+        uint32_t word = ring[MEKVALGS_AT_MESSAGE(i)];
+        printf(", type %" PRIu32 " from %" PRIu32 " to %" PRIu32, MEKVALGS_TYPE(word), MEKVALGS_SENDER(word),
+               MEKVALGS_RECEIVER(word));
+    }
+}
+
+static void print_node(uint32_t x)
+{
+    uint32_t n = MEKVALGS_NODES(ring[MEKVALGS_AT_HEAD]), node = ring[MEKVALGS_AT_NODE(x)];
+    printf("node %" PRIu32 ": key %" PRIu32 ", %s, clock %" PRIu32, x, MEKVALGS_KEY(node),
+           MEKVALGS_RUNNING(node) ? "runs" : "off", MEKVALGS_CLOCK(ring[MEKVALGS_AT_CLOCK(x)]));
+    for (uint32_t z = 0; z < n; z++) {
+        uint32_t pair = ring[MEKVALGS_AT_PAIR(x, z)];
+        if (MEKVALGS_HELD(pair))
+            printf(", holds %" PRIu32 " since %" PRIu32, z, MEKVALGS_COMMIT(pair));
+    }
+    printf("\n");
 }
 
 int main(void)
@@ -39,15 +57,19 @@ int main(void)
         event(MEKVALGS_DELIVER, 0, 0),
     };
     uint64_t leafset;
-    uint32_t connected, groups;
+    uint32_t answer, connected, groups;
 
-    printf("open %" PRIu32 "\n", mekvalgs_open(ring, MEKVALGS_RING_LENGTH, 1, keys, 3));
-    for (size_t i = 0; i < sizeof events / sizeof events[0]; i++) {
-        uint32_t answer = mekvalgs_play(ring, MEKVALGS_RING_LENGTH, events[i]);
-        printf("%zu %" PRIu32 " %" PRIu32 "\n", i + 1, answer, in_flight());
+    printf("open: answer %" PRIu32 "\n", mekvalgs_open(ring, MEKVALGS_RING_LENGTH, 1, keys, 3));
+    for (unsigned i = 0; i < sizeof events / sizeof events[0]; i++) {
+        answer = mekvalgs_play(ring, MEKVALGS_RING_LENGTH, events[i]);
+        printf("event %u: answer %" PRIu32, i + 1, answer);
+        print_messages();
+        printf("\n");
     }
+    for (uint32_t x = 0; x < 3; x++)
+        print_node(x);
 
-    uint32_t answer = mekvalgs_leafset(ring, MEKVALGS_RING_LENGTH, 0, &leafset);
+    answer = mekvalgs_leafset(ring, MEKVALGS_RING_LENGTH, 0, &leafset);
     printf("leafset of 0: answer %" PRIu32 ", set %" PRIu64 "\n", answer, leafset);
     answer = mekvalgs_connected(ring, MEKVALGS_RING_LENGTH, 1, 0, &connected);
     printf("1 and 0 connected: answer %" PRIu32 ", %" PRIu32 "\n", answer, connected);

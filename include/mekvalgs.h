@@ -13,12 +13,26 @@
 #include <stddef.h>
 #include <stdint.h>
 
+/* The version of this interface. */
+#define MEKVALGS_VERSION "1.0.0"
+#define MEKVALGS_VERSION_MAJOR 1
+#define MEKVALGS_VERSION_MINOR 0
+#define MEKVALGS_VERSION_PATCH 0
+
 #ifdef __cplusplus
 extern "C" {
 #endif
 
 /* The number of words of a ring. */
 #define MEKVALGS_RING_LENGTH 13441
+
+#define MEKVALGS_MAX_LEAF 8
+#define MEKVALGS_MAX_NODES 64
+#define MEKVALGS_MAX_MESSAGES 1024
+#define MEKVALGS_MAX_KEY 16777215 /* and the largest clock and stamp */
+
+/* As a spare or a subject: no node. */
+#define MEKVALGS_NONE 64
 
 enum mekvalgs_answer {
     MEKVALGS_ACCEPTED = 0,
@@ -35,6 +49,7 @@ enum mekvalgs_answer {
     MEKVALGS_POOL_FULL = 11            /* more than 1,024 messages would be left */
 };
 
+/* The kinds of event words. */
 enum mekvalgs_kind {
     MEKVALGS_ON = 9,
     MEKVALGS_OFF = 10,
@@ -45,8 +60,27 @@ enum mekvalgs_kind {
     MEKVALGS_LOSE = 15
 };
 
+/* The types of messages. */
+enum mekvalgs_type {
+    MEKVALGS_PING_CONTACT = 1,
+    MEKVALGS_PONG_CONTACT = 2,
+    MEKVALGS_PING_ASK_INV = 3,
+    MEKVALGS_PONG_ASK_INV = 4,  /* uses the view */
+    MEKVALGS_PING_INVITE = 5,
+    MEKVALGS_PONG_INVITE = 6,
+    MEKVALGS_PING_ASK_REPL = 7,
+    MEKVALGS_PONG_ASK_REPL = 8, /* uses the subject, which may be none */
+    MEKVALGS_PING_REPLACE = 9,  /* uses subject and stamp */
+    MEKVALGS_PONG_REPLACE = 10, /* uses subject and stamp: the replacement acknowledgement */
+    MEKVALGS_PING_DELOOPY = 11, /* uses the subject */
+    MEKVALGS_PONG_DELOOPY = 12
+};
+
+/* The calls. */
+
 /* Writes the initial ring of L = leaf and the n keys, node 0's first, over the words, whose old values do not matter.
- * Answers 0, 1, 2 (leaf is 1 to 8, n is 1 to 64), 3. */
+ * Answers 0, 1, 2 (leaf is 1 to 8, n is 1 to 64), 3. With n = 0 no key is read and the answer is 1 or 2; keys is not
+ * null even then, any address of a uint32_t will do. */
 uint32_t mekvalgs_open(uint32_t *words, size_t length, uint32_t leaf, const uint32_t *keys, size_t n);
 
 /* Plays an event word on the ring. Answers 0, 1, 4 to 11. */
@@ -74,6 +108,86 @@ uint32_t mekvalgs_read_event(uint32_t word, uint32_t *kind, uint32_t *first, uin
 /* The word of the event with these three numbers. Answers 0, 4 (also where a kind without a third number is given
  * one that is not 0), 5; the word is 0 where refused. */
 uint32_t mekvalgs_write_event(uint32_t kind, uint32_t first, uint32_t second, uint32_t *word);
+
+/* The words of a ring, for reading between calls.
+ *
+ * A place is an index into the words; a field is read from the word at its place, as in
+ *
+ *     MEKVALGS_HELD(words[MEKVALGS_AT_PAIR(x, z)])        1 if x holds z
+ *
+ * Each macro evaluates an argument once. Bits are counted from 0, the lowest; those that no field has are 0. The words
+ * of nodes from n, of messages from m and of a node with itself are 0. */
+
+/* Word 0: L, n, m. Words of node x: the first two. Words of the pair (x, z), what x has noted of z: the next two. */
+#define MEKVALGS_AT_HEAD 0
+#define MEKVALGS_AT_NODE(x) (1 + 2 * (x))
+#define MEKVALGS_AT_CLOCK(x) (2 + 2 * (x))
+#define MEKVALGS_AT_PAIR(x, z) (129 + 2 * (64 * (x) + (z)))
+#define MEKVALGS_AT_SPARE(x, z) (130 + 2 * (64 * (x) + (z)))
+
+/* The five words of the message at position i, the oldest is 0; part is 0 to 2. */
+#define MEKVALGS_MESSAGE_LENGTH 5
+#define MEKVALGS_AT_MESSAGE(i) (8321 + 5 * (i))
+#define MEKVALGS_AT_STAMP(i) (8322 + 5 * (i))
+#define MEKVALGS_AT_VIEW(i, part) (8323 + 5 * (i) + (part))
+
+/* Of any word. */
+#define MEKVALGS_KIND(word) ((word) >> 28)
+
+/* Of word 0, kind 1. */
+#define MEKVALGS_LEAF(word) ((word) & 15u)                 /* 0-3 L */
+#define MEKVALGS_NODES(word) (((word) >> 4) & 127u)        /* 4-10 n */
+#define MEKVALGS_MESSAGES(word) (((word) >> 11) & 2047u)   /* 11-21 m, the messages in flight */
+
+/* AT_NODE, kind 2; AT_CLOCK, kind 5. */
+#define MEKVALGS_KEY(word) ((word) & 0xFFFFFFu)            /* 0-23 */
+#define MEKVALGS_RUNNING(word) (((word) >> 24) & 1u)       /* 24 */
+#define MEKVALGS_CLOCK(word) ((word) & 0xFFFFFFu)          /* 0-23 */
+
+/* AT_PAIR, kind 3; AT_SPARE, kind 4. */
+#define MEKVALGS_COMMIT(word) ((word) & 0xFFFFFFu)         /* 0-23 commit stamp, 0 where not held */
+#define MEKVALGS_HELD(word) (((word) >> 24) & 1u)          /* 24 */
+#define MEKVALGS_CANDIDATE(word) (((word) >> 25) & 1u)     /* 25 */
+#define MEKVALGS_SPARE(word) ((word) & 127u)               /* 0-6 a node, or MEKVALGS_NONE */
+
+/* AT_MESSAGE, kind 6; AT_STAMP, kind 7; AT_VIEW, kind 8. A field that the type does not use is empty: none, 0, no
+ * view. */
+#define MEKVALGS_TYPE(word) ((word) & 15u)                 /* 0-3 */
+#define MEKVALGS_SENDER(word) (((word) >> 4) & 63u)        /* 4-9 */
+#define MEKVALGS_RECEIVER(word) (((word) >> 10) & 63u)     /* 10-15 */
+#define MEKVALGS_SUBJECT(word) (((word) >> 16) & 127u)     /* 16-22 a node, or MEKVALGS_NONE */
+#define MEKVALGS_STAMP(word) ((word) & 0xFFFFFFu)          /* 0-23 */
+#define MEKVALGS_VIEW_PART(word) ((word) & 0xFFFFFFu)      /* 0-23 nodes 0-23, 24-47, 48-63, lowest bit first */
+
+/* The view of a message as a set, bit s for node s, from its three words. */
+#define MEKVALGS_VIEW(part_0, part_1, part_2) \
+    ((uint64_t)MEKVALGS_VIEW_PART(part_0) | (uint64_t)MEKVALGS_VIEW_PART(part_1) << 24 \
+     | (uint64_t)MEKVALGS_VIEW_PART(part_2) << 48)
+
+/* Messages on a radio.
+ *
+ * A buffer is a whole ring: all its nodes, and all messages in flight between them. An accepted contact, timer or
+ * deliver puts its new messages at the end. Deliver and lose take one out, and those behind it move down one position.
+ * So after a contact or a timer the new messages are those from the old m on, after a deliver those from the old m - 1.
+ *
+ * A program that keeps the ring and has a radio carry its messages reads the five words of each new one, sends them,
+ * and leaves them where they are. When the message has arrived it plays deliver at the position that it has by then;
+ * when it is given up, lose. Nothing but calls writes the ring, and so all of docs/PROMISES.md holds, with "Demand 3":
+ * which nodes stay connected over a whole list of events.
+ *
+ * No call puts in a message from outside. A stand with a buffer of its own, in which only its own node runs, has to
+ * write them by hand. It opens with the same L and keys as the others, plays events at its own node only, sends the new
+ * messages and takes them out with lose. A message that comes for it is put at the end: its five words at
+ * MEKVALGS_AT_MESSAGE(m), and 1 << 11 added to word 0, where m is below 1,024. Then it plays deliver at position m. An
+ * event at a node reads and writes no other node's record: if the radio changes no message, each stand's node has the
+ * words that it would have in one ring for all. But each promise is about one buffer. None is made about several
+ * together, and a question about connection sees one alone.
+ *
+ * Of words that were written by hand just this holds. The next play or question reads them all. If they do not read as
+ * a ring it answers 6, or a lower number that applies, and changes nothing, until they are mended or a ring is opened
+ * over them. If they do, its answer and the words after it are those that document 01 gives for them. Whether a
+ * message was ever sent cannot be seen from the words. "Demand 3" speaks only of rings that were opened and then
+ * changed by calls alone. */
 
 #ifdef __cplusplus
 }
