@@ -1,4 +1,4 @@
-//! Writes the files stdin and stdout of crates/calls_test.
+//! Writes the files stdin and stdout of crates/test_calls.
 
 use compare::calls_test::{self, Book};
 use compare::plain::{Plain, Slip};
@@ -12,7 +12,7 @@ fn main() -> std::io::Result<()> {
     let unnoticed = unnoticed(&book);
     println!("wrong programs that give other lines: {} of {}", Slip::ALL.len() - unnoticed.len(), Slip::ALL.len());
     assert!(unnoticed.is_empty(), "not noticed: {unnoticed:?}");
-    let folder = Path::new(env!("CARGO_MANIFEST_DIR")).join("../crates/calls_test");
+    let folder = Path::new(env!("CARGO_MANIFEST_DIR")).join("../crates/test_calls");
     fs::write(folder.join("stdin"), &book.input)?;
     fs::write(folder.join("stdout"), &book.output)
 }

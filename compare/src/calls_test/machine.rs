@@ -1,4 +1,4 @@
-//! What `crates/calls_test` does with its commands, on any implementation.
+//! What `crates/test_calls` does with its commands, on any implementation.
 
 use super::event_word;
 use crate::ring::Ring;

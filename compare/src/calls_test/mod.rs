@@ -1,4 +1,4 @@
-//! The cases of `crates/calls_test`: its commands, and the lines that document 01 demands of it.
+//! The cases of `crates/test_calls`: its commands, and the lines that document 01 demands of it.
 
 mod book;
 mod damaged;

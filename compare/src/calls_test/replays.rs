@@ -2,15 +2,21 @@
 
 use super::book::Book;
 use super::events::*;
-use crate::random::Random;
-use crate::script::{Mix, Script};
 use crate::LENGTH;
+
+/// A script of each mix, drawn once and kept: later changes of the mixes leave the cases as they are.
+const STORED: [&[u8]; 4] = [
+    include_bytes!("replayed/gentle.bin"),
+    include_bytes!("replayed/chaos.bin"),
+    include_bytes!("replayed/garbage.bin"),
+    include_bytes!("replayed/replacement.bin"),
+];
 
 pub fn write(book: &mut Book) {
     book.section("replays");
     refused(book);
     every_answer(book);
-    random(book);
+    stored(book);
 }
 
 /// 1, 2 and 3: neither a word nor a place is written.
@@ -57,21 +63,17 @@ fn every_answer(book: &mut Book) {
     (0..=script.len() as u32).for_each(|length| book.replay(1, &keys, length, 0));
 }
 
-/// Random words of each mix, played one by one and replayed.
-fn random(book: &mut Book) {
-    for (stream, mix) in (0..).zip(Mix::ALL) {
-        let n = 4 + 3 * stream as usize;
-        let mut script = Script::new(Random::new(1, stream), mix, n);
-        let (leaf, keys) = script.opening();
+/// Stored scripts, played word by word and replayed.
+fn stored(book: &mut Book) {
+    for script in STORED {
+        let words: Vec<u32> = script.chunks_exact(4).map(|word| u32::from_le_bytes(word.try_into().unwrap())).collect();
+        let (leaf, n) = (words[0] & 15, words[0] >> 4 & 127);
+        let (keys, events) = words[1..].split_at(n as usize);
+        let keys: Vec<u32> = keys.iter().map(|word| word & 0xFF_FFFF).collect();
         book.open(leaf, &keys, 0);
-        let mut words = Vec::new();
-        for _ in 0..100 {
-            let word = script.next(book.words());
-            book.play_any(word);
-            words.push(word);
-        }
+        events.iter().for_each(|&word| book.play_any(word));
         book.groups(0);
-        book.list(n as u32, &words);
-        book.replay(leaf, &keys, words.len() as u32, 0);
+        book.list(n, events);
+        book.replay(leaf, &keys, events.len() as u32, 0);
     }
 }
