@@ -113,12 +113,13 @@ uint32_t mekvalgs_write_event(uint32_t kind, uint32_t first, uint32_t second, ui
  *
  * A place is an index into the words; a field is read from the word at its place, as in
  *
- *     MEKVALGS_HELD(words[MEKVALGS_AT_PAIR(x, z)])        1 if x holds z
+ *     MEKVALGS_HELD(words[MEKVALGS_AT_PAIR(x, z)])                           x holds z
+ *     MEKVALGS_TYPE(words[MEKVALGS_AT_MESSAGE(i)]) == MEKVALGS_PONG_REPLACE  message i, below m, is an acknowledgement
  *
  * Each macro evaluates an argument once. Bits are counted from 0, the lowest; those that no field has are 0. The words
  * of nodes from n, of messages from m and of a node with itself are 0. */
 
-/* Word 0: L, n, m. Words of node x: the first two. Words of the pair (x, z), what x has noted of z: the next two. */
+/* Word 0 has L, n and m. A node x has two words, and so has a pair (x, z) of different nodes: what x has noted of z. */
 #define MEKVALGS_AT_HEAD 0
 #define MEKVALGS_AT_NODE(x) (1 + 2 * (x))
 #define MEKVALGS_AT_CLOCK(x) (2 + 2 * (x))
@@ -179,9 +180,9 @@ uint32_t mekvalgs_write_event(uint32_t kind, uint32_t first, uint32_t second, ui
  * write them by hand. It opens with the same L and keys as the others, plays events at its own node only, sends the new
  * messages and takes them out with lose. A message that comes for it is put at the end: its five words at
  * MEKVALGS_AT_MESSAGE(m), and 1 << 11 added to word 0, where m is below 1,024. Then it plays deliver at position m. An
- * event at a node reads and writes no other node's record: if the radio changes no message, each stand's node has the
- * words that it would have in one ring for all. But each promise is about one buffer. None is made about several
- * together, and a question about connection sees one alone.
+ * event at a node reads and writes no other node's record: if the radio changes no message and nothing is refused with
+ * 11, each stand's node has the words that it would have in one ring for all. But each promise is about one buffer.
+ * None is made about several together, and a question about connection sees one alone.
  *
  * Of words that were written by hand just this holds. The next play or question reads them all. If they do not read as
  * a ring it answers 6, or a lower number that applies, and changes nothing, until they are mended or a ring is opened
