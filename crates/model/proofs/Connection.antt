@@ -1,10 +1,10 @@
 -- The test `connected` decides the definition `Connected`.
-use mathlib.Core.Path.{_≡_, refl, sym, ap, _∙_, subst}
+use mathlib.Core.Path.{_≡_, refl, sym, ap, ap₂, _∙_, subst}
 use mathlib.Core.Logic.{_↔_, _⊎_, inl, inr}
 use Prim.Native.Nat.{ℕ, zero, suc, _≤_, _<_, zero-le}
 use native.Mathlib.Decide.{decLt, ℕ-discrete}
 use native.Mathlib.Omega.{arith}
-use mathlib.Core.Bool.{true, false, not, _&&_, _||_}
+use mathlib.Core.Bool.{true, false, not, _&&_, _||_, and-comm, or-comm}
 use lib.ListN.{getD}
 use lib.Dec.{eqb}
 use borrow.Author.Tests.{eqb-true, eq-eqb}
@@ -13,6 +13,36 @@ use Rattle.model.specs.Leafset.{size}
 use Rattle.model.specs.Ring.{Ring, isRunning, holds}
 use Rattle.model.specs.Connection.{linked, Connected, itself, onward, reached, connected}
 use Rattle.model.proofs.Laws.{clash, and-left, and-right, and-in, or-left, or-right, or-case, not-in, not-out, decide, some-in, some-out, count-le, count-more, getD-tabulate, beyond-tabulate}
+
+-- every running node is one of the table
+abbrev pub InTable : Ring → Type 0
+InTable r = (x : ℕ) → isRunning r x ≡ true → x < size (r .table)
+
+-- ---- chains of steps
+
+module _ (r : Ring) where
+  pub linked-back : (x z : ℕ) → linked r x z ≡ true → linked r z x ≡ true
+  linked-back x z l = ap₂ _&&_ (and-comm (isRunning r z) (isRunning r x)) (or-comm (holds r z x) (holds r x z)) ∙ l
+
+  pub arrives : (y z : ℕ) → linked r y z ≡ true → isRunning r z ≡ true
+  arrives y z l = and-right (isRunning r y) (isRunning r z) (and-left (isRunning r y && isRunning r z) (holds r y z || holds r z y) l)
+
+  pub starts : {x y : ℕ} → Connected r x y → isRunning r x ≡ true
+  starts (itself h) = h
+  starts (onward {a = x} {b = y} l p) = and-left (isRunning r x) (isRunning r y) (and-left (isRunning r x && isRunning r y) (holds r x y || holds r y x) l)
+
+  pub further : {x y z : ℕ} → Connected r x y → linked r y z ≡ true → Connected r x z
+  further {z = z} (itself {a = y} h) l = onward l (itself (arrives y z l))
+  further (onward k p) l = onward k (further p l)
+
+  -- a chain the other way, and one after another
+  pub turned : {x y : ℕ} → Connected r x y → Connected r y x
+  turned (itself h) = itself h
+  turned (onward {a = x} {b = y} l p) = further (turned p) (linked-back x y l)
+
+  pub joined : {x y z : ℕ} → Connected r x y → Connected r y z → Connected r x z
+  joined (itself h) q = q
+  joined (onward l p) q = onward l (joined p q)
 
 module _ (r : Ring) (a : ℕ) where
   abbrev n : ℕ
@@ -48,17 +78,6 @@ module _ (r : Ring) (a : ℕ) where
 
   -- ---- the test finds only what is connected
 
-  arrives : (y z : ℕ) → linked r y z ≡ true → isRunning r z ≡ true
-  arrives y z l = and-right (isRunning r y) (isRunning r z) (and-left (isRunning r y && isRunning r z) (holds r y z || holds r z y) l)
-
-  pub starts : {x y : ℕ} → Connected r x y → isRunning r x ≡ true
-  starts (itself h) = h
-  starts (onward {a = x} {b = y} l p) = and-left (isRunning r x) (isRunning r y) (and-left (isRunning r x && isRunning r y) (holds r x y || holds r y x) l)
-
-  pub further : {x y z : ℕ} → Connected r x y → linked r y z ≡ true → Connected r x z
-  further {z = z} (itself {a = y} h) l = onward l (itself (arrives y z l))
-  further (onward k p) l = onward k (further p l)
-
   sound : isRunning r a ≡ true → (k b : ℕ) → marks k b ≡ true → Connected r a b
   sound run zero b t = subst (Connected r a) (eqb-true a b (sym (marks-zero b (marks-low 0 b t)) ∙ t)) (itself run)
   sound run (suc k) b t =
@@ -66,7 +85,7 @@ module _ (r : Ring) (a : ℕ) where
       (sound run k b)
       (λ s.
       let p = some-out n (λ c. marks k c && linked r c b) s in
-      further (sound run k (p .0) (and-left (marks k (p .0)) (linked r (p .0) b) (p .2))) (and-right (marks k (p .0)) (linked r (p .0) b) (p .2)))
+      further r (sound run k (p .0) (and-left (marks k (p .0)) (linked r (p .0) b) (p .2))) (and-right (marks k (p .0)) (linked r (p .0) b) (p .2)))
 
   -- ---- the test finds all that is connected, where running nodes are below n
 
@@ -85,7 +104,7 @@ module _ (r : Ring) (a : ℕ) where
         | no d ↦ stays j b (later k j b (omega arith) t)
       ]
 
-  module _ (low : (x : ℕ) → isRunning r x ≡ true → x < n) where
+  module _ (low : InTable r) where
     -- the link from c to b leads out of the marks of k
     abbrev escapes : ℕ → ℕ → Set
     escapes k c b = marks k c && (linked r c b && not (marks k b))
@@ -98,7 +117,7 @@ module _ (r : Ring) (a : ℕ) where
         decide (marks k b)
         (λ s. s)
         (λ s. clash
-        (some-in n (someEscape k) c (marks-low k c t) (some-in n (escapes k c) b (low b (arrives c b l)) (and-in t (and-in l (not-in s)))))
+        (some-in n (someEscape k) c (marks-low k c t) (some-in n (escapes k c) b (low b (arrives r c b l)) (and-in t (and-in l (not-in s)))))
         stop)
 
     -- after k steps, either nothing more is reached or more than k nodes are marked
@@ -141,5 +160,5 @@ module _ (r : Ring) (a : ℕ) where
     unfolding connected
     decides b = (
       (λ t. sound (and-left (isRunning r a) (marks n b) t) n b (and-right (isRunning r a) (marks n b) t)),
-      (λ p. and-in (starts p) (complete (starts p) b p)),
+      (λ p. and-in (starts r p) (complete (starts r p) b p)),
     )

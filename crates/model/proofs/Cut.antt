@@ -8,12 +8,11 @@ use native.Mathlib.Decide.{ℕ-discrete}
 use mathlib.Core.Bool.{true, _&&_, _||_, Bool-discrete}
 use mathlib.Core.List.{List·Memᴰ}
 use Rattle.model.specs.Sets.{Set}
-use Rattle.model.specs.Leafset.{size}
 use Rattle.model.specs.Ring.{Ring, Message, holds, isRunning}
 use Rattle.model.specs.Connection.{linked, Connected, itself, onward, connected}
 use Rattle.model.specs.ConnectivityPreserved.{NoAcknowledgement}
 use Rattle.model.proofs.Laws.{clash, and-left, and-right, and-in, or-left, or-right, or-case, decide, same-test}
-use Rattle.model.proofs.Connection.{starts, further, decides}
+use Rattle.model.proofs.Connection.{InTable, starts, further, decides}
 
 abbrev pub commit : Ring → ℕ → ℕ → ℕ
 commit r x z = r .node x .own .commit z
@@ -217,7 +216,7 @@ at-point {S} {r} none (onward {a} {b} {c} l path) apart = go (Bool-discrete (S a
         (λ h. pair b a (and-right (isRunning r a) (isRunning r b) run) (and-left (isRunning r a) (isRunning r b) run) h (λ q. n (sym q)))
 
 -- no pair crosses the set of the nodes that a is connected to
-no-crossing : (r : Ring) → ((x : ℕ) → isRunning r x ≡ true → x < size (r .table)) → (a : ℕ) → Crossing (connected r a) r → ⊥
+no-crossing : (r : Ring) → InTable r → (a : ℕ) → Crossing (connected r a) r → ⊥
 no-crossing r low a c =
     c .apart
     (same-test (connected r a (c .x)) (connected r a (c .z))
@@ -227,7 +226,7 @@ no-crossing r low a c =
     reaches : (x z : ℕ) → isRunning r x ≡ true → isRunning r z ≡ true → (holds r x z || holds r z x) ≡ true → connected r a x ≡ true → connected r a z ≡ true
     reaches x z run-x run-z h t =
         let l : linked r x z ≡ true = and-in (and-in run-x run-z) h in
-        decides r a low z .1 (further r a (decides r a low x .0 t) l)
+        decides r a low z .1 (further r (decides r a low x .0 t) l)
 
 sound-steps : {r s : Ring} → Steps r s → Sound r → Sound s
 sound-steps stay q = q
@@ -243,7 +242,7 @@ runs-steps (more steps step) x h = rw (step .running x) (runs-steps steps x h)
 
 -- no steps part two nodes: else the set of those that a is still connected to would be a cut that no pair crosses
 pub never-parted :
-    {r s : Ring} → ((x : ℕ) → isRunning s x ≡ true → x < size (s .table)) → NoAcknowledgement r → Steps r s
+    {r s : Ring} → InTable s → NoAcknowledgement r → Steps r s
     → {a b : ℕ} → Connected r a b → Connected s a b
 never-parted {r} {s} low none steps {a} {b} path =
     decide (connected s a b)
@@ -253,4 +252,4 @@ never-parted {r} {s} low none steps {a} {b} path =
     (at-point none path (λ e. clash itself-connected (e ∙ f))))))
   where
     itself-connected : connected s a a ≡ true
-    itself-connected = decides s a low a .1 (itself (runs-steps steps a (starts r a path)))
+    itself-connected = decides s a low a .1 (itself (runs-steps steps a (starts r path)))

@@ -12,6 +12,7 @@ pub mod Choices
 pub mod WellFormedSteps
 pub mod WellFormedPlay
 pub mod Connection
+pub mod Groups
 pub mod Cut
 pub mod Acting
 pub mod Follows

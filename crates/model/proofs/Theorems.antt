@@ -16,7 +16,7 @@ use Rattle.model.specs.Events.{wordOf, eventOf, eventRefusals, eventAnsw
 use Rattle.model.specs.Play.{stateRefusals}
 use Rattle.model.specs.Buffer.{openRefusals, openAnswer, openBuffer, playRefusals, bufferAnswer, playBuffer}
 use Rattle.model.specs.Questions.{leafsetRefusals, leafsetAnswer, leafsetOf, connectionRefusals, connectionAnswer, groupsRefusals, groupsAnswer}
-use Rattle.model.specs.Connection.{Connected, connected}
+use Rattle.model.specs.Connection.{Connected, connected, groups, CountsGroups}
 use Rattle.model.specs.ConnectivityPreserved.{ConnectivityPreserved}
 use Rattle.model.specs.declared.answer.Answer.the-variants.{Accepted}
 use Rattle.model.specs.declared.event.Event.{Event}
@@ -33,6 +33,7 @@ use Rattle.model.proofs.Fits as fits
 use Rattle.model.proofs.Decoded as decoded
 use Rattle.model.proofs.Follows as follow
 use Rattle.model.proofs.Connection as connection
+use Rattle.model.proofs.Groups as grouped
 use Rattle.model.proofs.ConnectivityPreserved as preserved
 
 -- ---- "The lowest number that applies is given, and none otherwise", at each call
@@ -160,6 +161,14 @@ leafset-asked r g x = questions.leafset-asked r g x
 -- the computed test is true exactly where a path of document 01's steps exists
 pub connected-decides : (ws : List ℕ) → readsAsRing ws ≡ true → (a b : ℕ) → (connected (decode ws) a b ≡ true) ↔ Connected (decode ws) a b
 connected-decides ws e a b = connection.decides (decode ws) a (λ x h. decoded.reads-well ws e .node-well x .running-low h) b
+
+-- the number of groups is that of the classes of `Connected`: each running node is connected to exactly one of the counted
+pub groups-are-classes : (r : Ring) → WellFormed r → CountsGroups r (groups r)
+groups-are-classes r g = grouped.counts-groups r (λ x h. g .node-well x .running-low h)
+
+-- "0 if none runs", and only then
+pub no-groups : (r : Ring) → WellFormed r → (groups r ≡ 0) ↔ ((x : ℕ) → isRunning r x ≡ false)
+no-groups r g = grouped.none-run r (λ x h. g .node-well x .running-low h)
 
 -- demand 3
 pub connectivity-preserved : ConnectivityPreserved

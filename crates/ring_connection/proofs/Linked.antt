@@ -1,8 +1,8 @@
 -- Links and connections: what the words say of them, and what is known of them in any ring.
 use mathlib.Core.Path.{_≡_, refl, sym, ap₂, _∙_}
-use mathlib.Core.Bool.{Bool, true, false, not, _&&_, _||_, and-comm, or-comm}
+use mathlib.Core.Bool.{Bool, true, false, not, _&&_, _||_}
 use mathlib.Core.List.{List}
-use Prim.Native.Nat.{ℕ, _<_}
+use Prim.Native.Nat.{ℕ}
 use lib.Dec.{ltb}
 use borrow.Author.Tests.{ltb-true, lt-ltb, ne-eqb}
 use Rattle.model.specs.Sets.{Set}
@@ -11,13 +11,9 @@ use Rattle.model.specs.Ring.{Ring, isRunning, holds}
 use Rattle.model.specs.Fields.{flag}
 use Rattle.model.specs.Words.{at, nodePlace, decodeTable, decodeOwn, decodeNode, decode}
 use Rattle.model.specs.Connection.{linked, Connected, itself, onward, connected}
-use Rattle.model.proofs.Laws.{and-left, and-right}
-use Rattle.model.proofs.Connection.{decides}
+use Rattle.model.proofs.Laws.{and-left}
+use Rattle.model.proofs.Connection.{InTable, linked-back, arrives, starts, turned, decides}
 use Rattle.ring_connection.specs.Links.{heldAt, Closed}
-
--- every running node is one of the table
-abbrev pub InTable : Ring → Type 0
-InTable r = (x : ℕ) → isRunning r x ≡ true → x < size (r .table)
 
 -- ---- what the words say
 
@@ -39,26 +35,19 @@ module _ (ws : List ℕ) where
 -- ---- links and connections, both ways
 
 module _ (r : Ring) where
-  pub linked-back : (x z : ℕ) → linked r x z ≡ true → linked r z x ≡ true
-  linked-back x z l = ap₂ _&&_ (and-comm (isRunning r z) (isRunning r x)) (or-comm (holds r z x) (holds r x z)) ∙ l
-
   -- running nodes are a closed set
   pub running-closed : {S : Set} → ((x : ℕ) → S x ≡ isRunning r x) → Closed r S
   running-closed is =
       record {
         running = λ x t. sym (is x) ∙ t;
-        onward = λ x z t l. is z ∙ and-right (isRunning r x) (isRunning r z) (and-left (isRunning r x && isRunning r z) (holds r x z || holds r z x) l);
+        onward = λ x z t l. is z ∙ arrives r x z l;
       }
-
-  pub ends : {x y : ℕ} → Connected r x y → isRunning r y ≡ true
-  ends (itself h) = h
-  ends (onward l p) = ends p
 
   module _ {S : Set} (closed : Closed r S) where
     -- a closed set has what is connected to a member
     pub back : {x y : ℕ} → Connected r x y → S y ≡ true → S x ≡ true
     back (itself h) m = m
-    back (onward {a = x} {b = y} l p) m = closed .onward y x (back p m) (linked-back x y l)
+    back (onward {a = x} {b = y} l p) m = closed .onward y x (back p m) (linked-back r x y l)
 
 -- ---- answers to the question about a and b
 
@@ -68,7 +57,7 @@ module _ (r : Ring) (a b : ℕ) where
   off-connected e = rw e
 
   pub seen-connected : InTable r → (isRunning r b && not (isRunning r b && not (connected r a b))) ≡ connected r a b
-  seen-connected low = go (isRunning r b) (connected r a b) (λ q. ends r (decides r a low b .0 q))
+  seen-connected low = go (isRunning r b) (connected r a b) (λ q. starts r (turned r (decides r a low b .0 q)))
     where
       go : (p q : Bool) → (q ≡ true → p ≡ true) → (p && not (p && not q)) ≡ q
       go true true f = refl

@@ -10,10 +10,9 @@ use Rattle.model.specs.Sets.{Set, without}
 use Rattle.model.specs.Ring.{Ring}
 use Rattle.model.specs.Connection.{linked, Connected, itself, onward, connected}
 use Rattle.model.proofs.Laws.{clash, and-left, and-right, and-in, not-in, not-out, or-case, or-right, or-none-left, decide, is-false, same-test}
-use Rattle.model.proofs.Connection.{further, decides}
+use Rattle.model.proofs.Connection.{InTable, further, decides}
 use Rattle.sets.proofs.Members.{without-here, without-else}
 use Rattle.ring_connection.specs.Links.{Closed}
-use Rattle.ring_connection.proofs.Linked.{InTable}
 
 pub record Walk (r : Ring) (S : Set) (a : ℕ) (todo unseen : Set) : Type 0 where
   pub unseen-part : (z : ℕ) → unseen z ≡ true → S z ≡ true
@@ -71,7 +70,7 @@ module _ {r : Ring} {S : Set} (closed : Closed r S) {a : ℕ} where
       reaches : (z : ℕ) → S z ≡ true → unseen' z ≡ false → Connected r a z
       reaches z s f =
           decide (unseen z)
-          (λ e. further r a (w .seen x (w .todo-part x here) (w .todo-seen x here)) (decide (linked r x z) (λ l. l) (λ l. clash (u z ∙ rw (e, l)) f)))
+          (λ e. further r (w .seen x (w .todo-part x here) (w .todo-seen x here)) (decide (linked r x z) (λ l. l) (λ l. clash (u z ∙ rw (e, l)) f)))
           (w .seen z s)
 
       closes : (y z : ℕ) → S y ≡ true → unseen' y ≡ false → todo' y ≡ false → linked r y z ≡ true → unseen' z ≡ false
