@@ -1,5 +1,6 @@
 -- Laws of the questions: what a refused one gives, and what an accepted one knows of the words.
-use mathlib.Core.Path.{_≡_, refl}
+use mathlib.Core.Path.{_≡_, refl, sym, _∙_}
+use mathlib.Core.Logic.{_↔_}
 use mathlib.Core.Bool.{Bool, true, false, not}
 use mathlib.Core.List.{List, []}
 use Prim.Native.Nat.{ℕ, _<_}
@@ -8,15 +9,17 @@ use borrow.Author.Tests.{ltb-true}
 use Rattle.model.specs.Sets.{toBits}
 use Rattle.model.specs.Leafset.{size, leafset}
 use Rattle.model.specs.Ring.{holds}
-use Rattle.model.specs.Connection.{connected, groups}
+use Rattle.model.specs.Connection.{Connected, connected, groups}
 use Rattle.model.specs.Answers.{isAccepted}
 use Rattle.model.specs.Words.{decodeTable, decode, readsAsRing}
 use Rattle.model.specs.WellFormed.{Each, nil, cons}
 use Rattle.model.specs.Questions.{leafsetAnswer, leafsetOf, connectionRefusals, connectionAnswer, connectionOf, groupsAnswer, groupsOf}
+use Rattle.model.specs.declared.answer.Answer.{Answer}
 use Rattle.model.specs.declared.answer.Answer.the-variants.{Accepted}
-use Rattle.model.proofs.Laws.{not-out-false}
+use Rattle.model.proofs.Laws.{clash, not-out-false}
 use Rattle.model.proofs.Lists.{first, rest}
 use Rattle.model.proofs.Answers.{none-applies}
+use Rattle.model.proofs.Theorems.{connected-decides}
 use Rattle.answers.proofs.Refusals.{later, again}
 
 module _ (ws : List ℕ) where
@@ -60,6 +63,24 @@ module _ (ws : List ℕ) where
       pub connection-given : {v : Bool} → v ≡ connected (decode ws) x y → v ≡ connectionOf ws x y
       unfolding connectionOf
       connection-given e = rw (a, e)
+
+    -- ---- what a yes and a no say
+
+    module _ {q : Answer} {v : Bool} (answer : q ≡ connectionAnswer ws x y) (value : v ≡ connectionOf ws x y) (a : q ≡ Accepted) where
+      accepted : connectionAnswer ws x y ≡ Accepted
+      accepted = sym answer ∙ a
+
+      decides : (connected (decode ws) x y ≡ true) ↔ Connected (decode ws) x y
+      decides = connected-decides ws (connection-reads accepted) x y
+
+      is : connected (decode ws) x y ≡ v
+      is = connection-given accepted refl ∙ sym value
+
+      pub yes-chain : v ≡ true → Connected (decode ws) x y
+      yes-chain t = decides .0 (is ∙ t)
+
+      pub no-chain : v ≡ false → Connected (decode ws) x y → ⊥
+      no-chain f p = clash (decides .1 p) (is ∙ f)
 
   -- ---- a question about one node has the refusals of one about that node twice
 

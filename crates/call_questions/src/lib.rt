@@ -1,11 +1,13 @@
 // The questions about a ring: a node's leafset, whether two nodes are connected, and the number of groups.
 ghost use mathlib.Core.Path.{_≡_};
-ghost use mathlib.Core.Bool.{true};
+ghost use mathlib.Core.Bool.{true, false};
 ghost use Prim.Native.Nat.{_<_};
 ghost use Rattle.model.specs.Sets.{toBits};
 ghost use Rattle.model.specs.Ring.{holds};
 ghost use Rattle.model.specs.Words.{decodeTable, decode, readsAsRing};
 ghost use Rattle.model.specs.Questions.{leafsetAnswer, leafsetOf, connectionAnswer, connectionOf, groupsAnswer, groupsOf};
+ghost use Rattle.model.specs.Connection.{Connected};
+ghost use Rattle.model.specs.declared.answer.Answer.the-variants.{Accepted};
 ghost use Rattle.model.specs.Leafset as model;
 use leafset::leafset;
 use model::answer::Answer;
@@ -44,10 +46,15 @@ pub fn leafset_of(words: &[u32], x: NodeNumber) -> LeafsetAnswer
     }
 }
 
-// "The connection question is about two stands, which may be the same one."
+// "The connection question is about two stands, which may be the same one." A yes says that a chain of steps leads from
+// a to b, a no that none does.
 pub fn connected(words: &[u32], a: NodeNumber, b: NodeNumber) -> ConnectionAnswer
     ensures answer { λ r. ⌜ r .answer ≡ connectionAnswer (now (words .entry)) (a .0) (b .0) ⌝ }
     ensures connected { λ r. ⌜ r .connected ≡ connectionOf (now (words .entry)) (a .0) (b .0) ⌝ }
+    ensures yes { λ r. ⌜ (r .answer ≡ Accepted → r .connected ≡ true
+        → Connected (decode (now (words .entry))) (a .0) (b .0)) ⌝ }
+    ensures no { λ r. ⌜ (r .answer ≡ Accepted → r .connected ≡ false
+        → Connected (decode (now (words .entry))) (a .0) (b .0) → ⊥) ⌝ }
 {
     let answer = call_refusals::of_nodes(words, a, b);
     if answers::number(answer) != 0 {

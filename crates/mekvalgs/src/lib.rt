@@ -6,6 +6,8 @@ ghost use Rattle.model.specs.Answers.{numberOf};
 ghost use Rattle.model.specs.Structs.{tableOf};
 ghost use Rattle.model.specs.Buffer.{openBuffer, playBuffer};
 ghost use Rattle.model.specs.Questions.{leafsetAnswer, leafsetOf, connectionAnswer, connectionOf, groupsAnswer, groupsOf};
+ghost use Rattle.model.specs.Words.{decode};
+ghost use Rattle.model.specs.Connection.{Connected};
 ghost use Rattle.model.specs.Events.{wordAnswer};
 ghost use Rattle.call_play.specs.Replay.{Replayed};
 ghost use Rattle.mekvalgs_event.specs.Parts.{numbers, readParts, partsAnswer, writeParts};
@@ -68,6 +70,8 @@ pub extern "C" fn mekvalgs_leafset(words: &[u32], x: u32, set: &mut u64) -> u32
 pub extern "C" fn mekvalgs_connected(words: &[u32], a: u32, b: u32, connected: &mut u32) -> u32
     ensures answer { λ r. ⌜ r ≡ numberOf (connectionAnswer (now (words .entry)) a b) ⌝ }
     ensures connected { λ r. ⌜ now (connected .exit) ≡ bit (connectionOf (now (words .entry)) a b) ⌝ }
+    ensures yes { λ r. ⌜ (r ≡ 0 → now (connected .exit) ≡ 1 → Connected (decode (now (words .entry))) a b) ⌝ }
+    ensures no { λ r. ⌜ (r ≡ 0 → now (connected .exit) ≡ 0 → Connected (decode (now (words .entry))) a b → ⊥) ⌝ }
 {
     let asked = call_questions::connected(words, node(a), node(b));
     *connected = asked.connected as u32;

@@ -3,17 +3,20 @@ use Prim.Native.Nat.{ℕ}
 use native.Mathlib.Omega.{arith}
 use Rattle.answers.proofs.Valid.{long, few}
 use Rattle.answers.proofs.Answered.{asked-refused, asked-accepted}
-use Rattle.call_questions.proofs.Asked.{connection-refused, connection-given, connection-reads, connection-from, connection-to}
+use Rattle.call_questions.proofs.Asked.{connection-refused, connection-given, connection-reads, connection-from, connection-to, yes-chain, no-chain}
 use borrow.Author.Needs.{needs}
 use Rattle.call_questions.proofs.connected.Statement.{statement}
 use Rattle.call_questions.proofs.connected.Tie as tie
 
 returns : tie.Need-returns
 returns c =
-    let e = c .before .before .of-nodes .ensures in (
-      e,
-      connection-refused (c .before .before .before .before .args .words .now) (c .before .before .before .before .args .a .0) (c .before .before .before .before .args .b .0) (asked-refused e (c .before .number .ensures) (c .if1 .taken)),
-    )
+    let start = c .before .before .before .before in
+    let ws : List ℕ = start .args .words .now in
+    let x : ℕ = start .args .a .0 in
+    let y : ℕ = start .args .b .0 in
+    let e = c .before .before .of-nodes .ensures in
+    let f = connection-refused ws x y (asked-refused e (c .before .number .ensures) (c .if1 .taken)) in
+    (e, (f, (yes-chain ws x y e f, no-chain ws x y e f)))
 
 nodes-requires : tie.Need-nodes-requires
 nodes-requires c κs =
@@ -37,10 +40,13 @@ connected-requires c κs =
 
 returns-2 : tie.Need-returns-2
 returns-2 c =
-    let e = c .before .before .before .before .of-nodes .ensures in (
-      e,
-      connection-given (c .before .before .before .before .before .before .args .words .now) (c .before .before .before .before .before .before .args .a .0) (c .before .before .before .before .before .before .args .b .0) (asked-accepted e (c .before .before .before .number .ensures) (c .before .before .if1 .left)) (c .connected .ensures),
-    )
+    let start = c .before .before .before .before .before .before in
+    let ws : List ℕ = start .args .words .now in
+    let x : ℕ = start .args .a .0 in
+    let y : ℕ = start .args .b .0 in
+    let e = c .before .before .before .before .of-nodes .ensures in
+    let f = connection-given ws x y (asked-accepted e (c .before .before .before .number .ensures) (c .before .before .if1 .left)) (c .connected .ensures) in
+    (e, (f, (yes-chain ws x y e f, no-chain ws x y e f)))
 
 pub connected-spec : {M : Type 1} → statement M
 connected-spec =
