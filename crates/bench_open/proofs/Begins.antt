@@ -16,7 +16,7 @@ use Rattle.model.specs.Ring.{initial}
 use Rattle.model.specs.WellFormed.{WellFormed}
 use Rattle.model.specs.Answers.{Refusal, firstOf, isAccepted}
 use Rattle.model.specs.Words.{ringLength, headWord, keyWord, inRange, encode, decode, readsAsRing}
-use Rattle.model.specs.Buffer.{Written, openingRefusals, openAnswer, openBuffer}
+use Rattle.model.specs.Buffer.{Written, outOfRange, badKey, openingRefusals, openAnswer, openBuffer}
 use Rattle.model.specs.Structs.{tableOf}
 use Rattle.model.specs.Bench.{scriptTable, scriptAnswer}
 use Rattle.model.specs.declared.answer.Answer.{Answer}
@@ -67,9 +67,11 @@ module _ (ws : List ℕ) where
   -- the tests, of which the code makes one at a time
   abbrev tests : List Refusal
   tests =
-      record { refusal = OpeningOutOfRange; applies = not (headFits ws && inRange (scriptTable ws)) }
+      record { refusal = OpeningOutOfRange; applies = not (headFits ws) }
+      ∷ outOfRange (scriptTable ws)
       ∷ record { refusal = BadKey; applies = not (all n (λ s. eqb (getD ws (1 + s) 0) (keyWord (key (scriptTable ws) s) false))) }
-      ∷ openingRefusals (scriptTable ws)
+      ∷ badKey (scriptTable ws)
+      ∷ []
 
   by-tests : scriptAnswer ws ≡ firstOf tests
   unfolding scriptAnswer scriptTable headFits

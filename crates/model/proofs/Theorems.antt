@@ -16,6 +16,7 @@ use Rattle.model.specs.Events.{wordOf, eventOf, eventRefusals, eventAnsw
 use Rattle.model.specs.Play.{stateRefusals}
 use Rattle.model.specs.Buffer.{openRefusals, openAnswer, openBuffer, playRefusals, bufferAnswer, playBuffer}
 use Rattle.model.specs.Questions.{leafsetRefusals, leafsetAnswer, leafsetOf, connectionRefusals, connectionAnswer, groupsRefusals, groupsAnswer}
+use Rattle.model.specs.Bench.{scriptRefusals, scriptAnswer}
 use Rattle.model.specs.Connection.{Connected, connected, groups, CountsGroups}
 use Rattle.model.specs.ConnectivityPreserved.{ConnectivityPreserved}
 use Rattle.model.specs.declared.answer.Answer.the-variants.{Accepted}
@@ -75,6 +76,10 @@ lowest-at-connection ws a b = lowest-given 0 (connectionRefusals ws a b) refl
 pub lowest-at-groups : (ws : List ℕ) → LowestOf (groupsRefusals ws) (groupsAnswer ws)
 unfolding groupsAnswer
 lowest-at-groups ws = lowest-given 0 (groupsRefusals ws) refl
+
+pub lowest-at-script : (ws : List ℕ) → LowestOf (scriptRefusals ws) (scriptAnswer ws)
+unfolding scriptAnswer
+lowest-at-script ws = lowest-given 0 (scriptRefusals ws) refl
 
 -- ---- event words
 

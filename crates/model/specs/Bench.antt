@@ -8,11 +8,11 @@ use Rattle.model.specs.Choice.{if_then_else_}
 use Rattle.model.specs.Sets.{count, members, all, tabulate}
 use Rattle.model.specs.Leafset.{Table, size, key}
 use Rattle.model.specs.Ring.{Ring, initial, holds}
-use Rattle.model.specs.Answers.{firstOf, numberOf, isAccepted}
+use Rattle.model.specs.Answers.{Refusal, firstOf, numberOf, isAccepted}
 use Rattle.model.specs.Fields.{bits, bit}
 use Rattle.model.specs.Play.{Played, playWord, playAll}
-use Rattle.model.specs.Words.{headWord, keyWord, inRange}
-use Rattle.model.specs.Buffer.{openingRefusals}
+use Rattle.model.specs.Words.{headWord, keyWord}
+use Rattle.model.specs.Buffer.{outOfRange, badKey}
 use Rattle.model.specs.Connection.{groups}
 use Rattle.model.specs.declared.answer.Answer.{Answer}
 use Rattle.model.specs.declared.answer.Answer.the-variants.{NotAnEvent, OpeningOutOfRange, BadKey}
@@ -48,18 +48,22 @@ unfoldable pub scriptTable : List ℕ → Table
 scriptTable ws = record { leaf = bits 0 4 (getD ws 0 0); keys = map (bits 0 24) (take (bits 4 7 (getD ws 0 0)) (drop 1 ws)) }
 
 -- "word 0 with m = 0 (any fault is 2), n key words with running 0 (a wrong one is 3, a missing or cut one 2)"
-unfoldable pub scriptAnswer : List ℕ → Answer
-scriptAnswer ws =
-    firstOf
-    (record { refusal = OpeningOutOfRange; applies = not (eqb (getD ws 0 0) (headWord (t .leaf) n 0) && leb (1 + n) (length ws) && inRange t) }
+abbrev pub scriptRefusals : List ℕ → List Refusal
+scriptRefusals ws =
+    record { refusal = OpeningOutOfRange; applies = not (eqb (getD ws 0 0) (headWord (t .leaf) n 0) && leb (1 + n) (length ws)) }
+    ∷ outOfRange t
     ∷ record { refusal = BadKey; applies = not (all n (λ s. eqb (getD ws (1 + s) 0) (keyWord (key t s) false))) }
-    ∷ openingRefusals t)
+    ∷ badKey t
+    ∷ []
   where
     t : Table
     t = scriptTable ws
 
     n : ℕ
     n = bits 4 7 (getD ws 0 0)
+
+unfoldable pub scriptAnswer : List ℕ → Answer
+scriptAnswer ws = firstOf (scriptRefusals ws)
 
 -- the lines before "groups", and the number after it; "A refused opening prints only 0, the refusal, 0."
 pub record Printed : Type 0 where

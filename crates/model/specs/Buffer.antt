@@ -23,12 +23,16 @@ wrongLength ws = record { refusal = WrongLength; applies = not (eqb (length ws) 
 abbrev pub notARing : List ℕ → Refusal
 notARing ws = record { refusal = NotARing; applies = not (readsAsRing ws) }
 
--- "2. Opening: n or L out of range. 3. Opening: a key above 16,777,215, or two equal."
+-- "2. Opening: n or L out of range."
+abbrev pub outOfRange : Table → Refusal
+outOfRange t = record { refusal = OpeningOutOfRange; applies = not (inRange t) }
+
+-- "3. Opening: a key above 16,777,215, or two equal."
+abbrev pub badKey : Table → Refusal
+badKey t = record { refusal = BadKey; applies = not (all (size t) (λ s. leb (key t s) 16777215) && keysDiffer t) }
+
 abbrev pub openingRefusals : Table → List Refusal
-openingRefusals t =
-    record { refusal = OpeningOutOfRange; applies = not (inRange t) }
-    ∷ record { refusal = BadKey; applies = not (all (size t) (λ s. leb (key t s) 16777215) && keysDiffer t) }
-    ∷ []
+openingRefusals t = outOfRange t ∷ badKey t ∷ []
 
 -- the answer of a call, and "every lent word after it"
 pub record Written : Type 0 where
