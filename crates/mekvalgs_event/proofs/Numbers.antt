@@ -23,7 +23,7 @@ use Rattle.mekvalgs_event.specs.declared.Parts.{Parts}
 -- ---- by the kind
 
 -- one of two kinds in a row
-either : (P : ℕ → Type 0) (a k : ℕ) → a ≤ k → k ≤ suc a → P a → P (suc a) → P k
+pub either : (P : ℕ → Type 0) (a k : ℕ) → a ≤ k → k ≤ suc a → P a → P (suc a) → P k
 either P a k l h p q =
     elim (ℕ-discrete k a) [
       | yes e ↦ rw e p
