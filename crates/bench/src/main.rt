@@ -17,7 +17,8 @@ fn run(words: &mut [u32], bytes: &mut [u8], out: &mut [u8])
 {
     let mut session = Session::new();
     for _ in 0..MOST {
-        session = chunks::play_next(STDIN_FILENO, session, bytes, words, out);
+        let next = chunks::play_next(STDIN_FILENO, session, bytes, words, out);
+        session = next.session;
         let end = session.end;
         io::write_all(STDOUT_FILENO, &out[..end]);
         if !session.more {

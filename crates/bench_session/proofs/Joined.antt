@@ -1,14 +1,14 @@
 -- The chunks of a script, one after the other, print what the definition of the bench says of the whole script.
-use mathlib.Core.Path.{_≡_, refl, sym, ap, _∙_}
+use mathlib.Core.Path.{_≡_, refl, sym, ap, _∙_, subst}
 use mathlib.Core.Bool.{true, false}
 use mathlib.Core.List.{List, [], _∷_, _++_, append-assoc, append-nil}
-use Prim.Native.Nat.{ℕ, suc, _+_, _*_, _^_, _%_, _≤_, _<_}
+use Prim.Native.Nat.{ℕ, zero, suc, _+_, _*_, _^_, _%_, _≤_, _<_}
 use native.Mathlib.Nat.{zero-add}
 use native.Mathlib.Omega.{arith}
-use borrow.Author.Tests.{eq-eqb, ne-eqb, le-leb, eqb-true, eqb-false}
-use lib.Dec.{eqb}
-use lib.ListN.{length, getD, drop, length-append, length-drop, List·getD-append}
-use lib.Seq.{take-append-le, drop-append-le}
+use borrow.Author.Tests.{eq-eqb, ne-eqb, le-leb, eqb-true, eqb-false, ltb-true, ltb-false}
+use lib.Dec.{ltb, eqb}
+use lib.ListN.{length, getD, take, drop, length-append, length-drop, take-append-drop, List·getD-append}
+use lib.Seq.{take-append-le, drop-append-le, length-take-le}
 use Rattle.bench_lines.specs.Decimal.{lineBytes, linesBytes}
 use Rattle.bench_lines.proofs.Decimals.{lines-append, one-line}
 use Rattle.model.specs.Choice.{if_then_else_}
@@ -30,7 +30,7 @@ use Rattle.model.proofs.Laws.{decide, if-law, same-test, all-in, all-out}
 use Rattle.model.proofs.Answers.{accepted-is}
 use Rattle.bench_open.proofs.Begins.{enough-words}
 use Rattle.bench_session.specs.Turns.{chunkSize, tailLines, endOf, playedTurn, firstTurn, wordsTurn}
-use Rattle.bench_session.specs.Whole.{Cut, turnsBytes, printedBytes}
+use Rattle.bench_session.specs.Whole.{Cut, chunksOf, chunks, turnsBytes, printedBytes}
 use Rattle.bench_session.specs.Whole as whole-session
 use Rattle.bench_session.proofs.Sessions.{few-words}
 
@@ -240,3 +240,25 @@ printed b = decide (isAccepted (scriptAnswer ws)) accepted (λ e. rw e (sym (app
 -- the chunks of a script print what the definition says of the whole
 pub session-prints : {b : List ℕ} {cs : List (List ℕ)} → Cut b cs → (r : Ring) → turnsBytes false 0 r cs ≡ printedBytes (bench b)
 session-prints {b} q r = turns-open q r ∙ printed b
+
+-- ---- every script
+
+cut-of : (k : ℕ) (script : List ℕ) → length script ≤ k → Cut script (chunksOf k script)
+unfolding chunksOf
+cut-of zero script h = whole-session.last {c = script} (omega arith)
+cut-of (suc k) script h =
+    if-law (Cut script) (ltb (length script) chunkSize) (script ∷ []) (take chunkSize script ∷ chunksOf k (drop chunkSize script))
+    (λ t. whole-session.last (ltb-true (length script) chunkSize t))
+    (λ f.
+    let l : chunkSize ≤ length script = ltb-false (length script) chunkSize f in
+    subst (λ (s : List ℕ). Cut s (take chunkSize script ∷ chunksOf k (drop chunkSize script))) (take-append-drop chunkSize script)
+    (whole-session.full (length-take-le chunkSize script l) (cut-of k (drop chunkSize script) (simp length-drop (omega arith)))))
+
+-- every list of bytes is cut into chunks
+pub every-script-is-cut : (script : List ℕ) → Cut script (chunks script)
+unfolding chunks
+every-script-is-cut script = cut-of (length script) script (omega arith)
+
+-- so for every list of bytes, what its chunks print one after the other is what the definition says of it
+pub every-script-prints : (script : List ℕ) (r : Ring) → turnsBytes false 0 r (chunks script) ≡ printedBytes (bench script)
+every-script-prints script r = session-prints (every-script-is-cut script) r

@@ -51,7 +51,8 @@ fn compare(
 {
     let mut session = Session::new();
     for _ in 0..MOST {
-        session = chunks::play_next(script, session, bytes, words, out);
+        let next = chunks::play_next(script, session, bytes, words, out);
+        session = next.session;
         let end = session.end;
         if !are_next(expected, &out[..end], room) {
             return false;

@@ -2,9 +2,9 @@ use mathlib.Core.Path.{_≡_}
 use Prim.Native.Nat.{_*_, _-_, _≤_}
 use native.Mathlib.Omega.{arith}
 use borrow.Author.Needs.{needs}
-use lib.ListN.{length}
+use lib.ListN.{length, length-take}
 use Rattle.bench_session.specs.Turns.{Ready}
-use Rattle.bench_session.proofs.Sessions.{ready-first, ready-within}
+use Rattle.bench_session.proofs.Sessions.{still-ready, ready-first, ready-within}
 use Rattle.bench.proofs.run.Statement.{statement}
 use Rattle.bench.proofs.run.Tie as tie
 
@@ -27,8 +27,9 @@ play-next-requires c κs =
 
 loop-again : tie.Need-loop-again Inv-loop μ-loop
 loop-again c =
-    let i = c .before .before .before .before .before .before .before .before .before .before .before .before .before .before .before .loop .inv in
-    (search needs, ready-within (c .before .before .before .before .before .before .before .before .before .before .play-next .ensures .0 _ (i .1 .few)) (omega arith), search needs, search needs)
+    let i = c .before .before .before .before .before .before .before .before .before .before .before .before .before .before .before .before .loop .inv in
+    let turn = c .before .before .before .before .before .before .before .before .before .before .before .play-next .ensures .0 in
+    (search needs, ready-within (still-ready _ _ _ _ (simp length-take (omega arith)) turn _ (i .1 .few)) (omega arith), search needs, search needs)
 
 pub run-spec : {M : Type 1} → statement M
 run-spec =

@@ -4,7 +4,7 @@ use native.Mathlib.Omega.{arith}
 use borrow.Author.Needs.{needs}
 use lib.ListN.{length, length-take}
 use Rattle.bench_session.specs.Turns.{Ready}
-use Rattle.bench_session.proofs.Sessions.{ready-first, ready-within}
+use Rattle.bench_session.proofs.Sessions.{still-ready, ready-first, ready-within}
 use Rattle.test_vectors.proofs.compare.Statement.{statement}
 use Rattle.test_vectors.proofs.compare.Tie as tie
 
@@ -28,13 +28,14 @@ play-next-requires c κs =
 
 are-next-requires : tie.Need-are-next-requires Inv-loop μ-loop
 are-next-requires c κs =
-    let i = c .before .before .before .before .before .before .before .before .before .before .before .before .before .loop .inv in
+    let i = c .before .before .before .before .before .before .before .before .before .before .before .before .before .before .loop .inv in
     simp length-take (omega (arith, i .3, i .4))
 
 loop-again : tie.Need-loop-again Inv-loop μ-loop
 loop-again c =
-    let i = c .before .before .before .before .before .before .before .before .before .before .before .before .before .before .before .before .before .before .before .loop .inv in
-    (search needs, ready-within (c .before .before .before .before .before .before .before .before .before .before .before .before .before .before .play-next .ensures .0 _ (i .1 .few)) (omega arith), search needs, search needs, search needs)
+    let i = c .before .before .before .before .before .before .before .before .before .before .before .before .before .before .before .before .before .before .before .before .loop .inv in
+    let turn = c .before .before .before .before .before .before .before .before .before .before .before .before .before .before .before .play-next .ensures .0 in
+    (search needs, ready-within (still-ready _ _ _ _ (simp length-take (omega arith)) turn _ (i .1 .few)) (omega arith), search needs, search needs, search needs)
 
 pub compare-spec : {M : Type 1} → statement M
 compare-spec =
