@@ -1,58 +1,14 @@
 -- Which refusals apply, read off what the code asks of the words.
-use mathlib.Core.Path.{_≡_, refl, ap}
-use mathlib.Core.Bool.{Bool, true, false, not}
-use mathlib.Core.List.{List, [], _∷_, _++_}
+use mathlib.Core.Path.{_≡_, ap}
+use mathlib.Core.Bool.{true, false, not}
+use mathlib.Core.List.{List}
 use Prim.Native.Nat.{ℕ, _≤_, _<_}
 use lib.ListN.{length}
 use borrow.Author.Tests.{lt-ltb, le-ltb, eq-eqb, ne-eqb}
 use Rattle.model.specs.Leafset.{size}
-use Rattle.model.specs.Choice.{if_then_else_}
-use Rattle.model.specs.WellFormed.{Each, nil, cons}
-use Rattle.model.specs.Answers.{Refusal, firstOf, isAccepted}
 use Rattle.model.specs.Words.{ringLength, decodeTable, decodeNode, decode, readsAsRing}
 use Rattle.model.specs.Buffer.{wrongLength, notARing}
 use Rattle.model.specs.Play.{noNode, noMessage, nodeOff, alreadyRunning, clockSpent}
-use Rattle.model.specs.declared.answer.Answer.the-variants.{Accepted}
-use Rattle.model.proofs.Laws.{clash}
-
--- the first refusal, and the next one
-pub here : (q : Refusal) (qs : List Refusal) → q .applies ≡ true → firstOf (q ∷ qs) ≡ q .refusal
-unfolding firstOf
-here q qs e = rw e
-
-pub next : (q : Refusal) (qs : List Refusal) → q .applies ≡ false → firstOf (q ∷ qs) ≡ firstOf qs
-unfolding firstOf
-next q qs e = rw e
-
--- refusals alike after a place
-pub later : (q : Refusal) (qs rs : List Refusal) → firstOf qs ≡ firstOf rs → firstOf (q ∷ qs) ≡ firstOf (q ∷ rs)
-unfolding firstOf
-later q qs rs e = rw e
-
-pub again : (q : Refusal) (qs rs : List Refusal) → firstOf qs ≡ firstOf rs → firstOf (q ∷ q ∷ qs) ≡ firstOf (q ∷ rs)
-unfolding firstOf
-again q qs rs e = go (q .applies)
-  where
-    go : (b : Bool) → (if b then q .refusal else (if b then q .refusal else firstOf qs)) ≡ (if b then q .refusal else firstOf rs)
-    go true = refl
-    go false = e
-
--- refusals before others: where one of them applies, and where none does
-pub stays : (qs after : List Refusal) → isAccepted (firstOf qs) ≡ false → firstOf (qs ++ after) ≡ firstOf qs
-unfolding firstOf
-stays [] after r = clash refl r
-stays (q ∷ qs) after r = go (q .applies) r (stays qs after)
-  where
-    go : (b : Bool) → isAccepted (if b then q .refusal else firstOf qs) ≡ false
-        → (isAccepted (firstOf qs) ≡ false → firstOf (qs ++ after) ≡ firstOf qs)
-        → (if b then q .refusal else firstOf (qs ++ after)) ≡ (if b then q .refusal else firstOf qs)
-    go true i later = refl
-    go false i later = later i
-
-pub passes : (qs after : List Refusal) → Each (λ q. q .applies ≡ false) qs → firstOf (qs ++ after) ≡ firstOf after
-unfolding firstOf
-passes [] after nil = refl
-passes (q ∷ qs) after (cons e es) = rw e (passes qs after es)
 
 -- ---- 1 and 6
 
@@ -110,7 +66,3 @@ module _ (ws : List ℕ) (i : ℕ) where
 
   pub a-message : i < length (decode ws .messages) → noMessage (decode ws) i .applies ≡ false
   a-message h = ap not (lt-ltb i (length (decode ws .messages)) h)
-
-pub no-more : firstOf [] ≡ Accepted
-unfolding firstOf
-no-more = refl

@@ -21,6 +21,10 @@ module _ (ws : List ℕ) (reads : readsAsRing ws ≡ true) where
   unfolding decode
   few = read-sizes ws reads .nodes-high
 
+  pub some-node : 0 < size (decodeTable ws)
+  unfolding decode
+  some-node = reads-well ws reads .table-well .size-low
+
   pub room : length (decode ws .messages) ≤ 1024
   room = read-sizes ws reads .count-high
 

@@ -1,6 +1,7 @@
 // What a call on lent words gives: an answer, and the words.
 ghost use mathlib.Core.Path.{_≡_};
-ghost use Rattle.model.specs.Answers.{numberOf};
+ghost use mathlib.Core.Bool.{not};
+ghost use Rattle.model.specs.Answers.{numberOf, isAccepted};
 use model::answer::Answer;
 
 // Document 01's number of the answer.
@@ -21,4 +22,10 @@ pub fn number(answer: Answer) -> u32
         Answer::ClockSpent => 10,
         Answer::PoolFull => 11,
     }
+}
+
+pub fn is_refusal(answer: Answer) -> bool
+    ensures value { λ r. ⌜ r ≡ not (isAccepted (numberOf answer)) ⌝ }
+{
+    number(answer) != 0
 }

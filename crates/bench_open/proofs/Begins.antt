@@ -14,13 +14,12 @@ use Rattle.model.specs.Leafset.{Table, size, key}
 use Rattle.model.specs.Fields.{bits}
 use Rattle.model.specs.Ring.{initial}
 use Rattle.model.specs.WellFormed.{WellFormed}
-use Rattle.model.specs.Answers.{Refusal, firstOf, isAccepted}
+use Rattle.model.specs.Answers.{Refusal, firstOf, isAccepted, numberOf}
 use Rattle.model.specs.Words.{ringLength, headWord, keyWord, inRange, encode, decode, readsAsRing}
 use Rattle.model.specs.Buffer.{Written, outOfRange, badKey, openingRefusals, openAnswer, openBuffer}
 use Rattle.model.specs.Structs.{tableOf}
 use Rattle.model.specs.Bench.{scriptTable, scriptAnswer}
 use Rattle.model.specs.declared.answer.Answer.{Answer}
-use Rattle.model.specs.declared.answer.Answer.the-variants.{Accepted, OpeningOutOfRange, BadKey}
 use Rattle.model.proofs.Laws.{clash, decide, and-right, same-test, all-in, all-out}
 use Rattle.model.proofs.Words.{length-encode}
 use Rattle.model.proofs.RoundTrip.{round-trip}
@@ -67,9 +66,9 @@ module _ (ws : List ℕ) where
   -- the tests, of which the code makes one at a time
   abbrev tests : List Refusal
   tests =
-      record { refusal = OpeningOutOfRange; applies = not (headFits ws) }
+      record { number = 2; applies = not (headFits ws) }
       ∷ outOfRange (scriptTable ws)
-      ∷ record { refusal = BadKey; applies = not (all n (λ s. eqb (getD ws (1 + s) 0) (keyWord (key (scriptTable ws) s) false))) }
+      ∷ record { number = 3; applies = not (all n (λ s. eqb (getD ws (1 + s) 0) (keyWord (key (scriptTable ws) s) false))) }
       ∷ badKey (scriptTable ws)
       ∷ []
 
@@ -77,7 +76,7 @@ module _ (ws : List ℕ) where
   unfolding scriptAnswer scriptTable headFits
   by-tests = refl
 
-  pub refused-head : headFits ws ≡ false → scriptAnswer ws ≡ OpeningOutOfRange
+  pub refused-head : headFits ws ≡ false → scriptAnswer ws ≡ 2
   unfolding firstOf
   refused-head e = by-tests ∙ rw e
 
@@ -97,7 +96,7 @@ module _ (ws : List ℕ) where
         regroup true true true false = refl
         regroup true true true true = refl
 
-    pub refused-sizes : sizesFit leaf n ≡ false → scriptAnswer ws ≡ OpeningOutOfRange
+    pub refused-sizes : sizesFit leaf n ≡ false → scriptAnswer ws ≡ 2
     unfolding firstOf
     refused-sizes e = by-tests ∙ rw (head, range-is ∙ e)
 
@@ -113,7 +112,7 @@ module _ (ws : List ℕ) where
           (λ h. all-in n _ (λ s l. sym (same s l) ∙ all-out n _ h s l))
           (λ h. all-in n _ (λ s l. same s l ∙ all-out n _ h s l))
 
-      pub refused-keys : keysFit ws n ≡ false → scriptAnswer ws ≡ BadKey
+      pub refused-keys : keysFit ws n ≡ false → scriptAnswer ws ≡ 3
       unfolding firstOf
       refused-keys e = by-tests ∙ rw (head, range-is ∙ sizes, keys-are ∙ e)
 
@@ -138,7 +137,7 @@ module _ (ws : List ℕ) {l m : ℕ} (le : l ≡ leaf ws) (me : m ≡ n ws) wher
 
 -- ---- the call
 
-pub script-refused : (old ws : List ℕ) (a : Answer) → scriptAnswer ws ≡ a → isAccepted a ≡ false → written a old ≡ openScript old ws
+pub script-refused : (old ws : List ℕ) (a : Answer) → scriptAnswer ws ≡ numberOf a → isAccepted (numberOf a) ≡ false → written a old ≡ openScript old ws
 unfolding openScript
 script-refused old ws a e f = rw (e, f)
 
@@ -150,8 +149,8 @@ script-opened old ws long e f h = h ∙ rw (f, eq-eqb (length old) ringLength lo
 
 -- ---- an accepted opening
 
-module _ (ws : List ℕ) (ok : scriptAnswer ws ≡ Accepted) where
-  refuted : {P : Type 0} (a : Answer) → isAccepted a ≡ false → scriptAnswer ws ≡ a → P
+module _ (ws : List ℕ) (ok : scriptAnswer ws ≡ 0) where
+  refuted : {P : Type 0} (a : ℕ) → isAccepted a ≡ false → scriptAnswer ws ≡ a → P
   refuted a f e = clash (ap isAccepted (sym e ∙ ok)) f
 
   head-is : headFits ws ≡ true
@@ -171,7 +170,7 @@ module _ (ws : List ℕ) (ok : scriptAnswer ws ≡ Accepted) where
   abbrev old : List ℕ
   old = encode (initial (scriptTable ws))
 
-  opened : openAnswer old (scriptTable ws) ≡ Accepted
+  opened : openAnswer old (scriptTable ws) ≡ 0
   unfolding openAnswer firstOf
   opened = rw (eq-eqb (length old) ringLength (length-encode (initial (scriptTable ws)))) (sym (passed ws head-is sizes-are keys-fit-is) ∙ ok)
 

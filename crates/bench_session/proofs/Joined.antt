@@ -12,11 +12,11 @@ use lib.Seq.{take-append-le, drop-append-le, length-take-le}
 use Rattle.bench_lines.specs.Decimal.{lineBytes, linesBytes}
 use Rattle.bench_lines.proofs.Decimals.{lines-append, one-line}
 use Rattle.model.specs.Choice.{if_then_else_}
-use Rattle.model.specs.Ring.{Ring, initial, messageAt, isRunning}
+use Rattle.model.specs.Ring.{Ring, initial}
 use Rattle.model.specs.Sets.{all, tabulate}
 use Rattle.model.specs.Leafset.{Table, size, key}
 use Rattle.model.specs.Words.{keyWord}
-use Rattle.model.specs.Play.{Played, removeMessage, act, after, playAnswer, playWord, playAll}
+use Rattle.model.specs.Play.{Played, playAnswer, playWord, playAll}
 use Rattle.model.specs.Events.{eventOf}
 use Rattle.model.specs.Answers.{numberOf, isAccepted}
 use Rattle.model.specs.Fields.{bits}
@@ -24,8 +24,7 @@ use Rattle.model.specs.Connection.{groups}
 use Rattle.model.specs.Bench.{Line, littleEndian, eventLines, scriptTable, scriptAnswer, nodeLine, bench}
 use Rattle.bench_report.specs.Report.{groupsBytes, endBytes}
 use Rattle.model.specs.declared.answer.Answer.the-variants.{NotAnEvent}
-use Rattle.model.specs.declared.event.Event.{Event}
-use Rattle.model.specs.declared.event.Event.the-variants.{On, Off, Notice, Contact, Timer, Deliver, Lose}
+use Rattle.model.proofs.Cases.{after-table}
 use Rattle.model.proofs.Laws.{decide, if-law, same-test, all-in, all-out}
 use Rattle.model.proofs.Answers.{accepted-is}
 use Rattle.bench_open.proofs.Begins.{enough-words}
@@ -50,7 +49,7 @@ events-append k r [] vs = ap (λ (j : ℕ). eventLines j r vs) (omega arith)
 events-append k r (w ∷ ws) vs =
     let p : Played = playWord r w in
     let i : k + 1 + length ws ≡ k + suc (length ws) = omega arith in
-    ap (λ (l : List Line). (k ∷ numberOf (p .answer) ∷ length (p .ring .messages) ∷ []) ∷ l)
+    ap (λ (l : List Line). (k ∷ p .answer ∷ length (p .ring .messages) ∷ []) ∷ l)
     (events-append (k + 1) (p .ring) ws vs ∙ ap (λ (j : ℕ). eventLines (k + 1) (p .ring) ws ++ eventLines j (playAll (p .ring) ws) vs) i)
 
 play-append : (r : Ring) (ws vs : List ℕ) → playAll r (ws ++ vs) ≡ playAll (playAll r ws) vs
@@ -133,7 +132,7 @@ unfoldable opening : List ℕ → ℕ → List ℕ
 opening ws bytes =
     if isAccepted (scriptAnswer ws)
     then whole 0 (initial (scriptTable ws)) (drop (1 + size (scriptTable ws)) ws) bytes
-    else lineBytes (0 ∷ numberOf (scriptAnswer ws) ∷ 0 ∷ [])
+    else lineBytes (0 ∷ scriptAnswer ws ∷ 0 ∷ [])
 
 many-words : (l : List ℕ) → length l ≤ 4 * length (littleEndian l) + 3
 unfolding littleEndian
@@ -174,18 +173,6 @@ turns-open (whole-session.full {c} {d} {cs} h q) r = decide (isAccepted (scriptA
         (joined 0 (initial t) ev (littleEndian d) (length (c ++ d)) (length d) f))
 
 -- ---- the definition of the bench
-
--- no event changes the table
-after-table : (r : Ring) (e : Event) → after r e .table ≡ r .table
-unfolding after act removeMessage
-after-table r (On x) = refl
-after-table r (Off x) = refl
-after-table r (Notice x z) = refl
-after-table r (Contact x y) = refl
-after-table r (Timer x k) = refl
-after-table r (Deliver i) =
-    if-law (λ (q : Ring). q .table ≡ r .table) (isRunning r (messageAt r i .receiver)) _ _ (λ e. refl) (λ e. refl)
-after-table r (Lose i) = refl
 
 play-table : (r : Ring) (ws : List ℕ) → playAll r ws .table ≡ r .table
 unfolding playAll playWord

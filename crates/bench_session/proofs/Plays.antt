@@ -50,14 +50,14 @@ module _ (ws : List ℕ) (reads : readsAsRing ws ≡ true) (w : ℕ) where
     ring-after : decode ws' ≡ playWord r w .ring
     ring-after = ap decode (e ∙ ap (λ (q : Written). q .words) followed) ∙ round-trip (playWord r w .ring) (word-well r w well)
 
-    pub one-played : {k n m at end : ℕ} {out out' : List ℕ} (a : Answer) → a ≡ playBuffer ws w .answer → n ≡ numberOf a → m ≡ length (decode ws' .messages)
+    pub one-played : {k n m at end : ℕ} {out out' : List ℕ} (a : Answer) → numberOf a ≡ playBuffer ws w .answer → n ≡ numberOf a → m ≡ length (decode ws' .messages)
         → Put out out' at end (lineBytes (k ∷ n ∷ m ∷ [])) → end ≤ at + 63 → OnePlayed ws w k ws' out out' at end
     one-played {k} {n} {m} a f g h p l =
-        let answer : a ≡ playWord r w .answer = f ∙ ap (λ (q : Written). q .answer) followed in
+        let answer : numberOf a ≡ playWord r w .answer = f ∙ ap (λ (q : Written). q .answer) followed in
         record {
           reads = still;
           ring = ring-after;
-          put = put-as p (rw (g ∙ ap numberOf answer, h ∙ ap (λ (ρ : Ring). length (ρ .messages)) ring-after));
+          put = put-as p (rw (g ∙ answer, h ∙ ap (λ (ρ : Ring). length (ρ .messages)) ring-after));
           room = l;
         }
 
@@ -121,7 +121,7 @@ module _ {ws script : List ℕ} {k : ℕ} {ws' out out' : List ℕ} {at end : �
         reads = q .reads;
         within = omega (arith, t .below, t .next);
         ring = rw (q .ring) (rw rest at (p .ring));
-        bytes = p .bytes ++ lineBytes (n ∷ numberOf (playWord (decode ws') w .answer) ∷ length (playWord (decode ws') w .ring .messages) ∷ []);
+        bytes = p .bytes ++ lineBytes (n ∷ playWord (decode ws') w .answer ∷ length (playWord (decode ws') w .ring .messages) ∷ []);
         put = put-more (p .put) (q .put);
         lines = rw (q .ring, later, number) (append-assoc (p .bytes) _ _ ∙ (rw rest at (p .lines)));
         room = omega (arith, p .room, q .room, t .next);

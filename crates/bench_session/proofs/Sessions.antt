@@ -17,7 +17,6 @@ use Rattle.model.specs.Words.{ringLength, encode, decodeTable, decode, readsAsR
 use Rattle.model.specs.Buffer.{Written}
 use Rattle.model.specs.Bench.{littleEndian, scriptTable, scriptAnswer}
 use Rattle.model.specs.declared.answer.Answer.{Answer}
-use Rattle.model.specs.declared.answer.Answer.the-variants.{Accepted}
 use Rattle.model.proofs.Laws.{clash}
 use Rattle.model.proofs.Answers.{accepted-is}
 use Rattle.answers.specs.Applied.{written}
@@ -35,7 +34,7 @@ pub record Opened (ws script : List ℕ) : Type 0 where
   pub ring : decode ws ≡ initial (scriptTable script)
 
 module _ (ws script : List ℕ) {ws' : List ℕ} {n : ℕ} (a : Answer) (e : written a ws' ≡ openScript ws script) (number : n ≡ numberOf a) where
-  the-answer : a ≡ scriptAnswer script
+  the-answer : numberOf a ≡ scriptAnswer script
   unfolding openScript
   the-answer = ap (λ (w : Written). w .answer) e
 
@@ -43,7 +42,7 @@ module _ (ws script : List ℕ) {ws' : List ℕ} {n : ℕ} (a : Answer) (e : wri
   unfolding openScript
   opened-ring z =
       let yes' : isAccepted (scriptAnswer script) ≡ true = ap isAccepted (sym the-answer) ∙ eq-eqb (numberOf a) 0 (sym number ∙ z) in
-      let ok : scriptAnswer script ≡ Accepted = accepted-is (scriptAnswer script) yes' in
+      let ok : scriptAnswer script ≡ 0 = accepted-is (scriptAnswer script) yes' in
       let words : ws' ≡ encode (initial (scriptTable script)) = ap (λ (w : Written). w .words) e ∙ rw yes' in
       record {
         accepted = yes';

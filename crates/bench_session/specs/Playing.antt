@@ -6,7 +6,6 @@ use Prim.Native.Nat.{ℕ, _+_, _*_, _≤_}
 use lib.ListN.{length}
 use Rattle.bench_lines.specs.Decimal.{lineBytes, linesBytes}
 use Rattle.bench_lines.specs.Put.{Put}
-use Rattle.model.specs.Answers.{numberOf}
 use Rattle.model.specs.Words.{decode, readsAsRing}
 use Rattle.model.specs.Play.{playWord, playAll}
 use Rattle.model.specs.Bench.{eventLines}
@@ -15,7 +14,7 @@ use Rattle.model.specs.Bench.{eventLines}
 pub record OnePlayed (ws : List ℕ) (w k : ℕ) (ws' out out' : List ℕ) (at end : ℕ) : Type 0 where
   pub reads : readsAsRing ws' ≡ true
   pub ring : decode ws' ≡ playWord (decode ws) w .ring
-  pub put : Put out out' at end (lineBytes (k ∷ numberOf (playWord (decode ws) w .answer) ∷ length (playWord (decode ws) w .ring .messages) ∷ []))
+  pub put : Put out out' at end (lineBytes (k ∷ playWord (decode ws) w .answer ∷ length (playWord (decode ws) w .ring .messages) ∷ []))
   pub room : end ≤ at + 63
 
 -- a list of words, events k + 1 and on

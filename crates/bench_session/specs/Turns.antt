@@ -54,7 +54,7 @@ unfoldable pub firstTurn : List ℕ → ℕ → Turn
 firstTurn ws bytes =
     if isAccepted (scriptAnswer ws)
     then playedTurn 0 (initial (scriptTable ws)) (drop (1 + size (scriptTable ws)) ws) bytes
-    else record { bytes = lineBytes (0 ∷ numberOf (scriptAnswer ws) ∷ 0 ∷ []); ring = initial (scriptTable ws); events = 0; opened = false; more = false }
+    else record { bytes = lineBytes (0 ∷ scriptAnswer ws ∷ 0 ∷ []); ring = initial (scriptTable ws); events = 0; opened = false; more = false }
 
 -- the words of a chunk with so many bytes, where a ring is open already or not
 unfoldable pub wordsTurn : Bool → ℕ → Ring → List ℕ → ℕ → Turn

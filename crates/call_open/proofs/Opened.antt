@@ -12,34 +12,34 @@ use Rattle.model.specs.Words.{ringLength, inRange, keysDiffer}
 use Rattle.model.specs.Buffer.{openAnswer}
 use Rattle.model.specs.Structs.{tableOf}
 use Rattle.model.specs.WellFormed.{WellFormedTable}
-use Rattle.model.specs.declared.answer.Answer.the-variants.{Accepted, WrongLength, OpeningOutOfRange, BadKey}
 use Rattle.model.proofs.WellFormedPlay.{table-well}
-use Rattle.answers.proofs.Refusals.{here, next, no-more, wrong-length, right-length}
+use Rattle.model.proofs.Answers.{here, next, no-more}
+use Rattle.answers.proofs.Refusals.{wrong-length, right-length}
 use Rattle.call_open.specs.Keys.{keysFit}
 
 module _ (ws : List ℕ) (leaf : ℕ) (keys : List ℕ) where
   abbrev t : Table
   t = tableOf leaf keys
 
-  pub refused-length : (length ws ≡ ringLength → ⊥) → openAnswer ws t ≡ WrongLength
+  pub refused-length : (length ws ≡ ringLength → ⊥) → openAnswer ws t ≡ 1
   unfolding openAnswer
   refused-length d = here _ _ (wrong-length ws d)
 
   module _ (long : length ws ≡ ringLength) where
-    pub refused-range : inRange t ≡ false → openAnswer ws t ≡ OpeningOutOfRange
+    pub refused-range : inRange t ≡ false → openAnswer ws t ≡ 2
     unfolding openAnswer
     refused-range e = next _ _ (right-length ws long) ∙ here _ _ (ap not e)
 
     module _ (range : inRange t ≡ true) where
-      pub refused-key : (keysFit keys && keysDiffer t) ≡ false → openAnswer ws t ≡ BadKey
+      pub refused-key : (keysFit keys && keysDiffer t) ≡ false → openAnswer ws t ≡ 3
       unfolding openAnswer keysFit
       refused-key e = next _ _ (right-length ws long) ∙ next _ _ (ap not range) ∙ here _ _ (ap not e)
 
-      pub opened : (keysFit keys && keysDiffer t) ≡ true → openAnswer ws t ≡ Accepted
+      pub opened : (keysFit keys && keysDiffer t) ≡ true → openAnswer ws t ≡ 0
       unfolding openAnswer keysFit
       opened e = next _ _ (right-length ws long) ∙ next _ _ (ap not range) ∙ next _ _ (ap not e) ∙ no-more
 
-  module _ (a : openAnswer ws t ≡ Accepted) where
+  module _ (a : openAnswer ws t ≡ 0) where
     abbrev well : WellFormedTable t
     well = table-well ws t a
 

@@ -2,41 +2,23 @@
 use mathlib.Core.Path.{_≡_, refl, sym, ap, ap₂, _∙_}
 use mathlib.Core.Bool.{true, false}
 use mathlib.Core.List.{List, [], _∷_}
-use Prim.Native.Nat.{ℕ, zero, suc, _+_, _≤_, _<_}
+use Prim.Native.Nat.{ℕ, zero, suc, _+_, _<_}
 use native.Mathlib.Nat.{le-of-suc-le-suc, not-suc-le-zero}
 use native.Mathlib.Numerals.{add-one}
 use native.Mathlib.Omega.{arith}
 use native.Mathlib.Decide.{ℕ-discrete}
 use lib.ListN.{length, getD, take, set, length-set}
 use lib.Seq.{take-length, getD-set-same, getD-set-other}
-use lib.Dec.{lit≤}
 use Rattle.model.specs.Leafset.{Table}
 use Rattle.model.specs.Answers.{numberOf, isAccepted}
 use Rattle.model.specs.Words.{readsAsRing}
 use Rattle.model.specs.Buffer.{Written, openBuffer, playBuffer, playBufferAll}
 use Rattle.model.specs.declared.answer.Answer.{Answer}
-use Rattle.model.specs.declared.answer.Answer.the-variants.{Accepted, WrongLength, OpeningOutOfRange, BadKey, NotAnEvent, SameNode, NotARing, OutOfTable, NodeOff, AlreadyRunning, ClockSpent, PoolFull}
 use Rattle.model.proofs.Laws.{clash}
-use Rattle.model.proofs.Answers.{accepted-is}
 use Rattle.model.proofs.Theorems.{opening-reads, playing-reads, refused-opening, connectivity-preserved}
 use Rattle.answers.specs.Applied.{written}
 use Rattle.answers.proofs.Answered.{refuses, accepts}
 use Rattle.call_play.specs.Replay.{replayBuffer, Replayed, PlayedUpTo}
-
--- an answer's number fits a byte
-pub number-low : (a : Answer) → numberOf a ≤ 11
-number-low Accepted = lit≤ tt
-number-low WrongLength = lit≤ tt
-number-low OpeningOutOfRange = lit≤ tt
-number-low BadKey = lit≤ tt
-number-low NotAnEvent = lit≤ tt
-number-low SameNode = lit≤ tt
-number-low NotARing = lit≤ tt
-number-low OutOfTable = lit≤ tt
-number-low NodeOff = lit≤ tt
-number-low AlreadyRunning = lit≤ tt
-number-low ClockSpent = lit≤ tt
-number-low PoolFull = lit≤ tt
 
 -- the words at the next point
 next : (ws script : List ℕ) (k : ℕ) → k < length script → playBufferAll ws (take (suc k) script) ≡ playBuffer (playBufferAll ws (take k script)) (getD script k 0) .words
@@ -53,16 +35,16 @@ none-played ws script answers e =
 
 -- one more word, answered a
 pub one-more :
-    {i : ℕ} {ws script answers u v ws' : List ℕ} {a : Answer} → PlayedUpTo i ws script answers u v → i < length script
+    (a : Answer) {i : ℕ} {ws script answers u v ws' : List ℕ} → PlayedUpTo i ws script answers u v → i < length script
     → written a ws' ≡ playBuffer u (getD script i 0)
     → PlayedUpTo (i + 1) ws script answers ws' (set v i (numberOf a))
-one-more {i} {ws} {script} {answers} {u} {v} {ws'} {a} p h e =
+one-more a {i} {ws} {script} {answers} {u} {v} {ws'} p h e =
     record {
       words = ap (λ (q : Written). q .words) given ∙ sym (next ws script i h) ∙ rw add-one;
       still-reads = ap (λ (q : Written). readsAsRing (q .words)) e ∙ playing-reads u (getD script i 0) (p .still-reads);
       answer-at-place = λ k l m.
           elim (ℕ-discrete k i) [
-            | yes s ↦ rw s (getD-set-same v i (numberOf a) 0 (omega (arith, p .as-many-places)) ∙ ap (λ (q : Written). numberOf (q .answer)) given)
+            | yes s ↦ rw s (getD-set-same v i (numberOf a) 0 (omega (arith, p .as-many-places)) ∙ ap (λ (q : Written). q .answer) given)
             | no d ↦ getD-set-other v i k (numberOf a) 0 d ∙ p .answer-at-place k (omega arith) m
           ];
       other-places-kept = λ k l. getD-set-other v i k (numberOf a) 0 (λ s. omega arith) ∙ p .other-places-kept k (omega arith);
@@ -74,15 +56,16 @@ one-more {i} {ws} {script} {answers} {u} {v} {ws'} {a} p h e =
 
 -- ---- a replay, by the answer of its opening
 
-module _ (old : List ℕ) (t : Table) {r : Answer} {u : List ℕ} (opened : written r u ≡ openBuffer old t) where
-  answered : r ≡ openBuffer old t .answer
+module _ (old : List ℕ) (t : Table) (r : Answer) {u : List ℕ} (opened : written r u ≡ openBuffer old t) where
+  answered : numberOf r ≡ openBuffer old t .answer
   answered = ap (λ (q : Written). q .answer) opened
 
-  pub refused : (script answers : List ℕ) → isAccepted r ≡ false → Replayed old t script answers r u answers
+  pub not-opened : (script answers : List ℕ) → isAccepted (numberOf r) ≡ false → Replayed old t script answers (numberOf r) u answers
   unfolding replayBuffer
-  refused script answers n =
+  not-opened script answers n =
+      let refused = ap isAccepted (sym answered) ∙ n in
       record {
-        answer-and-words = rw (ap (λ (q : Written). q .words) opened ∙ refused-opening old t (ap isAccepted (sym answered) ∙ n)) (refuses old _ r _ n (sym answered));
+        answer-and-words = rw (ap (λ (q : Written). q .words) opened ∙ refused-opening old t refused) (refuses old _ r _ refused answered);
         answer-at-place = λ a. clash (ap isAccepted a) n;
         other-places-kept = λ i h. refl;
         as-many-places = refl;
@@ -90,22 +73,22 @@ module _ (old : List ℕ) (t : Table) {r : Answer} {u : List ℕ} (opened : writ
         connectivity-preserved = λ a. clash (ap isAccepted a) n;
       }
 
-  module _ (ok : isAccepted r ≡ true) where
-    accepted-opening : openBuffer old t .answer ≡ Accepted
-    accepted-opening = sym answered ∙ accepted-is r ok
+  module _ (ok : numberOf r ≡ 0) where
+    accepted-opening : openBuffer old t .answer ≡ 0
+    accepted-opening = sym answered ∙ ok
 
     pub opened-reads : readsAsRing u ≡ true
     opened-reads = ap (λ (q : Written). readsAsRing (q .words)) opened ∙ opening-reads old t accepted-opening
 
-    pub accepted : {script answers ws' answers' : List ℕ} → PlayedUpTo (length script) u script answers ws' answers' → Replayed old t script answers r ws' answers'
+    pub replayed : {script answers ws' answers' : List ℕ} → PlayedUpTo (length script) u script answers ws' answers' → Replayed old t script answers (numberOf r) ws' answers'
     unfolding replayBuffer
-    accepted {script} {answers} {ws'} {answers'} p =
+    replayed {script} {answers} {ws'} {answers'} p =
         record {
-          answer-and-words = rw (accepted-is r ok) (accepts old ws' _ _ accepted-opening (p .words ∙ ap₂ playBufferAll opened-words (take-length script)));
-          answer-at-place = λ a i h l. p .answer-at-place i h l ∙ ap (λ (ws : List ℕ). numberOf (playBuffer (playBufferAll ws (take i script)) (getD script i 0) .answer)) opened-words;
+          answer-and-words = accepts old ws' _ r _ accepted-opening answered (p .words ∙ ap₂ playBufferAll opened-words (take-length script));
+          answer-at-place = λ a i h l. p .answer-at-place i h l ∙ ap (λ (ws : List ℕ). playBuffer (playBufferAll ws (take i script)) (getD script i 0) .answer) opened-words;
           other-places-kept = p .other-places-kept;
           as-many-places = p .as-many-places;
-          refused-keeps-places = λ n. clash ok n;
+          refused-keeps-places = λ n. clash (ap isAccepted ok) n;
           connectivity-preserved = λ a. connectivity-preserved old t accepted-opening script;
         }
       where

@@ -64,10 +64,10 @@ pub fn replay(
     answers: &mut [u8],
 ) -> Answer
     ensures replayed { λ r. ⌜ Replayed (now (words .entry)) (tableOf leaf (now (keys .entry))) (now (script .entry))
-        (now (answers .entry)) r (now (words .exit)) (now (answers .exit)) ⌝ }
+        (now (answers .entry)) (numberOf r) (now (words .exit)) (now (answers .exit)) ⌝ }
 {
     let opened = open(words, leaf, keys);
-    if answers::number(opened) != 0 {
+    if answers::is_refusal(opened) {
         return opened;
     }
     play_each(words, script, answers);

@@ -14,13 +14,10 @@ use Rattle.model.specs.Answers.{isAccepted}
 use Rattle.model.specs.Words.{decodeTable, decode, readsAsRing}
 use Rattle.model.specs.WellFormed.{Each, nil, cons}
 use Rattle.model.specs.Questions.{leafsetAnswer, leafsetOf, connectionRefusals, connectionAnswer, connectionOf, groupsAnswer, groupsOf}
-use Rattle.model.specs.declared.answer.Answer.{Answer}
-use Rattle.model.specs.declared.answer.Answer.the-variants.{Accepted}
 use Rattle.model.proofs.Laws.{clash, not-out-false}
 use Rattle.model.proofs.Lists.{first, rest}
-use Rattle.model.proofs.Answers.{none-applies}
+use Rattle.model.proofs.Answers.{none-applies, later, again}
 use Rattle.model.proofs.Theorems.{connected-decides}
-use Rattle.answers.proofs.Refusals.{later, again}
 
 module _ (ws : List ℕ) where
   -- ---- the number of groups
@@ -29,7 +26,7 @@ module _ (ws : List ℕ) where
   unfolding groupsOf
   groups-refused n = rw n
 
-  pub groups-given : groupsAnswer ws ≡ Accepted → {v : ℕ} → v ≡ groups (decode ws) → v ≡ groupsOf ws
+  pub groups-given : groupsAnswer ws ≡ 0 → {v : ℕ} → v ≡ groups (decode ws) → v ≡ groupsOf ws
   unfolding groupsOf
   groups-given a e = rw (a, e)
 
@@ -40,7 +37,7 @@ module _ (ws : List ℕ) where
     unfolding connectionOf
     connection-refused n = rw n
 
-    module _ (a : connectionAnswer ws x y ≡ Accepted) where
+    module _ (a : connectionAnswer ws x y ≡ 0) where
       none-of-connection : Each (λ q. q .applies ≡ false) (connectionRefusals ws x y)
       unfolding connectionAnswer
       none-of-connection =
@@ -66,8 +63,8 @@ module _ (ws : List ℕ) where
 
     -- ---- what a yes and a no say
 
-    module _ {q : Answer} {v : Bool} (answer : q ≡ connectionAnswer ws x y) (value : v ≡ connectionOf ws x y) (a : q ≡ Accepted) where
-      accepted : connectionAnswer ws x y ≡ Accepted
+    module _ {q : ℕ} {v : Bool} (answer : q ≡ connectionAnswer ws x y) (value : v ≡ connectionOf ws x y) (a : q ≡ 0) where
+      accepted : connectionAnswer ws x y ≡ 0
       accepted = sym answer ∙ a
 
       decides : (connected (decode ws) x y ≡ true) ↔ Connected (decode ws) x y
@@ -93,7 +90,7 @@ module _ (ws : List ℕ) where
     unfolding leafsetOf
     leafset-refused n = rw (← node-twice, n)
 
-    pub leafset-given : connectionAnswer ws x x ≡ Accepted
+    pub leafset-given : connectionAnswer ws x x ≡ 0
         → {v : ℕ} → v ≡ toBits 64 (leafset (decode ws .table) x (holds (decode ws) x)) → v ≡ leafsetOf ws x
     unfolding leafsetOf
     leafset-given a e = rw (← node-twice, a, e)

@@ -4,10 +4,10 @@ ghost use mathlib.Core.Bool.{true, false};
 ghost use Prim.Native.Nat.{_<_};
 ghost use Rattle.model.specs.Sets.{toBits};
 ghost use Rattle.model.specs.Ring.{holds};
+ghost use Rattle.model.specs.Answers.{numberOf};
 ghost use Rattle.model.specs.Words.{decodeTable, decode, readsAsRing};
 ghost use Rattle.model.specs.Questions.{leafsetAnswer, leafsetOf, connectionAnswer, connectionOf, groupsAnswer, groupsOf};
 ghost use Rattle.model.specs.Connection.{Connected};
-ghost use Rattle.model.specs.declared.answer.Answer.the-variants.{Accepted};
 ghost use Rattle.model.specs.Leafset as model;
 use leafset::leafset;
 use model::answer::Answer;
@@ -33,11 +33,11 @@ pub struct GroupsAnswer {
 
 // "The leafset question is about one stand's leafset in its held set"
 pub fn leafset_of(words: &[u32], x: NodeNumber) -> LeafsetAnswer
-    ensures answer { λ r. ⌜ r .answer ≡ leafsetAnswer (now (words .entry)) (x .0) ⌝ }
+    ensures answer { λ r. ⌜ numberOf (r .answer) ≡ leafsetAnswer (now (words .entry)) (x .0) ⌝ }
     ensures set { λ r. ⌜ r .set ≡ leafsetOf (now (words .entry)) (x .0) ⌝ }
 {
     let answer = call_refusals::of_nodes(words, x, x);
-    if answers::number(answer) != 0 {
+    if answers::is_refusal(answer) {
         return LeafsetAnswer { answer, set: 0 };
     }
     LeafsetAnswer {
@@ -49,15 +49,15 @@ pub fn leafset_of(words: &[u32], x: NodeNumber) -> LeafsetAnswer
 // "The connection question is about two stands, which may be the same one." A yes says that a chain of steps leads from
 // a to b, a no that none does.
 pub fn connected(words: &[u32], a: NodeNumber, b: NodeNumber) -> ConnectionAnswer
-    ensures answer { λ r. ⌜ r .answer ≡ connectionAnswer (now (words .entry)) (a .0) (b .0) ⌝ }
+    ensures answer { λ r. ⌜ numberOf (r .answer) ≡ connectionAnswer (now (words .entry)) (a .0) (b .0) ⌝ }
     ensures connected { λ r. ⌜ r .connected ≡ connectionOf (now (words .entry)) (a .0) (b .0) ⌝ }
-    ensures yes { λ r. ⌜ (r .answer ≡ Accepted → r .connected ≡ true
+    ensures yes { λ r. ⌜ (numberOf (r .answer) ≡ 0 → r .connected ≡ true
         → Connected (decode (now (words .entry))) (a .0) (b .0)) ⌝ }
-    ensures no { λ r. ⌜ (r .answer ≡ Accepted → r .connected ≡ false
+    ensures no { λ r. ⌜ (numberOf (r .answer) ≡ 0 → r .connected ≡ false
         → Connected (decode (now (words .entry))) (a .0) (b .0) → ⊥) ⌝ }
 {
     let answer = call_refusals::of_nodes(words, a, b);
-    if answers::number(answer) != 0 {
+    if answers::is_refusal(answer) {
         return ConnectionAnswer {
             answer,
             connected: false,
@@ -72,11 +72,11 @@ pub fn connected(words: &[u32], a: NodeNumber, b: NodeNumber) -> ConnectionAnswe
 
 // "the number of connected groups of running stands"
 pub fn groups(words: &[u32]) -> GroupsAnswer
-    ensures answer { λ r. ⌜ r .answer ≡ groupsAnswer (now (words .entry)) ⌝ }
+    ensures answer { λ r. ⌜ numberOf (r .answer) ≡ groupsAnswer (now (words .entry)) ⌝ }
     ensures groups { λ r. ⌜ r .groups ≡ groupsOf (now (words .entry)) ⌝ }
 {
     let answer = call_refusals::of_words(words);
-    if answers::number(answer) != 0 {
+    if answers::is_refusal(answer) {
         return GroupsAnswer { answer, groups: 0 };
     }
     let n = ring_head::nodes(words);

@@ -9,18 +9,15 @@ use Rattle.model.specs.Words.{decodeNode, decode, readsAsRing}
 use Rattle.model.specs.WellFormed.{Each, nil, cons}
 use Rattle.model.specs.Play.{nodeOff}
 use Rattle.model.specs.Questions.{connectionAnswer, groupsRefusals, groupsAnswer}
-use Rattle.model.specs.declared.answer.Answer.{Answer}
-use Rattle.model.specs.declared.answer.Answer.the-variants.{Accepted, NodeOff}
 use Rattle.model.proofs.Laws.{not-out-false}
 use Rattle.model.proofs.Lists.{first, rest}
-use Rattle.model.proofs.Answers.{none-applies}
-use Rattle.answers.proofs.Refusals.{stays, passes}
+use Rattle.model.proofs.Answers.{none-applies, stays, passes}
 use Rattle.call_refusals.specs.Asked.{nodesRefusals}
 
 module _ (ws : List ℕ) where
   -- ---- refusals 1 and 6 come first
 
-  module _ (a : groupsAnswer ws ≡ Accepted) where
+  module _ (a : groupsAnswer ws ≡ 0) where
     none-of-groups : Each (λ q. q .applies ≡ false) (groupsRefusals ws)
     unfolding groupsAnswer
     none-of-groups = none-applies (groupsRefusals ws) (cons refl (cons refl nil)) a
@@ -31,26 +28,26 @@ module _ (ws : List ℕ) where
   module _ (x y : ℕ) where
     -- ---- 8 for either of two nodes
 
-    by-marks : (p q : Bool) → firstOf (record { refusal = NodeOff; applies = not p } ∷ record { refusal = NodeOff; applies = not q } ∷ []) ≡ (if p && q then Accepted else NodeOff)
+    by-marks : (p q : Bool) → firstOf (record { number = 8; applies = not p } ∷ record { number = 8; applies = not q } ∷ []) ≡ (if p && q then 0 else 8)
     unfolding firstOf
     by-marks true true = refl
     by-marks true false = refl
     by-marks false q = refl
 
-    pub one-off : (decodeNode ws x .running && decodeNode ws y .running) ≡ false → firstOf (nodeOff (decode ws) x ∷ nodeOff (decode ws) y ∷ []) ≡ NodeOff
+    pub one-off : (decodeNode ws x .running && decodeNode ws y .running) ≡ false → firstOf (nodeOff (decode ws) x ∷ nodeOff (decode ws) y ∷ []) ≡ 8
     unfolding decode
     one-off e = by-marks (decodeNode ws x .running) (decodeNode ws y .running) ∙ rw e
 
-    pub both-on : (decodeNode ws x .running && decodeNode ws y .running) ≡ true → firstOf (nodeOff (decode ws) x ∷ nodeOff (decode ws) y ∷ []) ≡ Accepted
+    pub both-on : (decodeNode ws x .running && decodeNode ws y .running) ≡ true → firstOf (nodeOff (decode ws) x ∷ nodeOff (decode ws) y ∷ []) ≡ 0
     unfolding decode
     both-on e = by-marks (decodeNode ws x .running) (decodeNode ws y .running) ∙ rw e
 
     -- ---- the questions about two nodes
 
-    pub refused-words : {a : Answer} → a ≡ groupsAnswer ws → isAccepted (groupsAnswer ws) ≡ false → a ≡ connectionAnswer ws x y
+    pub refused-words : {a : ℕ} → a ≡ groupsAnswer ws → isAccepted (groupsAnswer ws) ≡ false → a ≡ connectionAnswer ws x y
     unfolding groupsAnswer connectionAnswer
     refused-words e n = e ∙ sym (stays (groupsRefusals ws) (nodesRefusals (decode ws) x y) n)
 
-    pub after-words : {a : Answer} → groupsAnswer ws ≡ Accepted → a ≡ firstOf (nodesRefusals (decode ws) x y) → a ≡ connectionAnswer ws x y
+    pub after-words : {a : ℕ} → groupsAnswer ws ≡ 0 → a ≡ firstOf (nodesRefusals (decode ws) x y) → a ≡ connectionAnswer ws x y
     unfolding groupsAnswer connectionAnswer
     after-words g e = e ∙ sym (passes (groupsRefusals ws) (nodesRefusals (decode ws) x y) (none-of-groups g))

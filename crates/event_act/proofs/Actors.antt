@@ -11,7 +11,6 @@ use Rattle.model.specs.WellFormed.{Each, nil, cons, WellFormedOwn}
 use Rattle.model.specs.Answers.{Refusal, firstOf}
 use Rattle.model.specs.Words.{decodeTable, decodeNode, decode, readsAsRing}
 use Rattle.model.specs.Structs.{ownOf, spareAt}
-use Rattle.model.specs.declared.answer.Answer.the-variants.{Accepted}
 use Rattle.model.specs.declared.node.NodeRecord.{NodeRecord}
 use Rattle.model.proofs.Answers.{none-applies}
 use Rattle.model.proofs.Decoded.{reads-well}
@@ -22,7 +21,7 @@ use Rattle.records.proofs.WellFormed as protocol
 use Rattle.event_act.specs.Acting.{mayAct}
 use Rattle.answers.proofs.Valid.{few, clock-high}
 
-module _ (ws : List ℕ) (x : ℕ) (ok : firstOf (mayAct (decode ws) x) ≡ Accepted) where
+module _ (ws : List ℕ) (x : ℕ) (ok : firstOf (mayAct (decode ws) x) ≡ 0) where
   none : Each (λ (q : Refusal). q .applies ≡ false) (mayAct (decode ws) x)
   none = none-applies (mayAct (decode ws) x) (cons refl (cons refl (cons refl nil))) ok
 
@@ -36,7 +35,7 @@ module _ (ws : List ℕ) (x : ℕ) (ok : firstOf (mayAct (decode ws) x) ≡ Acce
   pub acts-unspent : decode ws .node x .clock ≡ 16777215 → ⊥
   acts-unspent = eqb-false (decode ws .node x .clock) 16777215 (first (rest (rest none)))
 
-pub acts-below-last : (ws : List ℕ) (x : ℕ) → readsAsRing ws ≡ true → firstOf (mayAct (decode ws) x) ≡ Accepted → decode ws .node x .clock < 16777215
+pub acts-below-last : (ws : List ℕ) (x : ℕ) → readsAsRing ws ≡ true → firstOf (mayAct (decode ws) x) ≡ 0 → decode ws .node x .clock < 16777215
 unfolding decode
 acts-below-last ws x reads ok = omega (arith, clock-high ws reads x, acts-unspent ws x ok)
 

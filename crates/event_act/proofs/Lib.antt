@@ -1,3 +1,5 @@
 pub mod Actors
 pub mod Lent
-pub mod Acted
+pub mod Decides
+pub mod Written
+pub mod Leaving

@@ -1,11 +1,12 @@
-// A node that is to act: its refusals, and what is read of the words for its step.
-pub mod apply;
+// What every event has in common: a node that is to act, its refusals, and what is read of the words for its step; what
+// an event would do, decided; and that written.
+pub mod decision;
+pub mod write;
 
 ghost use mathlib.Core.Path.{_≡_};
 ghost use mathlib.Core.Bool.{true};
-ghost use Rattle.model.specs.Answers.{firstOf};
+ghost use Rattle.model.specs.Answers.{numberOf, firstOf};
 ghost use Rattle.model.specs.Words.{decode, readsAsRing};
-ghost use Rattle.model.specs.declared.answer.Answer.the-variants.{Accepted};
 ghost use Rattle.event_act.specs.Acting.{mayAct, IsActor};
 use model::answer::Answer;
 use model::node::NodeRecord;
@@ -24,7 +25,7 @@ pub struct Actor {
 // Whether node x is in the table, runs, and has a clock that can rise: 7, 8 and 10.
 pub fn may_act(words: &[u32], x: NodeNumber) -> Answer
     requires ring { ⌜ readsAsRing (now words) ≡ true ⌝ }
-    ensures answer { λ r. ⌜ r ≡ firstOf (mayAct (decode (now (words .entry))) (x .0)) ⌝ }
+    ensures answer { λ r. ⌜ numberOf r ≡ firstOf (mayAct (decode (now (words .entry))) (x .0)) ⌝ }
 {
     if ring_head::nodes(words) <= x.0 as usize {
         return Answer::OutOfTable;
@@ -41,7 +42,7 @@ pub fn may_act(words: &[u32], x: NodeNumber) -> Answer
 // Node x, which may act.
 pub fn load(words: &[u32], x: NodeNumber) -> Actor
     requires ring { ⌜ readsAsRing (now words) ≡ true ⌝ }
-    requires actor { ⌜ firstOf (mayAct (decode (now words)) (x .0)) ≡ Accepted ⌝ }
+    requires actor { ⌜ firstOf (mayAct (decode (now words)) (x .0)) ≡ 0 ⌝ }
     ensures actor { λ r. ⌜ IsActor (now (words .entry)) (x .0) r ⌝ }
 {
     let n = ring_head::nodes(words);

@@ -1,19 +1,21 @@
-// The events of two nodes: a contact and a notice.
+// The events of two nodes, a contact and a notice: what they would do, with their refusals from the state.
 ghost use mathlib.Core.Path.{_≡_};
 ghost use mathlib.Core.Bool.{true};
-ghost use Rattle.model.specs.Answers.{firstOf};
+ghost use Rattle.model.specs.Answers.{numberOf, firstOf};
 ghost use Rattle.model.specs.Words.{decode, readsAsRing};
 ghost use Rattle.model.specs.declared.event.Event.the-variants.{Notice, Contact};
-ghost use Rattle.answers.specs.Applied.{written, eventOn};
+ghost use Rattle.event_act.specs.Changes.{Decides};
 ghost use Rattle.event_contact.specs.Meeting.{mayMeet};
-use event_act::apply;
+use event_act::decision;
+use event_act::decision::Decision;
+use event_act::decision::Taken;
 use model::answer::Answer;
 use model::values::NodeNumber;
 
 // Whether x may act on y: y is in the table too.
 fn may_meet(words: &[u32], x: NodeNumber, y: NodeNumber) -> Answer
     requires ring { ⌜ readsAsRing (now words) ≡ true ⌝ }
-    ensures answer { λ r. ⌜ r ≡ firstOf (mayMeet (decode (now (words .entry))) (x .0) (y .0)) ⌝ }
+    ensures answer { λ r. ⌜ numberOf r ≡ firstOf (mayMeet (decode (now (words .entry))) (x .0) (y .0)) ⌝ }
 {
     if ring_head::nodes(words) <= y.0 as usize {
         return Answer::OutOfTable;
@@ -21,28 +23,28 @@ fn may_meet(words: &[u32], x: NodeNumber, y: NodeNumber) -> Answer
     event_act::may_act(words, x)
 }
 
-pub fn contact(words: &mut [u32], x: NodeNumber, y: NodeNumber) -> Answer
+pub fn contact(words: &[u32], x: NodeNumber, y: NodeNumber) -> Decision
     requires ring { ⌜ readsAsRing (now words) ≡ true ⌝ }
-    ensures written { λ r. ⌜ written r (now (words .exit)) ≡ eventOn (now (words .entry)) (Contact x y) ⌝ }
+    ensures decides { λ r. ⌜ Decides (now (words .entry)) (Contact x y) r ⌝ }
 {
     let answer = may_meet(words, x, y);
-    if answers::number(answer) != 0 {
-        return answer;
+    if answers::is_refusal(answer) {
+        return Decision::refused(answer);
     }
     let a = event_act::load(words, x);
-    let reply = step_contact::contact(x, a.own, y);
-    apply::reply(words, a.n, a.m, x, a.time, reply)
+    let effect = step_contact::contact(x, a.own, y);
+    decision::acting(a.m, Taken::Nothing, x, a.time, effect)
 }
 
-pub fn notice(words: &mut [u32], x: NodeNumber, z: NodeNumber) -> Answer
+pub fn notice(words: &[u32], x: NodeNumber, z: NodeNumber) -> Decision
     requires ring { ⌜ readsAsRing (now words) ≡ true ⌝ }
-    ensures written { λ r. ⌜ written r (now (words .exit)) ≡ eventOn (now (words .entry)) (Notice x z) ⌝ }
+    ensures decides { λ r. ⌜ Decides (now (words .entry)) (Notice x z) r ⌝ }
 {
     let answer = may_meet(words, x, z);
-    if answers::number(answer) != 0 {
-        return answer;
+    if answers::is_refusal(answer) {
+        return Decision::refused(answer);
     }
     let a = event_act::load(words, x);
-    let reply = step_contact::notice(a.own, z);
-    apply::reply(words, a.n, a.m, x, a.time, reply)
+    let effect = step_contact::notice(a.own, z);
+    decision::acting(a.m, Taken::Nothing, x, a.time, effect)
 }

@@ -1,43 +1,46 @@
-// The events on and off, with their refusals from the state.
+// The events on and off: what they would do, with their refusals from the state.
 ghost use mathlib.Core.Path.{_≡_};
 ghost use mathlib.Core.Bool.{true};
 ghost use Rattle.model.specs.Words.{readsAsRing};
 ghost use Rattle.model.specs.declared.event.Event.the-variants.{On, Off};
-ghost use Rattle.answers.specs.Applied.{written, eventOn};
+ghost use Rattle.event_act.specs.Changes.{Decides};
+use event_act::decision;
+use event_act::decision::Becomes;
+use event_act::decision::Decision;
+use event_act::decision::Taken;
 use model::answer::Answer;
 use model::values::NodeNumber;
 use model::values::Stamp;
 use word_ring::limit;
 
-pub fn on(words: &mut [u32], x: NodeNumber) -> Answer
+pub fn on(words: &[u32], x: NodeNumber) -> Decision
     requires ring { ⌜ readsAsRing (now words) ≡ true ⌝ }
-    ensures written { λ r. ⌜ written r (now (words .exit)) ≡ eventOn (now (words .entry)) (On x) ⌝ }
+    ensures decides { λ r. ⌜ Decides (now (words .entry)) (On x) r ⌝ }
 {
     if ring_head::nodes(words) <= x.0 as usize {
-        return Answer::OutOfTable;
+        return Decision::refused(Answer::OutOfTable);
     }
     if ring_nodes::is_running(words, x) {
-        return Answer::AlreadyRunning;
+        return Decision::refused(Answer::AlreadyRunning);
     }
     let clock = ring_nodes::clock(words, x).0;
     if clock == limit::CLOCK {
-        return Answer::ClockSpent;
+        return Decision::refused(Answer::ClockSpent);
     }
-    ring_nodes::start(words, x, Stamp(clock + 1));
-    Answer::Accepted
+    let m = ring_head::messages(words);
+    decision::silent(m, Taken::Nothing, x, Becomes::Starts, Stamp(clock + 1))
 }
 
-pub fn off(words: &mut [u32], x: NodeNumber) -> Answer
+pub fn off(words: &[u32], x: NodeNumber) -> Decision
     requires ring { ⌜ readsAsRing (now words) ≡ true ⌝ }
-    ensures written { λ r. ⌜ written r (now (words .exit)) ≡ eventOn (now (words .entry)) (Off x) ⌝ }
+    ensures decides { λ r. ⌜ Decides (now (words .entry)) (Off x) r ⌝ }
 {
-    let n = ring_head::nodes(words);
-    if n <= x.0 as usize {
-        return Answer::OutOfTable;
+    if ring_head::nodes(words) <= x.0 as usize {
+        return Decision::refused(Answer::OutOfTable);
     }
     if !ring_nodes::is_running(words, x) {
-        return Answer::NodeOff;
+        return Decision::refused(Answer::NodeOff);
     }
-    ring_nodes::stop(words, n, x);
-    Answer::Accepted
+    let m = ring_head::messages(words);
+    decision::silent(m, Taken::Nothing, x, Becomes::Stops, Stamp(0))
 }

@@ -1,5 +1,5 @@
 -- What a word gives on lent words, by the stage that answers.
-use mathlib.Core.Path.{_≡_, refl, sym, ap, _∙_}
+use mathlib.Core.Path.{_≡_, refl, sym, ap, subst, _∙_}
 use mathlib.Core.Bool.{Bool, true, false, not}
 use mathlib.Core.List.{List, [], _∷_, _++_}
 use Prim.Native.Nat.{ℕ}
@@ -8,31 +8,33 @@ use lib.ListN.{length}
 use borrow.Author.Tests.{eq-eqb, ne-eqb}
 use Rattle.model.specs.Choice.{if_then_else_}
 use Rattle.model.specs.WellFormed.{Each, nil, cons}
-use Rattle.model.specs.Answers.{Refusal, firstOf, isAccepted}
-use Rattle.model.specs.Events.{eventOf, wordRefusals, wordAnswer, readEvent}
-use Rattle.model.specs.Words.{ringLength, decode, readsAsRing}
+use Rattle.model.specs.Answers.{Refusal, firstOf, isAccepted, numberOf}
+use Rattle.model.specs.Events.{eventOf, wordRefusals, wordAnswer, ReadWord, readEvent, readingOf}
+use Rattle.model.specs.Words.{ringLength, encode, decode, readsAsRing}
 use Rattle.model.specs.Play.{stateRefusals}
-use Rattle.model.specs.Buffer.{Written, wrongLength, notARing, bufferAnswer, playBuffer}
+use Rattle.model.specs.Buffer.{wrongLength, notARing, bufferAnswer, playBuffer}
 use Rattle.model.specs.declared.answer.Answer.{Answer}
 use Rattle.model.specs.declared.answer.Answer.the-variants.{WrongLength, NotARing}
 use Rattle.model.specs.declared.event.Event.{Event}
 use Rattle.model.specs.declared.event.Reading.{Reading}
 use Rattle.model.specs.declared.event.Reading.the-variants.{Read, Refused}
 use Rattle.answers.specs.Applied.{written, eventOn}
-use Rattle.answers.proofs.Answered.{refuses}
-use Rattle.answers.proofs.Refusals as Refusals
+use Rattle.answers.proofs.Answered.{refuses, accepts}
+use Rattle.model.proofs.Answers.{here, next}
+use Rattle.event_act.specs.Changes.{changed, Decides}
+use Rattle.event_act.specs.declared.decision.Decision.{Decision}
 
 -- the first of two lists of refusals: of the second where none of the first applies
 first-of-both :
-    (qs rs : List Refusal) → Each (λ q. isAccepted (q .refusal) ≡ false) qs
+    (qs rs : List Refusal) → Each (λ q. isAccepted (q .number) ≡ false) qs
     → firstOf (qs ++ rs) ≡ (if isAccepted (firstOf qs) then firstOf rs else firstOf qs)
 unfolding firstOf
 first-of-both [] rs e = refl
 first-of-both (q ∷ qs) rs (cons n e) = go (first-of-both qs rs e) (q .applies)
   where
     go : firstOf (qs ++ rs) ≡ (if isAccepted (firstOf qs) then firstOf rs else firstOf qs)
-        → (b : Bool) → (if b then q .refusal else firstOf (qs ++ rs))
-        ≡ (if isAccepted (if b then q .refusal else firstOf qs) then firstOf rs else (if b then q .refusal else firstOf qs))
+        → (b : Bool) → (if b then q .number else firstOf (qs ++ rs))
+        ≡ (if isAccepted (if b then q .number else firstOf qs) then firstOf rs else (if b then q .number else firstOf qs))
     go i true = rw n
     go i false = i
 
@@ -43,46 +45,53 @@ record IsEvent (w : ℕ) (e : Event) : Type 0 where
   event : eventOf w ≡ e
 
 record IsNoEvent (w : ℕ) (a : Answer) : Type 0 where
-  refused : isAccepted a ≡ false
-  answer : wordAnswer w ≡ a
+  refused : isAccepted (wordAnswer w) ≡ false
+  answer : numberOf a ≡ wordAnswer w
 
-module _ (w : ℕ) {r : Reading} (read : r ≡ readEvent w) where
+module _ (w : ℕ) {r : Reading} (read : readingOf r ≡ readEvent w) where
   is-event : (e : Event) → r ≡ Read e → IsEvent w e
   unfolding readEvent
-  is-event e h = by-answer (isAccepted (wordAnswer w)) refl (sym read ∙ h)
+  is-event e h =
+      let same : readingOf (Read e) ≡ readEvent w = ap readingOf (sym h) ∙ read in
+      by-answer (isAccepted (wordAnswer w)) refl (ap (λ (q : ReadWord). q .event) same)
     where
-      by-answer : (b : Bool) → isAccepted (wordAnswer w) ≡ b → (if b then Read (eventOf w) else Refused (wordAnswer w)) ≡ Read e → IsEvent w e
+      by-answer : (b : Bool) → isAccepted (wordAnswer w) ≡ b → e ∷ [] ≡ (if b then eventOf w ∷ [] else []) → IsEvent w e
       by-answer true a q = record { accepted = a; event = cc }
-      by-answer false a q = absurd (let z : _≡_ {A = ℕ} 0 1 = cc in omega arith)
+      by-answer false a q = absurd (let z : _≡_ {A = ℕ} 1 0 = ap length q in omega arith)
 
   is-no-event : (a : Answer) → r ≡ Refused a → IsNoEvent w a
   unfolding readEvent
-  is-no-event a h = by-answer (isAccepted (wordAnswer w)) refl (sym read ∙ h)
+  is-no-event a h =
+      let same : readingOf (Refused a) ≡ readEvent w = ap readingOf (sym h) ∙ read in
+      by-answer (isAccepted (wordAnswer w)) refl (ap (λ (q : ReadWord). q .answer) same) (ap (λ (q : ReadWord). q .event) same)
     where
-      by-answer : (b : Bool) → isAccepted (wordAnswer w) ≡ b → (if b then Read (eventOf w) else Refused (wordAnswer w)) ≡ Refused a → IsNoEvent w a
-      by-answer true t q = absurd (let z : _≡_ {A = ℕ} 0 1 = cc in omega arith)
-      by-answer false t q = let i : wordAnswer w ≡ a = cc in record { refused = ap isAccepted (sym i) ∙ t; answer = i }
+      by-answer : (b : Bool) → isAccepted (wordAnswer w) ≡ b → numberOf a ≡ wordAnswer w → [] ≡ (if b then eventOf w ∷ [] else []) → IsNoEvent w a
+      by-answer true t i q = absurd (let z : _≡_ {A = ℕ} 0 1 = ap length q in omega arith)
+      by-answer false t i q = record { refused = t; answer = i }
 
 -- ---- the stages: the length; the word; the words; the event
 
 module _ (ws : List ℕ) (w : ℕ) where
   pub not-as-long : (length ws ≡ ringLength → ⊥) → written WrongLength ws ≡ playBuffer ws w
   unfolding playBuffer bufferAnswer
-  not-as-long d = refuses ws _ WrongLength _ refl (Refusals.here _ _ (ap not (ne-eqb (length ws) ringLength d)))
+  not-as-long d =
+      let one : bufferAnswer ws w ≡ 1 = here _ _ (ap not (ne-eqb (length ws) ringLength d)) in
+      refuses ws _ WrongLength _ (ap isAccepted one) (sym one)
 
   module _ (h : length ws ≡ ringLength) where
     by-word : bufferAnswer ws w ≡ (if isAccepted (wordAnswer w) then firstOf (notARing ws ∷ stateRefusals (decode ws) (eventOf w)) else wordAnswer w)
     unfolding bufferAnswer wordAnswer
     by-word =
-        Refusals.next (wrongLength ws) _ (ap not (eq-eqb (length ws) ringLength h))
+        next (wrongLength ws) _ (ap not (eq-eqb (length ws) ringLength h))
         ∙ first-of-both (wordRefusals w) _ (cons refl (cons refl nil))
 
-    module _ {r : Reading} (read : r ≡ readEvent w) where
+    module _ {r : Reading} (read : readingOf r ≡ readEvent w) where
       pub not-an-event : {a : Answer} → r ≡ Refused a → written a ws ≡ playBuffer ws w
       unfolding playBuffer
       not-an-event {a} e =
           let p : IsNoEvent w a = is-no-event w read a e in
-          refuses ws _ a _ (p .refused) (by-word ∙ rw (p .answer, p .refused))
+          let refused : bufferAnswer ws w ≡ wordAnswer w = by-word ∙ rw (p .refused) in
+          refuses ws _ a _ (ap isAccepted refused ∙ p .refused) (p .answer ∙ sym refused)
 
       module _ {e : Event} (is : r ≡ Read e) where
         after-word : bufferAnswer ws w ≡ firstOf (notARing ws ∷ stateRefusals (decode ws) e)
@@ -90,13 +99,22 @@ module _ (ws : List ℕ) (w : ℕ) where
 
         pub not-a-ring : readsAsRing ws ≡ false → written NotARing ws ≡ playBuffer ws w
         unfolding playBuffer
-        not-a-ring n = refuses ws _ NotARing _ refl (after-word ∙ Refusals.here _ _ (ap not n))
+        not-a-ring n =
+            let six : bufferAnswer ws w ≡ 6 = after-word ∙ here _ _ (ap not n) in
+            refuses ws _ NotARing _ (ap isAccepted six) (sym six)
 
         pub an-event : readsAsRing ws ≡ true → eventOn ws e ≡ playBuffer ws w
         unfolding playBuffer
-        an-event t = rw (after-word, is-event w read e is .event, Refusals.next (notARing ws) (stateRefusals (decode ws) e) (ap not t))
+        an-event t = rw (after-word, is-event w read e is .event, next (notARing ws) (stateRefusals (decode ws) e) (ap not t))
 
--- ---- an event, by its case
+-- ---- an event, by its case, and its decision written
 
-pub of-event : (ws : List ℕ) {e d : Event} → e ≡ d → {q : Written} → q ≡ eventOn ws d → q ≡ eventOn ws e
-of-event ws i p = p ∙ ap (eventOn ws) (sym i)
+pub of-event : (ws : List ℕ) {e d : Event} → e ≡ d → {q : Decision} → Decides ws d q → Decides ws e q
+of-event ws i {q} p = subst (λ (e : Event). Decides ws e q) (sym i) p
+
+module _ (ws : List ℕ) (e : Event) (d : Decision) (is : Decides ws e d) where
+  pub not-written : isAccepted (firstOf (stateRefusals (decode ws) e)) ≡ false → written (d .answer) ws ≡ eventOn ws e
+  not-written r = refuses ws _ (d .answer) _ r (is .answer)
+
+  pub is-written : firstOf (stateRefusals (decode ws) e) ≡ 0 → {ws' : List ℕ} → ws' ≡ encode (changed (d .change) (decode ws)) → written (d .answer) ws' ≡ eventOn ws e
+  is-written z {ws'} w = accepts ws ws' _ (d .answer) _ z (is .answer) (w ∙ ap encode (is .leaves (is .answer ∙ z)))

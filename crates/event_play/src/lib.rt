@@ -1,17 +1,20 @@
-// Playing on words that are known to read as a ring: they are not looked at again.
+// An event, by its kind: decided, and played on words that are known to read as a ring, which are not looked at again.
 ghost use mathlib.Core.Path.{_≡_};
 ghost use mathlib.Core.Bool.{true};
 ghost use Rattle.model.specs.Words.{readsAsRing};
 ghost use Rattle.model.specs.Buffer.{playBuffer};
 ghost use Rattle.answers.specs.Applied.{written, eventOn};
+ghost use Rattle.event_act.specs.Changes.{Decides};
+use event_act::decision::Decision;
+use event_act::write;
 use model::answer::Answer;
 use model::event::Event;
 use model::event::Reading;
 
-// The event, by its function: 7 to 11.
-pub fn play_event(words: &mut [u32], e: Event) -> Answer
+// What the event would do: 7 to 11, or the change that it makes.
+pub fn decide(words: &[u32], e: Event) -> Decision
     requires ring { ⌜ readsAsRing (now words) ≡ true ⌝ }
-    ensures written { λ r. ⌜ written r (now (words .exit)) ≡ eventOn (now (words .entry)) e ⌝ }
+    ensures decides { λ r. ⌜ Decides (now (words .entry)) e r ⌝ }
 {
     match e {
         Event::On(x) => event_on_off::on(words, x),
@@ -22,6 +25,21 @@ pub fn play_event(words: &mut [u32], e: Event) -> Answer
         Event::Deliver(i) => event_message::deliver(words, i),
         Event::Lose(i) => event_message::lose(words, i),
     }
+}
+
+// Decides, then writes.
+pub fn play_event(words: &mut [u32], e: Event) -> Answer
+    requires ring { ⌜ readsAsRing (now words) ≡ true ⌝ }
+    ensures written { λ r. ⌜ written r (now (words .exit)) ≡ eventOn (now (words .entry)) e ⌝ }
+{
+    let decision = decide(words, e);
+    let answer = decision.answer;
+    if answers::is_refusal(answer) {
+        return answer;
+    }
+    let change = decision.change;
+    write::write(words, change);
+    answer
 }
 
 // 4 and 5 of the word, then those of the event.

@@ -1,64 +1,43 @@
-// The event timer, with its refusals from the state.
+// The event timer: what it would do, with its refusals from the state.
 ghost use mathlib.Core.Path.{_≡_};
 ghost use mathlib.Core.Bool.{true};
-ghost use Prim.Native.Nat.{_<_};
+ghost use Rattle.model.specs.Steps as steps;
+ghost use Rattle.model.specs.Structs.{ownOf};
 ghost use Rattle.model.specs.Words.{decode, readsAsRing};
-ghost use Rattle.model.specs.Play.{after};
 ghost use Rattle.model.specs.declared.event.Event.the-variants.{Timer};
+ghost use Rattle.records.specs.Effects.{Leaves};
 ghost use Rattle.event_act.specs.Acting.{IsActor};
-ghost use Rattle.answers.specs.Applied.{written, applied, eventOn};
+ghost use Rattle.event_act.specs.Changes.{Decides};
 use event_act::Actor;
-use event_act::apply;
-use model::answer::Answer;
+use event_act::decision;
+use event_act::decision::Decision;
+use event_act::decision::Taken;
 use model::values::NodeNumber;
+use records::effect::EffectRecord;
 
 // Timer k at node x. Above 4 no timer has a step: only the clock rises.
-pub fn timer(words: &mut [u32], x: NodeNumber, k: u8) -> Answer
+pub fn timer(words: &[u32], x: NodeNumber, k: u8) -> Decision
     requires ring { ⌜ readsAsRing (now words) ≡ true ⌝ }
-    ensures written { λ r. ⌜ written r (now (words .exit)) ≡ eventOn (now (words .entry)) (Timer x k) ⌝ }
+    ensures decides { λ r. ⌜ Decides (now (words .entry)) (Timer x k) r ⌝ }
 {
     let answer = event_act::may_act(words, x);
-    if answers::number(answer) != 0 {
-        return answer;
+    if answers::is_refusal(answer) {
+        return Decision::refused(answer);
     }
     let actor = event_act::load(words, x);
-    fire(words, x, k, actor)
+    let effect = step(words, x, k, actor);
+    decision::acting(actor.m, Taken::Nothing, x, actor.time, effect)
 }
 
-// The step of timer k, by the node x, which may act.
-fn fire(words: &mut [u32], x: NodeNumber, k: u8, actor: Actor) -> Answer
+// The step of timer k, by the node x.
+fn step(words: &[u32], x: NodeNumber, k: u8, actor: Actor) -> EffectRecord
     requires ring { ⌜ readsAsRing (now words) ≡ true ⌝ }
     requires actor { ⌜ IsActor (now words) (x .0) actor ⌝ }
-    ensures written { λ r. ⌜ written r (now (words .exit))
-        ≡ applied (now (words .entry)) (after (decode (now (words .entry))) (Timer x k)) ⌝ }
+    ensures effect { λ r. ⌜ Leaves (actor .n) (x .0) (actor .time .0) r
+        (steps.timer (decode (now (words .entry)) .table) (x .0) (actor .time .0) (ownOf (actor .own)) k) ⌝ }
 {
     let n = actor.n;
-    let m = actor.m;
-    let time = actor.time;
-    let own = actor.own;
     let leaf = ring_head::leaf(words);
     let keys = ring_head::keys(words, n);
-    let table = &keys[..n];
-    if k < 3 {
-        return apply::calls(
-            words,
-            n,
-            m,
-            x,
-            time,
-            step_dispatch::calling(table, leaf, x, own, k),
-        );
-    }
-    if k == 3 {
-        let to = step_replace::timer3(table, leaf, x, own);
-        return apply::requests(words, n, m, x, time, own, to);
-    }
-    apply::reply(
-        words,
-        n,
-        m,
-        x,
-        time,
-        step_dispatch::replying(table, x, own, k),
-    )
+    step_dispatch::timer(&keys[..n], leaf, x, actor.own, k)
 }

@@ -14,9 +14,9 @@ use Rattle.model.specs.Buffer.{wrongLength, notARing}
 use Rattle.model.specs.Play.{noNode}
 use Rattle.model.specs.Questions.{leafsetAnswer, leafsetOf, connectionAnswer, connectionOf}
 use Rattle.model.proofs.Laws.{decide, is-false}
-use Rattle.model.proofs.Answers.{accepted-is}
+use Rattle.model.proofs.Answers.{accepted-is, here, later}
 use Rattle.answers.proofs.Valid.{few}
-use Rattle.answers.proofs.Refusals.{here, later, no-ring, out-of-table}
+use Rattle.answers.proofs.Refusals.{no-ring, out-of-table}
 use Rattle.call_questions.proofs.Asked
 use Rattle.mekvalgs.specs.Nodes.{nodeOf}
 

@@ -2,7 +2,6 @@
 // returns beside it is written through a reference.
 ghost use mathlib.Core.Path.{_≡_};
 ghost use Rattle.model.specs.Fields.{bit};
-ghost use Rattle.model.specs.Answers.{numberOf};
 ghost use Rattle.model.specs.Structs.{tableOf};
 ghost use Rattle.model.specs.Buffer.{openBuffer, playBuffer};
 ghost use Rattle.model.specs.Questions.{leafsetAnswer, leafsetOf, connectionAnswer, connectionOf, groupsAnswer, groupsOf};
@@ -18,8 +17,7 @@ use model::values::NodeNumber;
 // Writes the initial ring of `leaf` and the keys.
 #[no_mangle]
 pub extern "C" fn mekvalgs_open(words: &mut [u32], leaf: u32, keys: &[u32]) -> u32
-    ensures answer { λ r. ⌜ r
-        ≡ numberOf (openBuffer (now (words .entry)) (tableOf leaf (now (keys .entry))) .answer) ⌝ }
+    ensures answer { λ r. ⌜ r ≡ openBuffer (now (words .entry)) (tableOf leaf (now (keys .entry))) .answer ⌝ }
     ensures words { λ r. ⌜ now (words .exit)
         ≡ openBuffer (now (words .entry)) (tableOf leaf (now (keys .entry))) .words ⌝ }
 {
@@ -29,7 +27,7 @@ pub extern "C" fn mekvalgs_open(words: &mut [u32], leaf: u32, keys: &[u32]) -> u
 // Plays an event word.
 #[no_mangle]
 pub extern "C" fn mekvalgs_play(words: &mut [u32], word: u32) -> u32
-    ensures answer { λ r. ⌜ r ≡ numberOf (playBuffer (now (words .entry)) word .answer) ⌝ }
+    ensures answer { λ r. ⌜ r ≡ playBuffer (now (words .entry)) word .answer ⌝ }
     ensures words { λ r. ⌜ now (words .exit) ≡ playBuffer (now (words .entry)) word .words ⌝ }
 {
     answers::number(call_play::play(words, word))
@@ -44,11 +42,8 @@ pub extern "C" fn mekvalgs_replay(
     script: &[u32],
     answers: &mut [u8],
 ) -> u32
-    ensures answer { λ r. ⌜ r
-        ≡ numberOf (openBuffer (now (words .entry)) (tableOf leaf (now (keys .entry))) .answer) ⌝ }
     ensures replayed { λ r. ⌜ Replayed (now (words .entry)) (tableOf leaf (now (keys .entry))) (now (script .entry))
-        (now (answers .entry)) (openBuffer (now (words .entry)) (tableOf leaf (now (keys .entry))) .answer)
-        (now (words .exit)) (now (answers .exit)) ⌝ }
+        (now (answers .entry)) r (now (words .exit)) (now (answers .exit)) ⌝ }
 {
     answers::number(call_play::replay(words, leaf, keys, script, answers))
 }
@@ -56,7 +51,7 @@ pub extern "C" fn mekvalgs_replay(
 // The leafset of node x in its held set.
 #[no_mangle]
 pub extern "C" fn mekvalgs_leafset(words: &[u32], x: u32, set: &mut u64) -> u32
-    ensures answer { λ r. ⌜ r ≡ numberOf (leafsetAnswer (now (words .entry)) x) ⌝ }
+    ensures answer { λ r. ⌜ r ≡ leafsetAnswer (now (words .entry)) x ⌝ }
     ensures set { λ r. ⌜ now (set .exit) ≡ leafsetOf (now (words .entry)) x ⌝ }
 {
     let asked = call_questions::leafset_of(words, node(x));
@@ -68,7 +63,7 @@ pub extern "C" fn mekvalgs_leafset(words: &[u32], x: u32, set: &mut u64) -> u32
 // Whether a and b are connected: 1, or 0.
 #[no_mangle]
 pub extern "C" fn mekvalgs_connected(words: &[u32], a: u32, b: u32, connected: &mut u32) -> u32
-    ensures answer { λ r. ⌜ r ≡ numberOf (connectionAnswer (now (words .entry)) a b) ⌝ }
+    ensures answer { λ r. ⌜ r ≡ connectionAnswer (now (words .entry)) a b ⌝ }
     ensures connected { λ r. ⌜ now (connected .exit) ≡ bit (connectionOf (now (words .entry)) a b) ⌝ }
     ensures yes { λ r. ⌜ (r ≡ 0 → now (connected .exit) ≡ 1 → Connected (decode (now (words .entry))) a b) ⌝ }
     ensures no { λ r. ⌜ (r ≡ 0 → now (connected .exit) ≡ 0 → Connected (decode (now (words .entry))) a b → ⊥) ⌝ }
@@ -82,7 +77,7 @@ pub extern "C" fn mekvalgs_connected(words: &[u32], a: u32, b: u32, connected: &
 // The number of groups.
 #[no_mangle]
 pub extern "C" fn mekvalgs_groups(words: &[u32], groups: &mut u32) -> u32
-    ensures answer { λ r. ⌜ r ≡ numberOf (groupsAnswer (now (words .entry))) ⌝ }
+    ensures answer { λ r. ⌜ r ≡ groupsAnswer (now (words .entry)) ⌝ }
     ensures groups { λ r. ⌜ now (groups .exit) ≡ groupsOf (now (words .entry)) ⌝ }
 {
     let asked = call_questions::groups(words);
@@ -99,7 +94,7 @@ pub extern "C" fn mekvalgs_read_event(
     first: &mut u32,
     second: &mut u32,
 ) -> u32
-    ensures answer { λ r. ⌜ r ≡ numberOf (wordAnswer word) ⌝ }
+    ensures answer { λ r. ⌜ r ≡ wordAnswer word ⌝ }
     ensures parts { λ r. ⌜ numbers (now (kind .exit)) (now (first .exit)) (now (second .exit)) ≡ readParts word ⌝ }
 {
     let read = mekvalgs_event::read(word);
@@ -114,7 +109,7 @@ pub extern "C" fn mekvalgs_read_event(
 // The word of the event with that kind, node or position, and other node or timer.
 #[no_mangle]
 pub extern "C" fn mekvalgs_write_event(kind: u32, first: u32, second: u32, word: &mut u32) -> u32
-    ensures answer { λ r. ⌜ r ≡ numberOf (partsAnswer (numbers kind first second)) ⌝ }
+    ensures answer { λ r. ⌜ r ≡ partsAnswer (numbers kind first second) ⌝ }
     ensures word { λ r. ⌜ now (word .exit) ≡ writeParts (numbers kind first second) ⌝ }
 {
     let written = mekvalgs_event::write(mekvalgs_event::make(kind, first, second));

@@ -2,6 +2,7 @@
 use mathlib.Core.Path.{_≡_, refl, sym, ap, _∙_}
 use mathlib.Core.Logic.{_⊎_, ⊎-elim}
 use mathlib.Core.Bool.{Bool, true, false, _&&_, _||_}
+use mathlib.Core.List.{[], _∷_}
 use Prim.Native.Nat.{ℕ, suc, _-_, _≤_, _<_}
 use native.Mathlib.Omega.{arith}
 use native.Mathlib.Decide.{decLt, ℕ-discrete}
@@ -9,13 +10,11 @@ use lib.Dec.{ltb, leb, eqb}
 use borrow.Author.Tests.{ltb-true, leb-true}
 use Rattle.model.specs.Choice.{if_then_else_}
 use Rattle.model.specs.Words.{between}
-use Rattle.model.specs.Answers.{firstOf, isAccepted}
-use Rattle.model.specs.Events.{eventOf, partsFit, eventAnswer, writeEvent, wordAnswer, readEvent}
+use Rattle.model.specs.Answers.{firstOf, isAccepted, numberOf}
+use Rattle.model.specs.Events.{ReadWord, eventOf, partsFit, eventAnswer, writeEvent, wordAnswer, readEvent, readingOf}
 use Rattle.model.specs.declared.answer.Answer.{Answer}
-use Rattle.model.specs.declared.answer.Answer.the-variants.{Accepted, NotAnEvent}
 use Rattle.model.specs.declared.event.Event.{Event}
 use Rattle.model.specs.declared.event.Reading.the-variants.{Read, Refused}
-use Rattle.model.proofs.Answers.{accepted-is}
 use Rattle.model.proofs.Laws.{and-left, and-right, between-low, between-high, is-false}
 use Rattle.mekvalgs_event.specs.Parts.{numbers, partsOf, readParts, eventOfParts, partsAre, partsAnswer, writeParts}
 use Rattle.mekvalgs_event.specs.declared.Parts.{Parts}
@@ -96,7 +95,7 @@ module _ (k first second : ℕ) where
 
   -- ---- writing
 
-  pub write-refused : partsAre p ≡ false → (NotAnEvent ≡ partsAnswer p) × (0 ≡ writeParts p)
+  pub write-refused : partsAre p ≡ false → (4 ≡ partsAnswer p) × (0 ≡ writeParts p)
   unfolding partsAnswer writeParts firstOf
   write-refused e = (rw e, rw e)
 
@@ -106,20 +105,18 @@ module _ (k first second : ℕ) where
 
 -- ---- reading
 
-pub read-given : (w : ℕ) (e : Event) → readEvent w ≡ Read e → (Accepted ≡ wordAnswer w) × (partsOf e ≡ readParts w)
+pub read-given : (w : ℕ) (e : Event) → readingOf (Read e) ≡ readEvent w → (0 ≡ wordAnswer w) × (partsOf e ≡ readParts w)
 unfolding readEvent readParts
-read-given w e h = by-answer (isAccepted (wordAnswer w)) refl h
-  where
-    by-answer : (b : Bool) → isAccepted (wordAnswer w) ≡ b → (if b then Read (eventOf w) else Refused (wordAnswer w)) ≡ Read e
-        → (Accepted ≡ wordAnswer w) × (partsOf e ≡ (if b then partsOf (eventOf w) else numbers 0 0 0))
-    by-answer true a q = let i : eventOf w ≡ e = cc in (sym (accepted-is (wordAnswer w) a), ap partsOf (sym i))
-    by-answer false a q = absurd (let z : _≡_ {A = ℕ} 0 1 = cc in omega arith)
+read-given w e h =
+    let z : wordAnswer w ≡ 0 = sym (ap (λ (q : ReadWord). q .answer) h) in
+    let l : (e ∷ []) ≡ (eventOf w ∷ []) = rw z at (ap (λ (q : ReadWord). q .event) h) in
+    let i : e ≡ eventOf w = cc in
+    (sym z, rw z (ap partsOf i))
 
-pub read-refused : (w : ℕ) (a : Answer) → readEvent w ≡ Refused a → (a ≡ wordAnswer w) × (numbers 0 0 0 ≡ readParts w)
+pub read-refused : (w : ℕ) (a : Answer) → readingOf (Refused a) ≡ readEvent w → (numberOf a ≡ wordAnswer w) × (numbers 0 0 0 ≡ readParts w)
 unfolding readEvent readParts
-read-refused w a h = by-answer (isAccepted (wordAnswer w)) h
+read-refused w a h = (ap (λ (q : ReadWord). q .answer) h, by-answer (isAccepted (wordAnswer w)) (ap (λ (q : ReadWord). q .event) h))
   where
-    by-answer : (b : Bool) → (if b then Read (eventOf w) else Refused (wordAnswer w)) ≡ Refused a
-        → (a ≡ wordAnswer w) × (numbers 0 0 0 ≡ (if b then partsOf (eventOf w) else numbers 0 0 0))
+    by-answer : (b : Bool) → [] ≡ (if b then eventOf w ∷ [] else []) → numbers 0 0 0 ≡ (if b then partsOf (eventOf w) else numbers 0 0 0)
     by-answer true q = absurd (let z : _≡_ {A = ℕ} 0 1 = cc in omega arith)
-    by-answer false q = let i : wordAnswer w ≡ a = cc in (sym i, refl)
+    by-answer false q = refl

@@ -8,8 +8,7 @@ use lib.Dec.{ltb, eqb}
 use borrow.Author.Tests.{eqb-true}
 use Rattle.model.specs.WellFormed.{nil, cons}
 use Rattle.model.specs.Answers.{firstOf}
-use Rattle.model.specs.Events.{wordOf, eventOf, partsFit, wordAnswer, readEvent}
-use Rattle.model.specs.declared.answer.Answer.the-variants.{Accepted}
+use Rattle.model.specs.Events.{wordOf, eventOf, partsFit, wordAnswer, readEvent, readingOf}
 use Rattle.model.specs.declared.event.Event.{Event}
 use Rattle.model.specs.declared.event.Event.the-variants.{On, Off, Notice, Contact, Timer, Deliver, Lose}
 use Rattle.model.specs.declared.event.Reading.the-variants.{Read}
@@ -75,34 +74,34 @@ numbers-are (Lose i) = refl
 
 -- ---- both ways
 
-accepted-are : (p : Parts) → partsAnswer p ≡ Accepted → partsAre p ≡ true
+accepted-are : (p : Parts) → partsAnswer p ≡ 0 → partsAre p ≡ true
 unfolding partsAnswer
 accepted-are p a = not-out-false (partsAre p) (first (none-applies (partsRefusals p) (cons refl (cons refl nil)) a))
 
-written-numbers : (e : Event) → Writable e → (partsAnswer (partsOf e) ≡ Accepted) × (writeParts (partsOf e) ≡ wordOf e)
+written-numbers : (e : Event) → Writable e → (partsAnswer (partsOf e) ≡ 0) × (writeParts (partsOf e) ≡ wordOf e)
 unfolding partsAnswer writeParts firstOf
 written-numbers e g = (rw (numbers-are e, g .parts-fit, event-of e, g .differ), rw (numbers-are e, g .parts-fit, event-of e, g .differ))
 
 -- three numbers that are accepted give a word, which reads back as these three
-pub parts-read-back : (p : Parts) → partsAnswer p ≡ Accepted → (wordAnswer (writeParts p) ≡ Accepted) × (readParts (writeParts p) ≡ p)
+pub parts-read-back : (p : Parts) → partsAnswer p ≡ 0 → (wordAnswer (writeParts p) ≡ 0) × (readParts (writeParts p) ≡ p)
 parts-read-back p a =
     let e : Event = eventOfParts p in
     let t : partsAre p ≡ true = accepted-are p a in
     let g = write-given (p .kind) (p .first) (p .second) t in
-    let q = read-given (writeParts p) e (ap readEvent (sym (g .1)) ∙ written-reads e (g .0 ∙ a)) in
+    let q = read-given (writeParts p) e (sym (ap readEvent (sym (g .1)) ∙ written-reads e (g .0 ∙ a))) in
     (sym (q .0), sym (q .1) ∙ of-their-event (p .kind) (p .first) (p .second) t)
 
 -- a word that reads as an event gives three numbers, which are accepted and write that word
-pub word-writes-back : (w : ℕ) → wordAnswer w ≡ Accepted → (partsAnswer (readParts w) ≡ Accepted) × (writeParts (readParts w) ≡ w)
+pub word-writes-back : (w : ℕ) → wordAnswer w ≡ 0 → (partsAnswer (readParts w) ≡ 0) × (writeParts (readParts w) ≡ w)
 unfolding readEvent
 word-writes-back w a =
     let e : Event = eventOf w in
-    let h : readEvent w ≡ Read e = rw a in
+    let h : readEvent w ≡ readingOf (Read e) = rw a in
     let g : EventWord w e = reads-as w e h in
-    let n : readParts w ≡ partsOf e = sym (read-given w e h .1) in
+    let n : readParts w ≡ partsOf e = sym (read-given w e (sym h) .1) in
     let q = written-numbers e (g .well) in
     (ap partsAnswer n ∙ q .0, ap writeParts n ∙ q .1 ∙ sym (g .word))
 
 -- and two times three numbers that are accepted and write one word are the same three
-pub one-triple : (p q : Parts) → partsAnswer p ≡ Accepted → partsAnswer q ≡ Accepted → writeParts p ≡ writeParts q → p ≡ q
+pub one-triple : (p q : Parts) → partsAnswer p ≡ 0 → partsAnswer q ≡ 0 → writeParts p ≡ writeParts q → p ≡ q
 one-triple p q a b e = sym (parts-read-back p a .1) ∙ ap readParts e ∙ parts-read-back q b .1

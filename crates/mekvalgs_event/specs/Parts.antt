@@ -8,8 +8,6 @@ use Rattle.model.specs.Choice.{if_then_else_}
 use Rattle.model.specs.Words.{between}
 use Rattle.model.specs.Answers.{Refusal, firstOf, isAccepted}
 use Rattle.model.specs.Events.{wordOf, eventOf, partsFit, sameNode, wordAnswer}
-use Rattle.model.specs.declared.answer.Answer.{Answer}
-use Rattle.model.specs.declared.answer.Answer.the-variants.{NotAnEvent, SameNode}
 use Rattle.model.specs.declared.event.Event.{Event}
 use Rattle.model.specs.declared.event.Event.the-variants.{On, Off, Notice, Contact, Timer, Deliver, Lose}
 use Rattle.model.specs.declared.values.NodeNumber.{NodeNumber}
@@ -48,12 +46,9 @@ partsAre p = between 9 15 (p .kind) && (between 11 13 (p .kind) || eqb (p .secon
 
 -- "4. Not an event: kind, timer ..; when writing, a part too big. 5. Contact or notice where both stands are one."
 abbrev pub partsRefusals : Parts → List Refusal
-partsRefusals p =
-    record { refusal = NotAnEvent; applies = not (partsAre p) }
-    ∷ record { refusal = SameNode; applies = sameNode (eventOfParts p) }
-    ∷ []
+partsRefusals p = record { number = 4; applies = not (partsAre p) } ∷ record { number = 5; applies = sameNode (eventOfParts p) } ∷ []
 
-unfoldable pub partsAnswer : Parts → Answer
+unfoldable pub partsAnswer : Parts → ℕ
 partsAnswer p = firstOf (partsRefusals p)
 
 -- writing a word, "a word writer 0" when refused

@@ -1,6 +1,7 @@
 // Events as C's numbers.
 ghost use mathlib.Core.Path.{_≡_};
 ghost use mathlib.Core.Bool.{true};
+ghost use Rattle.model.specs.Answers.{numberOf};
 ghost use Rattle.model.specs.Events.{wordAnswer};
 ghost use Rattle.mekvalgs_event.specs.Parts.{numbers, partsOf, readParts, partsAre, eventOfParts, partsAnswer, writeParts};
 use model::answer::Answer;
@@ -27,7 +28,7 @@ pub struct PartsRead {
 
 // The numbers of the event of a word, or refusal 4 or 5.
 pub fn read(word: u32) -> PartsRead
-    ensures answer { λ r. ⌜ r .answer ≡ wordAnswer word ⌝ }
+    ensures answer { λ r. ⌜ numberOf (r .answer) ≡ wordAnswer word ⌝ }
     ensures parts { λ r. ⌜ r .parts ≡ readParts word ⌝ }
 {
     let reading = read_event(word);
@@ -45,7 +46,7 @@ pub fn read(word: u32) -> PartsRead
 
 // The word of the event of the numbers, or refusal 4 or 5.
 pub fn write(p: Parts) -> Writing
-    ensures answer { λ r. ⌜ r .answer ≡ partsAnswer p ⌝ }
+    ensures answer { λ r. ⌜ numberOf (r .answer) ≡ partsAnswer p ⌝ }
     ensures word { λ r. ⌜ r .word ≡ writeParts p ⌝ }
 {
     if !fit(p) {

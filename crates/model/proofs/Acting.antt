@@ -8,7 +8,7 @@ use mathlib.Core.Bool.{Bool, true, false, not, _&&_, _||_}
 use mathlib.Core.List.{List, [], _∷_, _++_, map, List·Memᴰ, List·Memᴰ·head, List·Memᴰ·tail, List·Memᴰ·append-cases, List·Memᴰ·cases-cons, List·Memᴰ·eq-of-singleton, List·Memᴰ·not-nil}
 use lib.ListN.{getD, take, drop}
 use lib.Dec.{eqb, ltb}
-use borrow.Author.Tests.{eqb-true, eq-eqb, ne-eqb, ltb-true}
+use borrow.Author.Tests.{eqb-true, eqb-false, eq-eqb, ne-eqb, ltb-true}
 use Rattle.model.specs.Choice.{if_then_else_}
 use Rattle.model.specs.Sets.{Set, with, put, members, some, noneNode}
 use Rattle.model.specs.Leafset.{Table, size, leafset, passesZero}
@@ -19,7 +19,7 @@ use Rattle.model.specs.Play.{setNode, setMessages, removeMessage, act, a
 use Rattle.model.specs.ConnectivityPreserved.{Harmless}
 use Rattle.model.specs.declared.event.Event.{Event}
 use Rattle.model.specs.declared.event.Event.the-variants.{On, Off, Notice, Contact, Timer, Deliver, Lose}
-use Rattle.model.proofs.Laws.{clash, and-right, or-left, or-right, if-law, put-law, put-each, put-here, put-else}
+use Rattle.model.proofs.Laws.{clash, and-left, and-right, or-left, or-right, or-case, not-out, if-law, put-law, put-each, put-here, put-else}
 use Rattle.model.proofs.Lists.{item, end, listed-at}
 use Rattle.model.proofs.Cut.{commit, clock, Acknowledgement, Young, Kept, EachPair, Change, quiet, answers, trades, Step}
 
@@ -98,6 +98,10 @@ module _ (r : Ring) (x : ℕ) where
   abbrev KeptIn : Own → ℕ → Type 0
   KeptIn p z = (p .held z ≡ true) × ((p .commit z ≡ own .commit z) ⊎ (p .commit z ≡ now))
 
+  -- what the record p holds anew has the commit now
+  abbrev NewlyIn : Own → Type 0
+  NewlyIn p = (z : ℕ) → own .held z ≡ false → p .held z ≡ true → p .commit z ≡ now
+
   -- the requests that x sends have the stamp now
   abbrev Asks : Effect → Type 0
   Asks e = (m : Message) → List·Memᴰ m (e .sent) → m .type ≡ pingReplace → (m .sender ≡ x) × (m .stamp ≡ now)
@@ -106,6 +110,7 @@ module _ (r : Ring) (x : ℕ) where
   record Law (e : Effect) : Type 0 where
     asks : Asks e
     change : (ms : List Message) → Part ms (r .messages) → Change r (acted ms e)
+    newly : NewlyIn (e .own)
 
   renew : (p : Own) (z : ℕ) → KeptIn p z → (p .held z ≡ true) × ((p .commit z ≡ own .commit z) ⊎ (clock r x < p .commit z))
   renew p z k = (k .0, elim (k .1) [ inl o ↦ inl o | inr n ↦ inr (omega arith) ])
@@ -145,6 +150,9 @@ module _ (r : Ring) (x : ℕ) where
           running = put-each (λ a n. n .running ≡ isRunning r a) (r .node) x (actor e) refl (λ a d. refl);
           clocks = clocks;
           change = law .change ms part;
+          newly = λ a z.
+              put-each (λ b n. holds r b z ≡ false → n .own .held z ≡ true → clock r b < n .own .commit z) (r .node) x (actor e)
+              (λ f h. omega (arith, law .newly z f h)) (λ b d f h. clash h f) a;
         }
 
     acted-requests : Asks e → Requests r → Requests (acted ms e)
@@ -164,12 +172,17 @@ module _ (r : Ring) (x : ℕ) where
       (e : Effect) → Asks e
       → ((z : ℕ) → isRunning r z ≡ true → own .held z ≡ true → KeptIn (e .own) z)
       → ((m : Message) → List·Memᴰ m (e .sent) → ¬ (m .type ≡ pongReplace))
+      → NewlyIn (e .own)
       → Law e
-  quietly e asks k n = record { asks = asks; change = λ ms part. quiet (kept ms part e k) (acks-old ms part e n) }
+  quietly e asks k n newly = record { asks = asks; change = λ ms part. quiet (kept ms part e k) (acks-old ms part e n); newly = newly }
 
   -- an effect that sends nothing
-  silently : (p : Own) → ((z : ℕ) → isRunning r z ≡ true → own .held z ≡ true → KeptIn p z) → Law (record { own = p; sent = [] })
-  silently p k = quietly (record { own = p; sent = [] }) (λ m. absent) k (λ m. absent)
+  silently : (p : Own) → ((z : ℕ) → isRunning r z ≡ true → own .held z ≡ true → KeptIn p z) → NewlyIn p → Law (record { own = p; sent = [] })
+  silently p k newly = quietly (record { own = p; sent = [] }) (λ m. absent) k (λ m. absent) newly
+
+  -- where the held set stays, nothing is held anew
+  none-new : NewlyIn own
+  none-new z f h = clash h f
 
   -- ---- the handlers
 
@@ -189,7 +202,7 @@ module _ (r : Ring) (x : ℕ) where
   -- the record stays but for the candidates, and each message is plain
   calm : (S : Set) (sent : List Message) → ((m : Message) → List·Memᴰ m sent → Plain m) → Law (record { own = setCandidates S own; sent = sent })
   calm S sent f =
-      quietly (record { own = setCandidates S own; sent = sent }) (λ m h e. absurd (plain-not pingReplace m refl (f m h) e)) (λ z rz h. (h, inl refl)) (λ m h. plain-not pongReplace m refl (f m h))
+      quietly (record { own = setCandidates S own; sent = sent }) (λ m h e. absurd (plain-not pingReplace m refl (f m h) e)) (λ z rz h. (h, inl refl)) (λ m h. plain-not pongReplace m refl (f m h)) none-new
 
   calm-none : (S : Set) → Law (record { own = setCandidates S own; sent = [] })
   calm-none S = calm S [] (λ m. absent)
@@ -218,23 +231,34 @@ module _ (r : Ring) (x : ℕ) where
   commit-kept : (p : Own) (y b : ℕ) → KeptIn p b → KeptIn (setCommit y now p) b
   commit-kept p y b k = (k .0, put-kept p y b (k .1))
 
+  release-newly : (p : Own) (z : ℕ) → NewlyIn p → NewlyIn (release z p)
+  unfolding release
+  release-newly p z k b f h =
+      put-else (p .commit) z 0 b (eqb-false b z (not-out (eqb b z) (and-right (p .held b) (not (eqb b z)) h)))
+      ∙ k b f (and-left (p .held b) (not (eqb b z)) h)
+
+  commit-newly : (p : Own) (y : ℕ) → NewlyIn p → NewlyIn (setCommit y now p)
+  commit-newly p y k b f h = put-law (λ v. v ≡ now) (p .commit) y now b (λ i. refl) (λ d. k b f h)
+
   -- y held
   record Taken (y : ℕ) (p : Own) : Type 0 where
     has : p .held y ≡ true
     keeps : (z : ℕ) → own .held z ≡ true → KeptIn p z
+    newly : NewlyIn p
 
   hold-taken : (y : ℕ) → Taken y (hold now y own)
   unfolding hold
   hold-taken y =
       if-law (Taken y) (own .held y) own _
-      (λ e. record { has = e; keeps = λ z h. (h, inl refl) })
+      (λ e. record { has = e; keeps = λ z h. (h, inl refl); newly = none-new })
       (λ e. record {
         has = or-right (own .held y) (eq-eqb y y refl);
         keeps = λ z h. (or-left (eqb z y) h, inl (put-else (own .commit) y _ z (λ i. clash h (ap (own .held) i ∙ e))));
+        newly = λ z f h. or-case (own .held z) (eqb z y) h (λ t. clash t f) (λ q. rw q);
       })
 
   law-hold : (y : ℕ) → Law (record { own = hold now y own; sent = [] })
-  law-hold y = silently (hold now y own) (λ z rz. hold-taken y .keeps z)
+  law-hold y = silently (hold now y own) (λ z rz. hold-taken y .keeps z) (hold-taken y .newly)
 
   -- ---- notice, contact, timers
 
@@ -247,7 +271,7 @@ module _ (r : Ring) (x : ℕ) where
   unfolding notice
   law-notice z off =
       tested (own .held z)
-      (λ h. silently (release z own) (λ b rb k. release-kept own z b (λ e. clash rb (ap (isRunning r) e ∙ off)) (k, inl refl)))
+      (λ h. silently (release z own) (λ b rb k. release-kept own z b (λ e. clash rb (ap (isRunning r) e ∙ off)) (k, inl refl)) (release-newly own z none-new))
       nothing
 
   law-contact : (y : ℕ) → Law (contact t x now own y)
@@ -269,7 +293,7 @@ module _ (r : Ring) (x : ℕ) where
   -- requests: their stamp is now
   law-timer3 : Law (timer3 t x now own)
   unfolding timer3
-  law-timer3 = quietly _ (λ m h nine. let q = out m h in rw (q .1) (refl, refl)) (λ z rz h. (h, inl refl)) (λ m h ten. let q = out m h in no-ten (q .0) (sym (ap (λ (a : Message). a .type) (q .1)) ∙ ten))
+  law-timer3 = quietly _ (λ m h nine. let q = out m h in rw (q .1) (refl, refl)) (λ z rz h. (h, inl refl)) (λ m h ten. let q = out m h in no-ten (q .0) (sym (ap (λ (a : Message). a .type) (q .1)) ∙ ten)) none-new
     where
       request : ℕ → Message
       request z = stamped pingReplace x (own .spare z) z now
@@ -339,12 +363,12 @@ module _ (r : Ring) (x : ℕ) where
 
       law-on-pong-ask-repl : Law (onPongAskRepl t x now own m)
       unfolding onPongAskRepl
-      law-on-pong-ask-repl = tested (own .held y) (λ h. silently _ (λ b rb k. (k, inl refl))) nothing
+      law-on-pong-ask-repl = tested (own .held y) (λ h. silently _ (λ b rb k. (k, inl refl)) none-new) nothing
 
       -- a request answered: the commit to z is now, and the acknowledgement is the one message sent
       law-on-ping-replace : m .type ≡ pingReplace → Law (onPingReplace t x now own m)
       unfolding onPingReplace
-      law-on-ping-replace nine = tested (own .held z) (λ held. record { asks = asks; change = change held }) nothing
+      law-on-ping-replace nine = tested (own .held z) (λ held. record { asks = asks; change = change held; newly = commit-newly own z none-new }) nothing
         where
           acknowledgement : Message
           acknowledgement = stamped pongReplace x y z (m .stamp)
@@ -382,13 +406,17 @@ module _ (r : Ring) (x : ℕ) where
       unfolding trade
       trade-commit = put-here (release z (hold now y own) .commit) y now
 
+      trade-newly : NewlyIn trade
+      unfolding trade
+      trade-newly = commit-newly (release z (hold now y own)) y (release-newly (hold now y own) z (hold-taken y .newly))
+
       -- the spare of z is another than z
       spare-differs : {n b : ℕ} → n ≤ 64 → b < n → Spare n x z b → ¬ (b ≡ z)
       spare-differs high h none = absurd (omega arith)
       spare-differs high h (spare k d) = d
 
       law-trade : m .type ≡ pongReplace → own .spare z ≡ y → own .commit z < m .stamp → Law (record { own = trade; sent = [] })
-      law-trade ten spare-is old = record { asks = λ a. absent; change = change }
+      law-trade ten spare-is old = record { asks = λ a. absent; change = change; newly = trade-newly }
         where
           effect : Effect
           effect = record { own = trade; sent = [] }
@@ -461,6 +489,7 @@ thinned r ms part =
       running = λ a. refl;
       clocks = λ a. omega arith;
       change = quiet (λ a z ra rz h. (h, inl refl)) (λ m a. (part m (a .0), a .1));
+      newly = λ a z f h. clash h f;
     }
 
 pub unchanged : (r : Ring) → Step r r

@@ -46,7 +46,7 @@ lowest-law P n S p q = go (members n S) (members-are n S)
     go [] e = p
     go (y ∷ l) (cons m e) = q y m
 
-some-members : (n : ℕ) (S : Set) (y : ℕ) → Member n S y → 0 < length (members n S)
+pub some-members : (n : ℕ) (S : Set) (y : ℕ) → Member n S y → 0 < length (members n S)
 unfolding members
 some-members zero S y m = absurd (not-suc-le-zero (m .below))
 some-members (suc n) S y m =

@@ -1,34 +1,53 @@
 -- Demand 3: no list of event words parts two running nodes.
 use mathlib.Core.Path.{_≡_, refl, ap, _∙_}
+use mathlib.Core.Logic.{_↔_}
 use Prim.Native.Nat.{ℕ, zero, suc, _≤_, _<_}
-use native.Mathlib.Nat.{le-of-suc-le-suc, not-suc-le-zero}
+use native.Mathlib.Nat.{le-refl, le-of-suc-le-suc, not-suc-le-zero}
 use native.Mathlib.Omega.{arith}
 use native.Mathlib.Decide.{ℕ-discrete}
+use mathlib.Core.Bool.{Bool, true, not, _&&_}
 use mathlib.Core.List.{List, [], _∷_}
 use lib.ListN.{length, getD, take}
+use lib.Dec.{leb}
+use borrow.Author.Tests.{leb-true, le-leb}
+use Rattle.model.specs.Sets.{Set, some}
 use Rattle.model.specs.Leafset.{Table}
-use Rattle.model.specs.Ring.{Ring, initial}
-use Rattle.model.specs.WellFormed.{WellFormed}
+use Rattle.model.specs.Ring.{Ring, initial, isRunning}
+use Rattle.model.specs.WellFormed.{WellFormed, Each}
 use Rattle.model.specs.Answers.{isAccepted}
 use Rattle.model.specs.Events.{eventOf}
 use Rattle.model.specs.Words.{encode, decode}
 use Rattle.model.specs.Play.{after, playAnswer, playWord, playAll}
 use Rattle.model.specs.Buffer.{Written, openBuffer, playBuffer, playBufferAll}
-use Rattle.model.specs.ConnectivityPreserved.{Harmless, wordsAt, ringAt, readAt, Unbroken, ConnectivityPreserved}
-use Rattle.model.specs.declared.answer.Answer.the-variants.{Accepted}
-use Rattle.model.proofs.Laws.{if-law}
+use Rattle.model.specs.ConnectivityPreserved.{NoAcknowledgement, Harmless, isHarmless, wordsAt, ringAt, readAt, AcceptedIsHarmless, Uncovered, isUncovered, uncovered, Unbroken, ConnectivityPreserved}
+use Rattle.model.specs.Connection.{Connected}
+use Rattle.model.specs.declared.event.Event.{Event}
+use Rattle.model.specs.declared.event.Event.the-variants.{On, Off, Notice, Contact, Timer, Deliver, Lose}
+use Rattle.model.proofs.Laws.{clash, and-left, and-right, and-in, not-in, not-out, decide, if-law, some-in, some-out}
+use Rattle.model.proofs.Lists.{each-imp}
+use Rattle.model.proofs.Choices.{Member, members-are, some-members}
 use Rattle.model.proofs.Answers.{accepted-is}
 use Rattle.model.proofs.RoundTrip.{round-trip}
 use Rattle.model.proofs.WellFormedPlay.{list-well}
 use Rattle.model.proofs.Follows.{follows, list-follows, opened-well, opened-words}
-use Rattle.model.proofs.Cut.{Step, Steps, stay, more, never-parted}
+use Rattle.model.proofs.Cut.{Step, Steps, stay, more, at-point, intact-steps, never-parted}
 use Rattle.model.proofs.Acting.{Requests, event-step, event-requests, initial-requests, unchanged}
 
 -- ---- a word
 
+-- the test decides the definition
+harmless-decides : (r : Ring) (e : Event) → (isHarmless r e ≡ true) ↔ Harmless r e
+harmless-decides r (On x) = ((λ t. clash t refl), (λ h. absurd h))
+harmless-decides r (Off x) = ((λ t. clash t refl), (λ h. absurd h))
+harmless-decides r (Notice x z) = (not-out (isRunning r (z .0)), (λ h. not-in h))
+harmless-decides r (Contact x y) = ((λ t. tt), (λ h. refl))
+harmless-decides r (Timer x k) = ((λ t. tt), (λ h. refl))
+harmless-decides r (Deliver i) = ((λ t. tt), (λ h. refl))
+harmless-decides r (Lose i) = ((λ t. tt), (λ h. refl))
+
 -- what is accepted is harmless, on a ring
 abbrev HarmlessWord : Ring → ℕ → Type 0
-HarmlessWord r w = playWord r w .answer ≡ Accepted → Harmless r (eventOf w)
+HarmlessWord r w = playWord r w .answer ≡ 0 → Harmless r (eventOf w)
 
 module _ (r : Ring) (well : WellFormed r) (q : Requests r) (w : ℕ) where
   requests-word : Requests (playWord r w .ring)
@@ -51,7 +70,7 @@ next r [] k h = absurd (not-suc-le-zero h)
 next r (w ∷ words) zero h = refl
 next r (w ∷ words) (suc k) h = next (playWord r w .ring) words k (le-of-suc-le-suc h)
 
-module _ (old : List ℕ) (t : Table) (ok : openBuffer old t .answer ≡ Accepted) (words : List ℕ) where
+module _ (old : List ℕ) (t : Table) (ok : openBuffer old t .answer ≡ 0) (words : List ℕ) where
   abbrev ring : ℕ → Ring
   ring = ringAt old t words
 
@@ -63,19 +82,21 @@ module _ (old : List ℕ) (t : Table) (ok : openBuffer old t .answer ≡ Accepte
   requests-at zero h = initial-requests t
   requests-at (suc k) h = rw (next (initial t) words k h) (requests-word (ring k) (well-at k) (requests-at k (omega arith)) (getD words k 0))
 
-  module _ (point : ℕ) (harmless : (k : ℕ) → point ≤ k → k < length words → HarmlessWord (ring k) (getD words k 0)) where
-    -- every word after the point is a step
-    steps-at : (later : ℕ) → point ≤ later → later ≤ length words → Steps (ring point) (ring later)
-    steps-at zero h l = let e : point ≡ 0 = omega arith in rw e stay
-    steps-at (suc k) h l =
-        elim (ℕ-discrete point (suc k)) [
-          | yes e ↦ rw e stay
-          | no n ↦
-              (let from : point ≤ k = omega arith in
-              rw (next (initial t) words k l)
-              (more (steps-at k from (omega arith))
-              (step-word (ring k) (well-at k) (requests-at k (omega arith)) (getD words k 0) (harmless k from l))))
-        ]
+  -- every word between two points is a step, where what is accepted is harmless
+  steps-at :
+      (point later : ℕ) → point ≤ later → later ≤ length words
+      → ((k : ℕ) → point ≤ k → k < later → HarmlessWord (ring k) (getD words k 0))
+      → Steps (ring point) (ring later)
+  steps-at point zero h l harmless = let e : point ≡ 0 = omega arith in rw e stay
+  steps-at point (suc k) h l harmless =
+      elim (ℕ-discrete point (suc k)) [
+        | yes e ↦ rw e stay
+        | no n ↦
+            (let from : point ≤ k = omega arith in
+            rw (next (initial t) words k l)
+            (more (steps-at point k from (omega arith) (λ j f h. harmless j f (omega arith)))
+            (step-word (ring k) (well-at k) (requests-at k (omega arith)) (getD words k 0) (harmless k from (omega arith)))))
+      ]
 
   -- ---- the lent words at the points
 
@@ -90,6 +111,69 @@ module _ (old : List ℕ) (t : Table) (ok : openBuffer old t .answer ≡ Accepte
       ap (λ (ws : List ℕ). playBuffer ws w .answer) (words-follow i)
       ∙ ap (λ (q : Written). q .answer) (follows (ring i) (well-at i) w)
 
+  harmless-at : (k : ℕ) → AcceptedIsHarmless old t words k → HarmlessWord (ring k) (getD words k 0)
+  harmless-at k h accepted = rw (ring-follows k) at (h (answers-follow k (getD words k 0) ∙ accepted))
+
+  -- ---- two points from one on at which no acknowledgement is in flight
+
+  abbrev accepted : ℕ → Bool
+  accepted i = isAccepted (playBuffer (wordsAt old t words i) (getD words i 0) .answer)
+
+  abbrev harmless : ℕ → Bool
+  harmless i = isHarmless (readAt old t words i) (eventOf (getD words i 0))
+
+  decides : (i : ℕ) → (harmless i ≡ true) ↔ Harmless (readAt old t words i) (eventOf (getD words i 0))
+  decides i = harmless-decides (readAt old t words i) (eventOf (getD words i 0))
+
+  abbrev listed : ℕ → Set
+  listed point i = leb point i && isUncovered old t words i
+
+  module _
+      (point : ℕ)
+      (none : NoAcknowledgement (readAt old t words point))
+      (earlier later : ℕ)
+      (from : point ≤ earlier)
+      (on : earlier ≤ later)
+      (within : later ≤ length words)
+    where
+      kept-later :
+          ((k : ℕ) → point ≤ k → k < later → AcceptedIsHarmless old t words k)
+          → (a b : ℕ) → Connected (readAt old t words earlier) a b → Connected (readAt old t words later) a b
+      kept-later covered a b path =
+          rw (ring-follows later)
+          (never-parted (λ y h. well-at later .node-well y .running-low h)
+          (intact-steps
+          (steps-at point earlier from (omega arith) (λ k f l. harmless-at k (covered k f (omega arith))))
+          (at-point (rw (ring-follows point) at none)))
+          (steps-at earlier later on within (λ k f l. harmless-at k (covered k (omega arith) l)))
+          (rw (ring-follows earlier) at path))
+
+      -- if nothing were listed, all would be harmless
+      parting :
+          (a b : ℕ) → Connected (readAt old t words earlier) a b → ¬ Connected (readAt old t words later) a b
+          → 0 < length (uncovered old t words point later)
+      parting a b path parted =
+          decide (some later (listed point))
+          (λ s. let p = some-out later (listed point) s in some-members later (listed point) (p .0) (record { below = p .1; within = p .2 }))
+          (λ s. absurd (parted (kept-later (λ k f l ok.
+          decide (harmless k) (decides k .0)
+          (λ h. clash (some-in later (listed point) k l (and-in (le-leb point k f) (and-in (ap isAccepted ok) (not-in h)))) s))
+          a b path)))
+
+  uncovered-are : (point later : ℕ) → Each (λ i. (point ≤ i) × (i < later) × Uncovered old t words i) (uncovered old t words point later)
+  uncovered-are point later = each-imp are (members-are later (listed point))
+    where
+      are : (i : ℕ) → Member later (listed point) i → (point ≤ i) × (i < later) × Uncovered old t words i
+      are i m =
+          let u = and-right (leb point i) (isUncovered old t words i) (m .within) in (
+            leb-true point i (and-left (leb point i) (isUncovered old t words i) (m .within)),
+            m .below,
+            (
+              accepted-is _ (and-left (accepted i) (not (harmless i)) u),
+              λ h. clash (decides i .1 h) (not-out (harmless i) (and-right (accepted i) (not (harmless i)) u)),
+            ),
+          )
+
   unbroken : Unbroken old t words
   unbroken =
       record {
@@ -97,13 +181,10 @@ module _ (old : List ℕ) (t : Table) (ok : openBuffer old t .answer ≡ Accepte
         ring-follows = λ i h. ring-follows i;
         answers-follow = λ i h. answers-follow i (getD words i 0);
         connection-kept = λ point in-list none harmless a b path later after-point within.
-            rw (ring-follows later)
-            (never-parted (λ y h. well-at later .node-well y .running-low h)
-            (rw (ring-follows point) at none)
-            (steps-at point
-            (λ k from l accepted. rw (ring-follows k) at (harmless k from l (answers-follow k (getD words k 0) ∙ accepted)))
-            later after-point within)
-            (rw (ring-follows point) at path));
+            kept-later point none point later (le-refl point) after-point within (λ k from l. harmless k from (omega arith)) a b path;
+        connection-kept-later = kept-later;
+        parting-is-uncovered = parting;
+        uncovered-are = uncovered-are;
       }
 
 pub connectivity-preserved : ConnectivityPreserved

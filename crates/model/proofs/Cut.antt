@@ -5,7 +5,7 @@ use mathlib.Core.Logic.{_⊎_, inl, inr}
 use Prim.Native.Nat.{ℕ, _≤_, _<_}
 use native.Mathlib.Omega.{arith}
 use native.Mathlib.Decide.{ℕ-discrete}
-use mathlib.Core.Bool.{true, _&&_, _||_, Bool-discrete}
+use mathlib.Core.Bool.{true, false, _&&_, _||_, Bool-discrete}
 use mathlib.Core.List.{List·Memᴰ}
 use Rattle.model.specs.Sets.{Set}
 use Rattle.model.specs.Ring.{Ring, Message, holds, isRunning}
@@ -60,11 +60,12 @@ pub data Change (r s : Ring) : Type 0 where
       → ((a : Message) → Acknowledgement s a → Acknowledgement r a)
       → Change r s
 
--- besides, nobody starts or stops, and no clock falls
+-- besides, nobody starts or stops, no clock falls, and a pair that was not held before is young
 pub record Step (r s : Ring) : Type 0 where
   pub running : (x : ℕ) → isRunning s x ≡ isRunning r x
   pub clocks : (x : ℕ) → clock r x ≤ clock s x
   pub change : Change r s
+  pub newly : (x z : ℕ) → holds r x z ≡ false → holds s x z ≡ true → clock r x < commit s x z
 
 -- ---- what holds of the acknowledgements in flight
 
@@ -85,6 +86,14 @@ pub record Crossing (S : Set) (r : Ring) : Type 0 where
   pub apart : ¬ (S x ≡ S z)
   pub safe :
       (m : Message) → Acknowledgement r m → m .receiver ≡ x → m .subject ≡ z → commit r x z < m .stamp → ¬ (S (m .sender) ≡ S x)
+
+-- every cut that some pair of running nodes crosses has such a pair
+abbrev Guarded : Ring → Type 0
+Guarded r = (S : Set) → EachPair r (λ x z. ¬ (S x ≡ S z) → Crossing S r)
+
+-- what holds from the point on
+abbrev pub Intact : Ring → Type 0
+Intact r = Sound r × Guarded r
 
 module _ (r s : Ring) (step : Step r s) (sound : Sound r) where
   runs : (x : ℕ) → isRunning r x ≡ true → isRunning s x ≡ true
@@ -190,21 +199,34 @@ module _ (r s : Ring) (step : Step r s) (sound : Sound r) where
                 | inr q ↦ traded m ack old young (q .0) (q .1)
               ]
 
+  -- a cut that a pair crosses after the step was crossed before it, or the pair is new and so young
+  guarded-after : Guarded r → Guarded s
+  guarded-after guarded S x z run-x run-z h apart =
+      let was-x : isRunning r x ≡ true = rw (step .running x) at run-x in
+      let was-z : isRunning r z ≡ true = rw (step .running z) at run-z in
+      decide (holds r x z)
+      (λ t. crosses S (guarded S x z was-x was-z t apart))
+      (λ f. renewed S x z was-x was-z apart (h, step .newly x z f h))
+
 -- ---- from the point on
 
 pub data Steps (r : Ring) : Ring → Type 0 where
   stay : Steps r r
   more : {s u : Ring} → Steps r s → Step s u → Steps r u
 
--- at the point no acknowledgement is in flight: every pair across the cut serves, and a path from one side to the other has one
-at-point : {S : Set} {r : Ring} {a b : ℕ} → NoAcknowledgement r → Connected r a b → ¬ (S a ≡ S b) → Crossing S r
-at-point none (itself h) apart = absurd (apart refl)
-at-point {S} {r} none (onward {a} {b} {c} l path) apart = go (Bool-discrete (S a) (S b)) (at-point none path)
-  where
-    pair : (x z : ℕ) → isRunning r x ≡ true → isRunning r z ≡ true → holds r x z ≡ true → ¬ (S x ≡ S z) → Crossing S r
-    pair x z rx rz h n =
-        record { x = x; z = z; x-runs = rx; z-runs = rz; held = h; apart = n; safe = λ m ack. absurd (none m (ack .0) (ack .1)) }
+-- at the point no acknowledgement is in flight: every pair across a cut serves
+pub at-point : {r : Ring} → NoAcknowledgement r → Intact r
+at-point none = (
+  (λ m ack. absurd (none m (ack .0) (ack .1))),
+  (λ S x z rx rz h n.
+      record { x = x; z = z; x-runs = rx; z-runs = rz; held = h; apart = n; safe = λ m ack. absurd (none m (ack .0) (ack .1)) }),
+)
 
+-- a path from one side of a cut to the other has a pair across
+path-crosses : {S : Set} {r : Ring} {a b : ℕ} → Guarded r → Connected r a b → ¬ (S a ≡ S b) → Crossing S r
+path-crosses guarded (itself h) apart = absurd (apart refl)
+path-crosses {S} {r} guarded (onward {a} {b} {c} l path) apart = go (Bool-discrete (S a) (S b)) (path-crosses guarded path)
+  where
     run : (isRunning r a && isRunning r b) ≡ true
     run = and-left (isRunning r a && isRunning r b) (holds r a b || holds r b a) l
 
@@ -212,8 +234,8 @@ at-point {S} {r} none (onward {a} {b} {c} l path) apart = go (Bool-discrete (S a
     go (yes e) further-on = further-on (λ q. apart (e ∙ q))
     go (no n) further-on =
         or-case (holds r a b) (holds r b a) (and-right (isRunning r a && isRunning r b) (holds r a b || holds r b a) l)
-        (λ h. pair a b (and-left (isRunning r a) (isRunning r b) run) (and-right (isRunning r a) (isRunning r b) run) h n)
-        (λ h. pair b a (and-right (isRunning r a) (isRunning r b) run) (and-left (isRunning r a) (isRunning r b) run) h (λ q. n (sym q)))
+        (λ h. guarded S a b (and-left (isRunning r a) (isRunning r b) run) (and-right (isRunning r a) (isRunning r b) run) h n)
+        (λ h. guarded S b a (and-right (isRunning r a) (isRunning r b) run) (and-left (isRunning r a) (isRunning r b) run) h (λ q. n (sym q)))
 
 -- no pair crosses the set of the nodes that a is connected to
 no-crossing : (r : Ring) → InTable r → (a : ℕ) → Crossing (connected r a) r → ⊥
@@ -228,13 +250,15 @@ no-crossing r low a c =
         let l : linked r x z ≡ true = and-in (and-in run-x run-z) h in
         decides r a low z .1 (further r (decides r a low x .0 t) l)
 
-sound-steps : {r s : Ring} → Steps r s → Sound r → Sound s
-sound-steps stay q = q
-sound-steps (more {s} {u} steps step) q = sound-after s u step (sound-steps steps q)
+pub intact-steps : {r s : Ring} → Steps r s → Intact r → Intact s
+intact-steps stay q = q
+intact-steps (more {s} {u} steps step) q =
+    let p = intact-steps steps q in
+    (sound-after s u step (p .0), guarded-after s u step (p .0) (p .1))
 
-crosses-steps : {r s : Ring} (S : Set) → Steps r s → Sound r → Crossing S r → Crossing S s
+crosses-steps : {r s : Ring} (S : Set) → Steps r s → Intact r → Crossing S r → Crossing S s
 crosses-steps S stay q c = c
-crosses-steps S (more {s} {u} steps step) q c = crosses s u step (sound-steps steps q) S (crosses-steps S steps q c)
+crosses-steps S (more {s} {u} steps step) q c = crosses s u step (intact-steps steps q .0) S (crosses-steps S steps q c)
 
 runs-steps : {r s : Ring} → Steps r s → (x : ℕ) → isRunning r x ≡ true → isRunning s x ≡ true
 runs-steps stay x h = h
@@ -242,14 +266,13 @@ runs-steps (more steps step) x h = rw (step .running x) (runs-steps steps x h)
 
 -- no steps part two nodes: else the set of those that a is still connected to would be a cut that no pair crosses
 pub never-parted :
-    {r s : Ring} → InTable s → NoAcknowledgement r → Steps r s
+    {r s : Ring} → InTable s → Intact r → Steps r s
     → {a b : ℕ} → Connected r a b → Connected s a b
-never-parted {r} {s} low none steps {a} {b} path =
+never-parted {r} {s} low intact steps {a} {b} path =
     decide (connected s a b)
     (λ t. decides s a low b .0 t)
     (λ f. absurd (no-crossing s low a
-    (crosses-steps (connected s a) steps (λ m ack. absurd (none m (ack .0) (ack .1)))
-    (at-point none path (λ e. clash itself-connected (e ∙ f))))))
+    (crosses-steps (connected s a) steps intact (path-crosses (intact .1) path (λ e. clash itself-connected (e ∙ f))))))
   where
     itself-connected : connected s a a ≡ true
     itself-connected = decides s a low a .1 (itself (runs-steps steps a (starts r path)))

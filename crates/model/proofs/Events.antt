@@ -1,5 +1,7 @@
 -- Demand 2: every event that can be written has one word, and that word reads as that event and no other.
-use mathlib.Core.Path.{_≡_, refl, ap, _∙_}
+use mathlib.Core.Path.{_≡_, refl, sym, ap, _∙_}
+use mathlib.Core.List.{[], _∷_}
+use lib.ListN.{length}
 use Prim.Native.Nat.{ℕ, _+_, _*_, _^_, _≤_, _<_}
 use native.Mathlib.Omega.{arith}
 use mathlib.Core.Bool.{Bool, true, false}
@@ -9,11 +11,10 @@ use Rattle.model.specs.Choice.{if_then_else_}
 use Rattle.model.specs.WellFormed.{Each, nil, cons}
 use Rattle.model.specs.Fields.{bits, kind, ofKind}
 use Rattle.model.specs.Answers.{firstOf, isAccepted}
-use Rattle.model.specs.Events.{wordOf, eventOf, partsFit, sameNode, eventRefusals, eventAnswer, isEventWord, wordRefusals, wordAnswer, readEvent}
-use Rattle.model.specs.declared.answer.Answer.the-variants.{Accepted}
+use Rattle.model.specs.Events.{wordOf, eventOf, partsFit, sameNode, eventRefusals, eventAnswer, isEventWord, wordRefusals, wordAnswer, readEvent, readingOf}
 use Rattle.model.specs.declared.event.Event.{Event}
 use Rattle.model.specs.declared.event.Event.the-variants.{On, Off, Notice, Contact, Timer, Deliver, Lose}
-use Rattle.model.specs.declared.event.Reading.the-variants.{Read, Refused}
+use Rattle.model.specs.declared.event.Reading.the-variants.{Read}
 use Rattle.model.proofs.Laws.{and-left, and-right, not-out-false}
 use Rattle.model.proofs.Lists.{first, rest}
 use Rattle.model.proofs.Fields.{field}
@@ -81,18 +82,21 @@ pub record Writable (e : Event) : Type 0 where
   pub parts-fit : partsFit e ≡ true
   pub differ : sameNode e ≡ false
 
-pub writable : (e : Event) → eventAnswer e ≡ Accepted → Writable e
+pub writable : (e : Event) → eventAnswer e ≡ 0 → Writable e
 unfolding eventAnswer
 writable e a =
     let p = none-applies (eventRefusals e) (cons refl (cons refl nil)) a in
     record { parts-fit = not-out-false (partsFit e) (first p); differ = first (rest p) }
 
 -- an event's word reads as that event
-pub reads : (e : Event) → eventAnswer e ≡ Accepted → readEvent (wordOf e) ≡ Read e
+pub reads : (e : Event) → eventAnswer e ≡ 0 → readEvent (wordOf e) ≡ readingOf (Read e)
 unfolding readEvent wordAnswer firstOf
 reads e a =
     let p : Writable e = writable e a in
     rw (event-of-word e (p .parts-fit), eq-eqb (wordOf e) (wordOf e) refl, p .parts-fit, p .differ)
+
+pub no-other : (d e : Event) → eventAnswer d ≡ 0 → eventAnswer e ≡ 0 → wordOf d ≡ wordOf e → d ≡ e
+no-other d e a b i = sym (event-of-word d (writable d a .parts-fit)) ∙ ap eventOf i ∙ event-of-word e (writable e b .parts-fit)
 
 -- what is known of a word that reads as an event
 pub record EventWord (w : ℕ) (e : Event) : Type 0 where
@@ -113,10 +117,10 @@ accepted-word : (w : ℕ) → isAccepted (wordAnswer w) ≡ true → EventWord w
 unfolding wordAnswer
 accepted-word w a = event-word w (none-applies (wordRefusals w) (cons refl (cons refl nil)) (accepted-is (firstOf (wordRefusals w)) a))
 
-pub reads-as : (w : ℕ) (e : Event) → readEvent w ≡ Read e → EventWord w e
+pub reads-as : (w : ℕ) (e : Event) → readEvent w ≡ readingOf (Read e) → EventWord w e
 unfolding readEvent
-reads-as w e h = by-answer (isAccepted (wordAnswer w)) refl h
+reads-as w e h = by-answer (isAccepted (wordAnswer w)) refl (ap (λ r. r .event) h)
   where
-    by-answer : (b : Bool) → isAccepted (wordAnswer w) ≡ b → (if b then Read (eventOf w) else Refused (wordAnswer w)) ≡ Read e → EventWord w e
+    by-answer : (b : Bool) → isAccepted (wordAnswer w) ≡ b → (if b then eventOf w ∷ [] else []) ≡ e ∷ [] → EventWord w e
     by-answer true a q = let i : eventOf w ≡ e = cc in rw i at (accepted-word w a)
-    by-answer false a q = absurd (let z : _≡_ {A = ℕ} 0 1 = cc in omega arith)
+    by-answer false a q = absurd (let z : _≡_ {A = ℕ} 0 1 = ap length q in omega arith)

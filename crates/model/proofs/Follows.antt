@@ -14,7 +14,6 @@ use Rattle.model.specs.Events.{eventOf}
 use Rattle.model.specs.Words.{ringLength, encode, decode, readsAsRing}
 use Rattle.model.specs.Play.{Played, after, playAnswer, playWord, playAll}
 use Rattle.model.specs.Buffer.{Written, openAnswer, openBuffer, bufferAnswer, playBuffer, playBufferAll}
-use Rattle.model.specs.declared.answer.Answer.the-variants.{Accepted}
 use Rattle.model.proofs.Words.{decoded-back, reads-out}
 use Rattle.model.proofs.RoundTrip.{round-trip}
 use Rattle.model.proofs.Decoded.{reads-well}
@@ -53,8 +52,8 @@ list-follows r g (w ∷ words) =
 
 -- ---- opening
 
-module _ (old : List ℕ) (t : Table) (ok : openBuffer old t .answer ≡ Accepted) where
-  opened-table : openAnswer old t ≡ Accepted
+module _ (old : List ℕ) (t : Table) (ok : openBuffer old t .answer ≡ 0) where
+  opened-table : openAnswer old t ≡ 0
   unfolding openBuffer
   opened-table = ok
 

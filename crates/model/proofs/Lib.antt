@@ -4,6 +4,7 @@ pub mod Bits
 pub mod Fields
 pub mod Answers
 pub mod Events
+pub mod Cases
 pub mod Words
 pub mod RoundTrip
 pub mod Fits

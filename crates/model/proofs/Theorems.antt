@@ -12,14 +12,13 @@ use Rattle.model.specs.Ring.{Ring, initial, holds, isRunning}
 use Rattle.model.specs.WellFormed.{WellFormedTable, WellFormed}
 use Rattle.model.specs.Words.{encode, decode, readsAsRing}
 use Rattle.model.specs.Answers.{isAccepted}
-use Rattle.model.specs.Events.{wordOf, eventOf, eventRefusals, eventAnswer, writeEvent, wordRefusals, wordAnswer, readEvent}
+use Rattle.model.specs.Events.{wordOf, eventOf, eventRefusals, eventAnswer, writeEvent, wordRefusals, wordAnswer, readEvent, readingOf}
 use Rattle.model.specs.Play.{stateRefusals}
 use Rattle.model.specs.Buffer.{openRefusals, openAnswer, openBuffer, playRefusals, bufferAnswer, playBuffer}
 use Rattle.model.specs.Questions.{leafsetRefusals, leafsetAnswer, leafsetOf, connectionRefusals, connectionAnswer, groupsRefusals, groupsAnswer}
 use Rattle.model.specs.Bench.{scriptRefusals, scriptAnswer}
 use Rattle.model.specs.Connection.{Connected, connected, groups, CountsGroups}
 use Rattle.model.specs.ConnectivityPreserved.{ConnectivityPreserved}
-use Rattle.model.specs.declared.answer.Answer.the-variants.{Accepted}
 use Rattle.model.specs.declared.event.Event.{Event}
 use Rattle.model.specs.declared.event.Event.the-variants.{On, Off, Notice, Contact, Timer, Deliver, Lose}
 use Rattle.model.specs.declared.event.Reading.the-variants.{Read}
@@ -84,17 +83,17 @@ lowest-at-script ws = lowest-given 0 (scriptRefusals ws) refl
 -- ---- event words
 
 -- every event that can be written has a word, which reads as that event
-pub written-reads : (e : Event) → eventAnswer e ≡ Accepted → readEvent (writeEvent e) ≡ Read e
+pub written-reads : (e : Event) → eventAnswer e ≡ 0 → readEvent (writeEvent e) ≡ readingOf (Read e)
 unfolding writeEvent
 written-reads e a = ap (λ (b : Bool). readEvent (if b then wordOf e else 0)) (ap isAccepted a) ∙ events.reads e a
 
 -- every word that reads as an event is the word of it: so it has one word
-pub one-word : (w : ℕ) (e : Event) → readEvent w ≡ Read e → w ≡ wordOf e
+pub one-word : (w : ℕ) (e : Event) → readEvent w ≡ readingOf (Read e) → w ≡ wordOf e
 one-word w e h = events.reads-as w e h .word
 
 -- and two events that can be written have different words: a word reads as one event and no other
-pub no-other : (d e : Event) → eventAnswer d ≡ Accepted → eventAnswer e ≡ Accepted → wordOf d ≡ wordOf e → d ≡ e
-no-other d e a b i = let p = events.reads d a in let q = events.reads e b in let s = ap readEvent i in cc
+pub no-other : (d e : Event) → eventAnswer d ≡ 0 → eventAnswer e ≡ 0 → wordOf d ≡ wordOf e → d ≡ e
+no-other d e a b i = events.no-other d e a b i
 
 -- ---- leafsets
 
@@ -136,10 +135,10 @@ encoding-injective r s g h e = sym (trip.round-trip r g) ∙ ap decode e ∙ tri
 -- ---- the calls
 
 -- an accepted opening writes the encoding of the initial ring, which reads as a ring
-pub opening-writes : (old : List ℕ) (t : Table) → openBuffer old t .answer ≡ Accepted → openBuffer old t .words ≡ encode (initial t)
+pub opening-writes : (old : List ℕ) (t : Table) → openBuffer old t .answer ≡ 0 → openBuffer old t .words ≡ encode (initial t)
 opening-writes old t a = follow.opened-words old t a
 
-pub opening-reads : (old : List ℕ) (t : Table) → openBuffer old t .answer ≡ Accepted → readsAsRing (openBuffer old t .words) ≡ true
+pub opening-reads : (old : List ℕ) (t : Table) → openBuffer old t .answer ≡ 0 → readsAsRing (openBuffer old t .words) ≡ true
 opening-reads old t a = ap readsAsRing (follow.opened-words old t a) ∙ fits.encoded-reads (initial t) (follow.opened-well old t a)
 
 -- every call leaves words that read as a ring, on any words that read as one, reachable or not

@@ -16,12 +16,12 @@ use Rattle.model.specs.Answers.{Refusal, firstOf, isAccepted}
 use Rattle.model.specs.Events.{eventOf, sameNode, wordRefusals}
 use Rattle.model.specs.Words.{between, inRange, keysDiffer}
 use Rattle.model.specs.Buffer.{wrongLength, openingRefusals, openAnswer}
-use Rattle.model.specs.Play.{setNode, removeMessage, act, after, poolFull, refusals, stateRefusals, playAnswer, playWord, playAll}
-use Rattle.model.specs.declared.answer.Answer.the-variants.{Accepted}
+use Rattle.model.specs.Play.{setNode, removeMessage, act, after, refusals, leftRefusals, stateRefusals, playAnswer, playWord, playAll}
 use Rattle.model.specs.declared.event.Event.{Event}
 use Rattle.model.specs.declared.event.Event.the-variants.{On, Off, Notice, Contact, Timer, Deliver, Lose}
 use Rattle.model.proofs.Laws.{clash, and-left, and-right, and-in, not-out-false, is-false, between-low, between-high, every-out, if-law, put-each, all-out}
 use Rattle.model.proofs.Lists.{first, rest, each-at, each-append, each-left, each-right, each-take, each-drop}
+use Rattle.model.proofs.Cases.{refusals-refuse, left-refuses}
 use Rattle.model.proofs.Answers.{accepted-is, none-applies}
 use Rattle.model.proofs.Events.{EventWord, event-word}
 use Rattle.model.proofs.WellFormedSteps.{WellFormedEffect, cleared-well, later-well, contact-well, notice-well, timer-well, deliver-well}
@@ -32,18 +32,12 @@ abbrev NoneApplies : List Refusal → Type 0
 NoneApplies qs = Each (λ q. q .applies ≡ false) qs
 
 -- every refusal refuses
-pub refusing : (r : Ring) (e : Event) → Each (λ q. isAccepted (q .refusal) ≡ false) (stateRefusals r e)
-refusing r (On x) = cons refl (cons refl (cons refl (cons refl nil)))
-refusing r (Off x) = cons refl (cons refl (cons refl nil))
-refusing r (Notice x z) = cons refl (cons refl (cons refl (cons refl (cons refl nil))))
-refusing r (Contact x y) = cons refl (cons refl (cons refl (cons refl (cons refl nil))))
-refusing r (Timer x k) = cons refl (cons refl (cons refl (cons refl nil)))
-refusing r (Deliver i) = cons refl (cons refl (cons refl nil))
-refusing r (Lose i) = cons refl (cons refl nil)
+pub refusing : (r : Ring) (e : Event) → Each (λ q. isAccepted (q .number) ≡ false) (stateRefusals r e)
+refusing r e = each-append (refusals-refuse r e) (left-refuses (after r e))
 
--- the last of them is the pool
+-- the ring that is left has room
 after-count : (r : Ring) (e : Event) → NoneApplies (stateRefusals r e) → length (after r e .messages) ≤ 1024
-after-count r e p = ltb-false 1024 (length (after r e .messages)) (first (each-right (refusals r e) (poolFull r e ∷ []) p))
+after-count r e p = ltb-false 1024 (length (after r e .messages)) (first (each-right (refusals r e) (leftRefusals (after r e)) p))
 
 below : (r : Ring) (x : ℕ) → not (ltb x (size (r .table))) ≡ false → x < size (r .table)
 below r x e = ltb-true x (size (r .table)) (not-out-false (ltb x (size (r .table))) e)
@@ -188,7 +182,7 @@ list-well r (w ∷ ws) g = list-well (playWord r w .ring) ws (word-well r w g)
 
 -- ---- the initial ring of a table that opens
 
-pub table-well : (old : List ℕ) (t : Table) → openAnswer old t ≡ Accepted → WellFormedTable t
+pub table-well : (old : List ℕ) (t : Table) → openAnswer old t ≡ 0 → WellFormedTable t
 unfolding openAnswer inRange
 table-well old t a =
     let p = rest (none-applies (wrongLength old ∷ openingRefusals t) (cons refl (cons refl (cons refl nil))) a) in

@@ -22,15 +22,15 @@ numberOf AlreadyRunning = 9
 numberOf ClockSpent = 10
 numberOf PoolFull = 11
 
-abbrev pub isAccepted : Answer → Bool
-isAccepted a = eqb (numberOf a) 0
+abbrev pub isAccepted : ℕ → Bool
+isAccepted a = eqb a 0
 
--- a refusal, and the test whether it applies
+-- a refusal by its number, and the test whether it applies
 pub record Refusal : Type 0 where
-  pub refusal : Answer
+  pub number : ℕ
   pub applies : Bool
 
--- "The lowest number that applies is given, and none otherwise": the refusals stand in rising order
-unfoldable pub firstOf : List Refusal → Answer
-firstOf [] = Accepted
-firstOf (q ∷ qs) = if q .applies then q .refusal else firstOf qs
+-- "The lowest number that applies is given, and none otherwise": the refusals stand in rising order; 0 is acceptance
+unfoldable pub firstOf : List Refusal → ℕ
+firstOf [] = 0
+firstOf (q ∷ qs) = if q .applies then q .number else firstOf qs

@@ -8,14 +8,12 @@ use Rattle.model.specs.Choice.{if_then_else_}
 use Rattle.model.specs.Sets.{count, members, all, tabulate}
 use Rattle.model.specs.Leafset.{Table, size, key}
 use Rattle.model.specs.Ring.{Ring, initial, holds}
-use Rattle.model.specs.Answers.{Refusal, firstOf, numberOf, isAccepted}
+use Rattle.model.specs.Answers.{Refusal, firstOf, isAccepted}
 use Rattle.model.specs.Fields.{bits, bit}
 use Rattle.model.specs.Play.{Played, playWord, playAll}
 use Rattle.model.specs.Words.{headWord, keyWord}
 use Rattle.model.specs.Buffer.{outOfRange, badKey}
 use Rattle.model.specs.Connection.{groups}
-use Rattle.model.specs.declared.answer.Answer.{Answer}
-use Rattle.model.specs.declared.answer.Answer.the-variants.{NotAnEvent, OpeningOutOfRange, BadKey}
 
 abbrev pub Line : Type 0
 Line = List ℕ
@@ -33,7 +31,7 @@ unfoldable pub eventLines : ℕ → Ring → List ℕ → List Line
 eventLines k r [] = []
 eventLines k r (w ∷ ws) =
     let p : Played = playWord r w in
-    (k ∷ numberOf (p .answer) ∷ length (p .ring .messages) ∷ []) ∷ eventLines (k + 1) (p .ring) ws
+    (k ∷ p .answer ∷ length (p .ring .messages) ∷ []) ∷ eventLines (k + 1) (p .ring) ws
 
 -- "Then per stand: number, key, running, clock, count held, the held in rising order."
 unfoldable pub nodeLine : Ring → ℕ → Line
@@ -50,9 +48,9 @@ scriptTable ws = record { leaf = bits 0 4 (getD ws 0 0); keys = map (bits 0 24) 
 -- "word 0 with m = 0 (any fault is 2), n key words with running 0 (a wrong one is 3, a missing or cut one 2)"
 abbrev pub scriptRefusals : List ℕ → List Refusal
 scriptRefusals ws =
-    record { refusal = OpeningOutOfRange; applies = not (eqb (getD ws 0 0) (headWord (t .leaf) n 0) && leb (1 + n) (length ws)) }
+    record { number = 2; applies = not (eqb (getD ws 0 0) (headWord (t .leaf) n 0) && leb (1 + n) (length ws)) }
     ∷ outOfRange t
-    ∷ record { refusal = BadKey; applies = not (all n (λ s. eqb (getD ws (1 + s) 0) (keyWord (key t s) false))) }
+    ∷ record { number = 3; applies = not (all n (λ s. eqb (getD ws (1 + s) 0) (keyWord (key t s) false))) }
     ∷ badKey t
     ∷ []
   where
@@ -62,7 +60,7 @@ scriptRefusals ws =
     n : ℕ
     n = bits 4 7 (getD ws 0 0)
 
-unfoldable pub scriptAnswer : List ℕ → Answer
+unfoldable pub scriptAnswer : List ℕ → ℕ
 scriptAnswer ws = firstOf (scriptRefusals ws)
 
 -- the lines before "groups", and the number after it; "A refused opening prints only 0, the refusal, 0."
@@ -74,7 +72,7 @@ unfoldable pub bench : List ℕ → Printed
 bench bytes =
     if isAccepted (scriptAnswer ws)
     then record { lines = eventLines 1 start events ++ tail ++ tabulate (size (start .table)) (nodeLine end); group = groups end ∷ [] }
-    else record { lines = (0 ∷ numberOf (scriptAnswer ws) ∷ 0 ∷ []) ∷ []; group = [] }
+    else record { lines = (0 ∷ scriptAnswer ws ∷ 0 ∷ []) ∷ []; group = [] }
   where
     ws : List ℕ
     ws = littleEndian bytes
@@ -93,4 +91,4 @@ bench bytes =
     tail =
         if eqb (4 * length ws) (length bytes)
         then []
-        else ((length events + 1) ∷ numberOf NotAnEvent ∷ length (end .messages) ∷ []) ∷ []
+        else ((length events + 1) ∷ 4 ∷ length (end .messages) ∷ []) ∷ []

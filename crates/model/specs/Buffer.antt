@@ -12,42 +12,40 @@ use Rattle.model.specs.Answers.{Refusal, firstOf, isAccepted}
 use Rattle.model.specs.Events.{eventOf, wordRefusals}
 use Rattle.model.specs.Play.{after, stateRefusals}
 use Rattle.model.specs.Words.{ringLength, encode, decode, inRange, keysDiffer, readsAsRing}
-use Rattle.model.specs.declared.answer.Answer.{Answer}
-use Rattle.model.specs.declared.answer.Answer.the-variants.{WrongLength, OpeningOutOfRange, BadKey, NotARing}
 
 -- "1. A ring buffer isn't 13,441 words."
 abbrev pub wrongLength : List ℕ → Refusal
-wrongLength ws = record { refusal = WrongLength; applies = not (eqb (length ws) ringLength) }
+wrongLength ws = record { number = 1; applies = not (eqb (length ws) ringLength) }
 
 -- "6. The words don't read as a ring."
 abbrev pub notARing : List ℕ → Refusal
-notARing ws = record { refusal = NotARing; applies = not (readsAsRing ws) }
+notARing ws = record { number = 6; applies = not (readsAsRing ws) }
 
 -- "2. Opening: n or L out of range."
 abbrev pub outOfRange : Table → Refusal
-outOfRange t = record { refusal = OpeningOutOfRange; applies = not (inRange t) }
+outOfRange t = record { number = 2; applies = not (inRange t) }
 
 -- "3. Opening: a key above 16,777,215, or two equal."
 abbrev pub badKey : Table → Refusal
-badKey t = record { refusal = BadKey; applies = not (all (size t) (λ s. leb (key t s) 16777215) && keysDiffer t) }
+badKey t = record { number = 3; applies = not (all (size t) (λ s. leb (key t s) 16777215) && keysDiffer t) }
 
 abbrev pub openingRefusals : Table → List Refusal
 openingRefusals t = outOfRange t ∷ badKey t ∷ []
 
 -- the answer of a call, and "every lent word after it"
 pub record Written : Type 0 where
-  pub answer : Answer
+  pub answer : ℕ
   pub words : List ℕ
 
 -- "The lowest number that applies is given, and none otherwise; nothing is written": the words `after` only where none applies
-abbrev pub writes : List ℕ → Answer → List ℕ → Written
+abbrev pub writes : List ℕ → ℕ → List ℕ → Written
 writes ws answer after = record { answer = answer; words = if isAccepted answer then after else ws }
 
 -- opening: 1; 2 and 3
 abbrev pub openRefusals : List ℕ → Table → List Refusal
 openRefusals ws t = wrongLength ws ∷ openingRefusals t
 
-unfoldable pub openAnswer : List ℕ → Table → Answer
+unfoldable pub openAnswer : List ℕ → Table → ℕ
 openAnswer ws t = firstOf (openRefusals ws t)
 
 -- "[Opening] writes a fresh ring over the lent buffer, whose old words don't matter."
@@ -58,7 +56,7 @@ openBuffer ws t = writes ws (openAnswer ws t) (encode (initial t))
 abbrev pub playRefusals : List ℕ → ℕ → List Refusal
 playRefusals ws w = wrongLength ws ∷ wordRefusals w ++ notARing ws ∷ stateRefusals (decode ws) (eventOf w)
 
-unfoldable pub bufferAnswer : List ℕ → ℕ → Answer
+unfoldable pub bufferAnswer : List ℕ → ℕ → ℕ
 bufferAnswer ws w = firstOf (playRefusals ws w)
 
 unfoldable pub playBuffer : List ℕ → ℕ → Written

@@ -2,18 +2,21 @@
 -- The name is source 001's, "Connectivity Preservation".
 use mathlib.Core.Path.{_≡_}
 use Prim.Native.Nat.{ℕ, _≤_, _<_}
-use mathlib.Core.Bool.{false}
+use mathlib.Core.Bool.{Bool, true, false, not, _&&_}
 use mathlib.Core.List.{List, List·Memᴰ}
 use lib.ListN.{length, getD, take}
+use lib.Dec.{leb}
+use Rattle.model.specs.Sets.{members}
 use Rattle.model.specs.Leafset.{Table}
 use Rattle.model.specs.Ring.{Ring, Message, initial, isRunning}
+use Rattle.model.specs.WellFormed.{Each}
+use Rattle.model.specs.Answers.{isAccepted}
 use Rattle.model.specs.Steps.{pongReplace}
 use Rattle.model.specs.Events.{eventOf}
 use Rattle.model.specs.Play.{playWord, playAll}
 use Rattle.model.specs.Buffer.{openBuffer, playBuffer, playBufferAll}
 use Rattle.model.specs.Words.{encode, decode}
 use Rattle.model.specs.Connection.{Connected}
-use Rattle.model.specs.declared.answer.Answer.the-variants.{Accepted}
 use Rattle.model.specs.declared.event.Event.{Event}
 use Rattle.model.specs.declared.event.Event.the-variants.{On, Off, Notice, Contact, Timer, Deliver, Lose}
 
@@ -30,6 +33,16 @@ Harmless r (Contact x y) = Unit
 Harmless r (Timer x k) = Unit
 Harmless r (Deliver i) = Unit
 Harmless r (Lose i) = Unit
+
+-- a test for it
+abbrev pub isHarmless : Ring → Event → Bool
+isHarmless r (On x) = false
+isHarmless r (Off x) = false
+isHarmless r (Notice x z) = not (isRunning r (z .0))
+isHarmless r (Contact x y) = true
+isHarmless r (Timer x k) = true
+isHarmless r (Deliver i) = true
+isHarmless r (Lose i) = true
 
 -- "It starts from the ring that an accepted opening writes, for any L and keys. Each word is played on what the one before left, a
 -- refused one changing nothing": a list of words, on a buffer opened over any old words
@@ -48,7 +61,19 @@ module _ (old : List ℕ) (t : Table) (words : List ℕ) where
 
   -- word i, if it is accepted, is the word of a harmless event
   abbrev pub AcceptedIsHarmless : ℕ → Type 0
-  AcceptedIsHarmless i = playBuffer (wordsAt i) (getD words i 0) .answer ≡ Accepted → Harmless (readAt i) (eventOf (getD words i 0))
+  AcceptedIsHarmless i = playBuffer (wordsAt i) (getD words i 0) .answer ≡ 0 → Harmless (readAt i) (eventOf (getD words i 0))
+
+  -- word i is accepted, and is not the word of a harmless event
+  abbrev pub Uncovered : ℕ → Type 0
+  Uncovered i = (playBuffer (wordsAt i) (getD words i 0) .answer ≡ 0) × ¬ Harmless (readAt i) (eventOf (getD words i 0))
+
+  -- a test for it
+  abbrev pub isUncovered : ℕ → Bool
+  isUncovered i = isAccepted (playBuffer (wordsAt i) (getD words i 0) .answer) && not (isHarmless (readAt i) (eventOf (getD words i 0)))
+
+  -- the places of all such words between two points, in rising order, computed: the first word of the list has place 0
+  abbrev pub uncovered : ℕ → ℕ → List ℕ
+  uncovered point later = members later (λ i. leb point i && isUncovered i)
 
   pub record Unbroken : Type 0 where
     -- "every lent word after it, equal what those rules give"
@@ -68,7 +93,26 @@ module _ (old : List ℕ) (t : Table) (words : List ℕ) where
         → (a b : ℕ) → Connected (readAt point) a b
         → (later : ℕ) → point ≤ later → later ≤ length words
         → Connected (readAt later) a b
+    -- More than demand 3: take such a point, and two points from it on, an earlier and a later one. Suppose the same of what is
+    -- accepted between the point and the later one. Then any two nodes connected at the earlier one are connected at the later
+    -- one, although acknowledgements may be in flight at the earlier one, and the two may have become connected only after the point.
+    pub connection-kept-later :
+        (point : ℕ) → NoAcknowledgement (readAt point)
+        → (earlier later : ℕ) → point ≤ earlier → earlier ≤ later → later ≤ length words
+        → ((k : ℕ) → point ≤ k → k < later → AcceptedIsHarmless k)
+        → (a b : ℕ) → Connected (readAt earlier) a b
+        → Connected (readAt later) a b
+    -- For checking a log: where two nodes are connected at the earlier one and not at the later one, such as the next, some word
+    -- between the point and the later one is accepted and not harmless: the list of these is not empty. The two need not both run
+    -- at the later one, since switching off is such a word.
+    pub parting-is-uncovered :
+        (point : ℕ) → NoAcknowledgement (readAt point)
+        → (earlier later : ℕ) → point ≤ earlier → earlier ≤ later → later ≤ length words
+        → (a b : ℕ) → Connected (readAt earlier) a b → ¬ Connected (readAt later) a b
+        → 0 < length (uncovered point later)
+    -- the list has only such words
+    pub uncovered-are : (point later : ℕ) → Each (λ i. (point ≤ i) × (i < later) × Uncovered i) (uncovered point later)
 
 -- for any old words, any L and keys whose opening is accepted, and any list of words, those that are no event included
 abbrev pub ConnectivityPreserved : Type 0
-ConnectivityPreserved = (old : List ℕ) (t : Table) → openBuffer old t .answer ≡ Accepted → (words : List ℕ) → Unbroken old t words
+ConnectivityPreserved = (old : List ℕ) (t : Table) → openBuffer old t .answer ≡ 0 → (words : List ℕ) → Unbroken old t words

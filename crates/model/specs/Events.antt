@@ -6,9 +6,7 @@ use lib.ListN.{getD}
 use lib.Dec.{ltb, leb, eqb}
 use Rattle.model.specs.Choice.{if_then_else_}
 use Rattle.model.specs.Fields.{bits, kind, ofKind}
-use Rattle.model.specs.Answers.{Refusal, firstOf, isAccepted}
-use Rattle.model.specs.declared.answer.Answer.{Answer}
-use Rattle.model.specs.declared.answer.Answer.the-variants.{NotAnEvent, SameNode}
+use Rattle.model.specs.Answers.{Refusal, firstOf, isAccepted, numberOf}
 use Rattle.model.specs.declared.event.Event.{Event}
 use Rattle.model.specs.declared.event.Event.the-variants.{On, Off, Notice, Contact, Timer, Deliver, Lose}
 use Rattle.model.specs.declared.event.Reading.{Reading}
@@ -64,9 +62,9 @@ sameNode (Lose i) = false
 
 -- "4. Not an event: .. timer ..; when writing, a part too big. 5. Contact or notice where both stands are one."
 abbrev pub eventRefusals : Event → List Refusal
-eventRefusals e = record { refusal = NotAnEvent; applies = not (partsFit e) } ∷ record { refusal = SameNode; applies = sameNode e } ∷ []
+eventRefusals e = record { number = 4; applies = not (partsFit e) } ∷ record { number = 5; applies = sameNode e } ∷ []
 
-unfoldable pub eventAnswer : Event → Answer
+unfoldable pub eventAnswer : Event → ℕ
 eventAnswer e = firstOf (eventRefusals e)
 
 -- the word, and "a word writer 0" when refused
@@ -81,11 +79,20 @@ isEventWord w = eqb w (wordOf (eventOf w)) && partsFit (eventOf w)
 
 -- "4. Not an event: kind, timer or unnamed bit .. 5. Contact or notice where both stands are one."
 abbrev pub wordRefusals : ℕ → List Refusal
-wordRefusals w = record { refusal = NotAnEvent; applies = not (isEventWord w) } ∷ record { refusal = SameNode; applies = sameNode (eventOf w) } ∷ []
+wordRefusals w = record { number = 4; applies = not (isEventWord w) } ∷ record { number = 5; applies = sameNode (eventOf w) } ∷ []
 
-unfoldable pub wordAnswer : ℕ → Answer
+unfoldable pub wordAnswer : ℕ → ℕ
 wordAnswer w = firstOf (wordRefusals w)
 
--- the event; "an event reading no event" when refused
-unfoldable pub readEvent : ℕ → Reading
-readEvent w = if isAccepted (wordAnswer w) then Read (eventOf w) else Refused (wordAnswer w)
+-- what reading a word gives: the answer, and the event; "an event reading no event" when refused
+pub record ReadWord : Type 0 where
+  pub answer : ℕ
+  pub event : List Event
+
+unfoldable pub readEvent : ℕ → ReadWord
+readEvent w = record { answer = wordAnswer w; event = if isAccepted (wordAnswer w) then eventOf w ∷ [] else [] }
+
+-- what the code's answer to reading says
+abbrev pub readingOf : Reading → ReadWord
+readingOf (Read e) = record { answer = 0; event = e ∷ [] }
+readingOf (Refused a) = record { answer = numberOf a; event = [] }

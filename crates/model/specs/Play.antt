@@ -11,8 +11,6 @@ use Rattle.model.specs.Ring.{Own, Node, Message, Ring, cleared, isRunnin
 use Rattle.model.specs.Steps.{Effect, contact, notice, timer, deliver}
 use Rattle.model.specs.Answers.{Refusal, firstOf, isAccepted}
 use Rattle.model.specs.Events.{eventOf, wordRefusals}
-use Rattle.model.specs.declared.answer.Answer.{Answer}
-use Rattle.model.specs.declared.answer.Answer.the-variants.{OutOfTable, NodeOff, AlreadyRunning, ClockSpent, PoolFull}
 use Rattle.model.specs.declared.event.Event.{Event}
 use Rattle.model.specs.declared.event.Event.the-variants.{On, Off, Notice, Contact, Timer, Deliver, Lose}
 
@@ -67,28 +65,24 @@ after r (Lose i) = removeMessage i r
 module _ (r : Ring) where
   -- "7. A stand not below n, or a position not below m."
   abbrev pub noNode : ℕ → Refusal
-  noNode x = record { refusal = OutOfTable; applies = not (ltb x (size (r .table))) }
+  noNode x = record { number = 7; applies = not (ltb x (size (r .table))) }
 
   abbrev pub noMessage : ℕ → Refusal
-  noMessage i = record { refusal = OutOfTable; applies = not (ltb i (length (r .messages))) }
+  noMessage i = record { number = 7; applies = not (ltb i (length (r .messages))) }
 
   -- "8. A notice, contact, timer or off at a stand that is off, or a question about one."
   abbrev pub nodeOff : ℕ → Refusal
-  nodeOff x = record { refusal = NodeOff; applies = not (isRunning r x) }
+  nodeOff x = record { number = 8; applies = not (isRunning r x) }
 
   -- "9. On, for a running stand."
   abbrev pub alreadyRunning : ℕ → Refusal
-  alreadyRunning x = record { refusal = AlreadyRunning; applies = isRunning r x }
+  alreadyRunning x = record { number = 9; applies = isRunning r x }
 
   -- "10. The clock is 16,777,215 and must rise."
   abbrev pub clockSpent : Bool → ℕ → Refusal
-  clockSpent rises x = record { refusal = ClockSpent; applies = rises && eqb (r .node x .clock) 16777215 }
+  clockSpent rises x = record { number = 10; applies = rises && eqb (r .node x .clock) 16777215 }
 
-  -- "11. More than 1,024 messages would be left."
-  abbrev pub poolFull : Event → Refusal
-  poolFull e = record { refusal = PoolFull; applies = ltb 1024 (length (after r e .messages)) }
-
-  -- the refusals of each event but the last, in rising order
+  -- the refusals of each event, in rising order
   abbrev pub refusals : Event → List Refusal
   refusals (On x) = noNode (x .0) ∷ alreadyRunning (x .0) ∷ clockSpent true (x .0) ∷ []
   refusals (Off x) = noNode (x .0) ∷ nodeOff (x .0) ∷ []
@@ -98,18 +92,22 @@ module _ (r : Ring) where
   refusals (Deliver i) = noMessage i ∷ clockSpent (isRunning r (messageAt r i .receiver)) (messageAt r i .receiver) ∷ []
   refusals (Lose i) = noMessage i ∷ []
 
-  abbrev pub stateRefusals : Event → List Refusal
-  stateRefusals e = refusals e ++ poolFull e ∷ []
+-- those of the ring that an event would leave: "11. More than 1,024 messages would be left."
+abbrev pub leftRefusals : Ring → List Refusal
+leftRefusals r = record { number = 11; applies = ltb 1024 (length (r .messages)) } ∷ []
+
+abbrev pub stateRefusals : Ring → Event → List Refusal
+stateRefusals r e = refusals r e ++ leftRefusals (after r e)
 
 -- ---- words, played
 
 -- the answer of a call, and the ring after it
 pub record Played : Type 0 where
-  pub answer : Answer
+  pub answer : ℕ
   pub ring : Ring
 
 -- the refusals from the word, then those from the state
-unfoldable pub playAnswer : Ring → ℕ → Answer
+unfoldable pub playAnswer : Ring → ℕ → ℕ
 playAnswer r w = firstOf (wordRefusals w ++ stateRefusals r (eventOf w))
 
 -- one word; "nothing is written" when refused

@@ -11,13 +11,12 @@ use Rattle.model.specs.Words.{decode}
 use Rattle.model.specs.Buffer.{wrongLength, notARing}
 use Rattle.model.specs.Play.{noNode, nodeOff}
 use Rattle.model.specs.Connection.{connected, groups}
-use Rattle.model.specs.declared.answer.Answer.{Answer}
 
 -- "about one stand's leafset in its held set": refusals 1, 6, 7 and "8. .. or a question about one"
 abbrev pub leafsetRefusals : List ℕ → ℕ → List Refusal
 leafsetRefusals ws x = wrongLength ws ∷ notARing ws ∷ noNode (decode ws) x ∷ nodeOff (decode ws) x ∷ []
 
-unfoldable pub leafsetAnswer : List ℕ → ℕ → Answer
+unfoldable pub leafsetAnswer : List ℕ → ℕ → ℕ
 leafsetAnswer ws x = firstOf (leafsetRefusals ws x)
 
 -- "its answer is 64 bits, bit s for stand s"; "A refused leafset question returns the empty set"
@@ -29,7 +28,7 @@ abbrev pub connectionRefusals : List ℕ → ℕ → ℕ → List Refusal
 connectionRefusals ws a b =
     wrongLength ws ∷ notARing ws ∷ noNode (decode ws) a ∷ noNode (decode ws) b ∷ nodeOff (decode ws) a ∷ nodeOff (decode ws) b ∷ []
 
-unfoldable pub connectionAnswer : List ℕ → ℕ → ℕ → Answer
+unfoldable pub connectionAnswer : List ℕ → ℕ → ℕ → ℕ
 connectionAnswer ws a b = firstOf (connectionRefusals ws a b)
 
 -- a refused "connection question no"
@@ -40,7 +39,7 @@ connectionOf ws a b = if isAccepted (connectionAnswer ws a b) then connected (de
 abbrev pub groupsRefusals : List ℕ → List Refusal
 groupsRefusals ws = wrongLength ws ∷ notARing ws ∷ []
 
-unfoldable pub groupsAnswer : List ℕ → Answer
+unfoldable pub groupsAnswer : List ℕ → ℕ
 groupsAnswer ws = firstOf (groupsRefusals ws)
 
 -- 0 where refused

@@ -9,6 +9,18 @@ use model::node::NodeRecord;
 use model::values::NodeNumber;
 use model::values::Stamp;
 
+// A record that holds nobody.
+pub fn empty() -> NodeRecord
+    ensures fits { λ r. ⌜ ((n : ℕ) → OwnFits n r) ⌝ }
+{
+    NodeRecord {
+        held: 0,
+        candidates: 0,
+        commit: [Stamp(0); 64],
+        spare: [NodeNumber::NONE; 64],
+    }
+}
+
 pub fn set_candidates(own: NodeRecord, set: u64) -> NodeRecord
     ensures record { λ r. ⌜ ((n : ℕ) → OwnFits n own → Within n set
         → Owns n r (steps.setCandidates (ofBits set) (ownOf own))) ⌝ }

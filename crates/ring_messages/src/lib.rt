@@ -13,10 +13,12 @@ ghost use Rattle.model.specs.Sets.{ofBits, count, members};
 ghost use Rattle.model.specs.Steps as steps;
 ghost use Rattle.ring_messages.specs.Loaded.{LoadedMessage};
 ghost use Rattle.ring_head.specs.Parts.{Encodes};
+ghost use Rattle.records.specs.Effects.{sendsOf, SendsFit};
 use model::message::MessageRecord;
 use model::node::NodeRecord;
 use model::values::NodeNumber;
 use model::values::Stamp;
+use records::effect::Sends;
 use records::message::plain;
 use records::message::stamped;
 use word_ring::HeadWord;
@@ -108,7 +110,7 @@ fn set_count(words: &mut [u32], m: usize)
 }
 
 // Sends a message of a type that uses nothing to each of the set, after the m messages. How many there are then.
-pub fn send_each(words: &mut [u32], m: usize, tag: u8, me: NodeNumber, to: u64) -> usize
+fn send_each(words: &mut [u32], m: usize, tag: u8, me: NodeNumber, to: u64) -> usize
     requires words { ⌜ (length (now words) ≡ ringLength) × (tag < 2 ^ 4) × (me .0 < 64)
         × (m + count 64 (ofBits to) ≤ 1024) ⌝ }
     ensures ring { λ r. ⌜ ((ρ : Ring) (n : ℕ) → Encodes (now (words .entry)) n m ρ
@@ -127,7 +129,7 @@ pub fn send_each(words: &mut [u32], m: usize, tag: u8, me: NodeNumber, to: u64) 
 }
 
 // Sends a request for each z of the set to its spare, after the m messages. How many there are then.
-pub fn send_requests(
+fn send_requests(
     words: &mut [u32],
     m: usize,
     me: NodeNumber,
@@ -159,4 +161,30 @@ pub fn send_requests(
         sent += 1;
     }
     sent
+}
+
+// Appends the messages of a group, which me sends at `time`, after the m messages. How many there are then.
+pub fn send(
+    words: &mut [u32],
+    m: usize,
+    me: NodeNumber,
+    time: Stamp,
+    own: NodeRecord,
+    sends: Sends,
+) -> usize
+    requires words { ⌜ (length (now words) ≡ ringLength) × (me .0 < 64) × (time .0 < 2 ^ 24)
+        × (m + length (sendsOf (me .0) (time .0) own sends) ≤ 1024) ⌝ }
+    requires sends { ⌜ RoomNode own × SendsFit own sends ⌝ }
+    ensures ring { λ r. ⌜ ((ρ : Ring) (n : ℕ) → Encodes (now (words .entry)) n m ρ
+        → Encodes (now (words .exit)) n r (setMessages (ρ .messages ++ sendsOf (me .0) (time .0) own sends) ρ)) ⌝ }
+{
+    match sends {
+        Sends::Nothing => m,
+        Sends::One(message) => {
+            append(words, m, message);
+            m + 1
+        }
+        Sends::Each(tag, to) => send_each(words, m, tag, me, to),
+        Sends::ToSpares(to) => send_requests(words, m, me, time, own, to),
+    }
 }

@@ -8,10 +8,8 @@ use lib.ListN.{getD, List·getD-eq-default}
 use Rattle.model.specs.Leafset.{Table}
 use Rattle.model.specs.Ring.{Own, Message}
 use Rattle.model.specs.Steps.{Effect, nothing, deliver, onPingContact, onPongContact, onPingAskInv, onPongAskInv, onPingInvite, onPongInvite, onPingAskRepl, onPongAskRepl, onPingReplace, onPongReplace, onPingDeloopy, onPongDeloopy}
-use Rattle.records.specs.declared.effect.Reply.{Reply}
-use Rattle.records.specs.Effects.{Replies}
 
-module _ (t : Table) (me now : ℕ) (o : Own) (m : Message) where
+module _ (t : Table) (me now : ℕ) (o : Own) (m : Message) (P : Effect → Type 0) where
   abbrev steps : List Effect
   steps =
       nothing t me now o
@@ -20,11 +18,11 @@ module _ (t : Table) (me now : ℕ) (o : Own) (m : Message) where
       ∷ onPingReplace t me now o m ∷ onPongReplace t me now o m ∷ onPingDeloopy t me now o m ∷ onPongDeloopy t me now o m
       ∷ []
 
-  pub by-type : {n : ℕ} {r : Reply} (k : ℕ) → m .type ≡ k → Replies n r (getD steps k (nothing t me now o)) → Replies n r (deliver t me now o m)
+  pub by-type : (k : ℕ) → m .type ≡ k → P (getD steps k (nothing t me now o)) → P (deliver t me now o m)
   unfolding deliver
-  by-type {n} {r} k e p = subst (λ (j : ℕ). Replies n r (getD steps j (nothing t me now o))) (sym e) p
+  by-type k e p = subst (λ (j : ℕ). P (getD steps j (nothing t me now o))) (sym e) p
 
-  pub by-no-type : {n : ℕ} {r : Reply} → (m .type < 13 → m .type < 1) → Replies n r (nothing t me now o) → Replies n r (deliver t me now o m)
+  pub by-no-type : (m .type < 13 → m .type < 1) → P (nothing t me now o) → P (deliver t me now o m)
   by-no-type f p =
       elim (decLt (m .type) 13) [
         | yes h ↦ let l = f h in by-type 0 (omega arith) p

@@ -1,44 +1,32 @@
 // The step of a timer by its number, and of a delivered message by its type.
 ghost use Prim.Native.Nat.{ℕ, _≤_, _<_, _^_};
 ghost use lib.ListN.{length};
-ghost use Rattle.model.specs.Structs.{tableOf, ownOf, messageOf};
+ghost use Rattle.model.specs.Structs.{tableOf, ownOf, messageOf, spareAt};
 ghost use Rattle.model.specs.Steps as steps;
 ghost use Rattle.leafset.specs.Table.{InTable};
-ghost use Rattle.records.specs.Effects.{OwnFits, Replies, CallsEach, Delivered};
+ghost use Rattle.records.specs.Effects.{OwnFits, Leaves, Delivered};
 use model::message::MessageRecord;
 use model::node::NodeRecord;
 use model::values::NodeNumber;
 use model::values::Stamp;
-use records::effect::Calls;
-use records::effect::Reply;
+use records::effect::EffectRecord;
 use word_ring::MessageWord;
 
-// Timers 0, 1 and 2: a message to each of a set.
-pub fn calling(keys: &[u32], leaf: u32, x: NodeNumber, own: NodeRecord, k: u8) -> Calls
-    requires table { ⌜ InTable (now keys) (x .0) (own .held) × OwnFits (length (now keys)) own × (leaf ≤ 8)
-        × (k < 3) ⌝ }
-    ensures effect { λ r. ⌜ ((time : ℕ)
-        → CallsEach (length (now (keys .entry))) (x .0) r
-        (steps.timer (tableOf leaf (now (keys .entry))) (x .0) time (ownOf own) k)) ⌝ }
+// The step of timer k; above 4 no timer has one.
+pub fn timer(keys: &[u32], leaf: u32, me: NodeNumber, own: NodeRecord, k: u8) -> EffectRecord
+    requires table { ⌜ InTable (now keys) (me .0) (own .held) × OwnFits (length (now keys)) own × (leaf ≤ 8)
+        × ((z : ℕ) → spareAt own z ≤ 64) ⌝ }
+    ensures effect { λ r. ⌜ ((time : ℕ) → Leaves (length (now (keys .entry))) (me .0) time r
+        (steps.timer (tableOf leaf (now (keys .entry))) (me .0) time (ownOf own) k)) ⌝ }
 {
     match k {
         0 => step_invite::timer0(own),
-        1 => step_invite::timer1(keys, leaf, x, own),
-        _ => step_spare::timer2(keys, leaf, x, own),
+        1 => step_invite::timer1(keys, leaf, me, own),
+        2 => step_spare::timer2(keys, leaf, me, own),
+        3 => step_replace::timer3(keys, leaf, me, own),
+        4 => step_deloopy::timer4(keys, me, own),
+        _ => EffectRecord::quiet(own),
     }
-}
-
-// Timer 4, and those above it: one message or none.
-pub fn replying(keys: &[u32], x: NodeNumber, own: NodeRecord, k: u8) -> Reply
-    requires table { ⌜ InTable (now keys) (x .0) (own .held) × OwnFits (length (now keys)) own × (4 ≤ k) ⌝ }
-    ensures effect { λ r. ⌜ ((leaf time : ℕ)
-        → Replies (length (now (keys .entry))) r
-        (steps.timer (tableOf leaf (now (keys .entry))) (x .0) time (ownOf own) k)) ⌝ }
-{
-    if k != 4 {
-        return Reply::quiet(own);
-    }
-    step_deloopy::timer4(keys, x, own)
 }
 
 // The step of the message's type; nothing for a number that is no type.
@@ -49,10 +37,10 @@ pub fn deliver(
     time: Stamp,
     own: NodeRecord,
     message: MessageRecord,
-) -> Reply
+) -> EffectRecord
     requires table { ⌜ InTable (now keys) (me .0) (own .held) × OwnFits (length (now keys)) own × (leaf ≤ 8)
         × (time .0 < 2 ^ 24) × Delivered (length (now keys)) message ⌝ }
-    ensures effect { λ r. ⌜ Replies (length (now (keys .entry))) r
+    ensures effect { λ r. ⌜ Leaves (length (now (keys .entry))) (me .0) (time .0) r
         (steps.deliver (tableOf leaf (now (keys .entry))) (me .0) (time .0) (ownOf own) (messageOf message)) ⌝ }
 {
     let tag = message.tag;
@@ -76,6 +64,6 @@ pub fn deliver(
         ),
         MessageWord::PING_DELOOPY => step_deloopy::on_ping_deloopy(keys, me, own, message),
         MessageWord::PONG_DELOOPY => step_deloopy::on_pong_deloopy(own, message),
-        _ => Reply::quiet(own),
+        _ => EffectRecord::quiet(own),
     }
 }

@@ -5,15 +5,15 @@ ghost use Rattle.model.specs.Leafset.{Table, size};
 ghost use Rattle.model.specs.Structs.{tableOf, ownOf, messageOf};
 ghost use Rattle.model.specs.Steps as steps;
 ghost use Rattle.leafset.specs.Table.{InTable};
-ghost use Rattle.records.specs.Effects.{OwnFits, Replies, CallsEach};
+ghost use Rattle.records.specs.Effects.{OwnFits, Leaves};
 ghost use Rattle.sets.specs.Within.{Within};
 use leafset::leafset;
 use model::message::MessageRecord;
 use model::node::NodeRecord;
 use model::values::NodeNumber;
 use model::values::Stamp;
-use records::effect::Calls;
-use records::effect::Reply;
+use records::effect::EffectRecord;
+use records::effect::Sends;
 use records::message::plain;
 use records::message::viewing;
 use records::own::add_candidate;
@@ -23,32 +23,26 @@ use records::own::set_candidates;
 use word_ring::MessageWord;
 
 // "type 3 to each held stand"
-pub fn timer0(own: NodeRecord) -> Calls
+pub fn timer0(own: NodeRecord) -> EffectRecord
     ensures effect { λ r. ⌜ ((t : Table) (me time : ℕ) → size t ≤ 64 → OwnFits (size t) own
-        → CallsEach (size t) me r (steps.timer0 t me time (ownOf own))) ⌝ }
+        → Leaves (size t) me time r (steps.timer0 t me time (ownOf own))) ⌝ }
 {
-    Calls {
-        own,
-        tag: MessageWord::PING_ASK_INV,
-        to: own.held,
-    }
+    EffectRecord::sending(own, Sends::Each(MessageWord::PING_ASK_INV, own.held))
 }
 
 // "type 5 to each candidate not held that is in my leafset of candidates and held together; then candidates are
 // emptied"
-pub fn timer1(keys: &[u32], leaf: u32, me: NodeNumber, own: NodeRecord) -> Calls
+pub fn timer1(keys: &[u32], leaf: u32, me: NodeNumber, own: NodeRecord) -> EffectRecord
     requires table { ⌜ InTable (now keys) (me .0) (own .held) × OwnFits (length (now keys)) own × (leaf ≤ 8) ⌝ }
-    ensures effect { λ r. ⌜ ((time : ℕ)
-        → CallsEach (length (now (keys .entry))) (me .0) r
+    ensures effect { λ r. ⌜ ((time : ℕ) → Leaves (length (now (keys .entry))) (me .0) time r
         (steps.timer1 (tableOf leaf (now (keys .entry))) (me .0) time (ownOf own))) ⌝ }
 {
     let near = leafset(keys, leaf, me, own.candidates | own.held);
     let to = sets::minus(own.candidates, own.held) & near;
-    Calls {
-        own: set_candidates(own, 0),
-        tag: MessageWord::PING_INVITE,
-        to,
-    }
+    EffectRecord::sending(
+        set_candidates(own, 0),
+        Sends::Each(MessageWord::PING_INVITE, to),
+    )
 }
 
 // "On 3: answer type 4 with view = leafset of the sender in my held set; sender becomes a candidate."
@@ -58,36 +52,36 @@ pub fn on_ping_ask_inv(
     me: NodeNumber,
     own: NodeRecord,
     message: MessageRecord,
-) -> Reply
+) -> EffectRecord
     requires table { ⌜ InTable (now keys) (message .sender .0) (own .held) × OwnFits (length (now keys)) own
         × (leaf ≤ 8) × (me .0 < 64) ⌝ }
     ensures effect { λ r. ⌜ ((time : ℕ)
-        → Replies (length (now (keys .entry))) r
+        → Leaves (length (now (keys .entry))) (me .0) time r
         (steps.onPingAskInv (tableOf leaf (now (keys .entry))) (me .0) time (ownOf own) (messageOf message))) ⌝ }
 {
     let view = leafset(keys, leaf, message.sender, own.held);
     let next = add_candidate(own, message.sender);
-    Reply::sending(
+    EffectRecord::replying(
         next,
         viewing(MessageWord::PONG_ASK_INV, me, message.sender, view),
     )
 }
 
 // "On 4: the view joins the candidates."
-pub fn on_pong_ask_inv(own: NodeRecord, message: MessageRecord) -> Reply
+pub fn on_pong_ask_inv(own: NodeRecord, message: MessageRecord) -> EffectRecord
     ensures effect { λ r. ⌜ ((t : Table) (me time n : ℕ) → OwnFits n own → Within n (message .view)
-        → Replies n r (steps.onPongAskInv t me time (ownOf own) (messageOf message))) ⌝ }
+        → Leaves n me time r (steps.onPongAskInv t me time (ownOf own) (messageOf message))) ⌝ }
 {
-    Reply::quiet(add_candidates(own, message.view))
+    EffectRecord::quiet(add_candidates(own, message.view))
 }
 
 // "On 5: answer 6."
-pub fn on_ping_invite(me: NodeNumber, own: NodeRecord, message: MessageRecord) -> Reply
+pub fn on_ping_invite(me: NodeNumber, own: NodeRecord, message: MessageRecord) -> EffectRecord
     requires bounds { ⌜ (me .0 < 64) × (message .sender .0 < 64) ⌝ }
     ensures effect { λ r. ⌜ ((t : Table) (time n : ℕ) → OwnFits n own
-        → Replies n r (steps.onPingInvite t (me .0) time (ownOf own) (messageOf message))) ⌝ }
+        → Leaves n (me .0) time r (steps.onPingInvite t (me .0) time (ownOf own) (messageOf message))) ⌝ }
 {
-    Reply::sending(own, plain(MessageWord::PONG_INVITE, me, message.sender))
+    EffectRecord::replying(own, plain(MessageWord::PONG_INVITE, me, message.sender))
 }
 
 // "On 6: take the sender in if it lies in my leafset of held plus sender."
@@ -98,16 +92,16 @@ pub fn on_pong_invite(
     time: Stamp,
     own: NodeRecord,
     message: MessageRecord,
-) -> Reply
+) -> EffectRecord
     requires table { ⌜ InTable (now keys) (me .0) (own .held) × OwnFits (length (now keys)) own × (leaf ≤ 8)
         × (time .0 < 2 ^ 24) × (message .sender .0 < length (now keys)) ⌝ }
-    ensures effect { λ r. ⌜ Replies (length (now (keys .entry))) r
+    ensures effect { λ r. ⌜ Leaves (length (now (keys .entry))) (me .0) (time .0) r
         (steps.onPongInvite (tableOf leaf (now (keys .entry))) (me .0) (time .0) (ownOf own) (messageOf message)) ⌝ }
 {
     let y = message.sender;
     let near = leafset(keys, leaf, me, sets::with(own.held, y));
     if !sets::has(near, y) {
-        return Reply::quiet(own);
+        return EffectRecord::quiet(own);
     }
-    Reply::quiet(hold(own, time, y))
+    EffectRecord::quiet(hold(own, time, y))
 }

@@ -10,30 +10,30 @@ ghost use Rattle.model.specs.Structs.{tableOf, ownOf, spareAt, RoomNode, messag
 ghost use Rattle.model.specs.Choice.{if_then_else_};
 ghost use Rattle.model.specs.Steps as steps;
 ghost use Rattle.leafset.specs.Table.{InTable};
-ghost use Rattle.records.specs.Effects.{OwnFits, Replies, RequestsEach, Owns};
+ghost use Rattle.records.specs.Effects.{OwnFits, Leaves, Owns};
 use leafset::leafset;
 use leafset::outside;
 use model::message::MessageRecord;
 use model::node::NodeRecord;
 use model::values::NodeNumber;
 use model::values::Stamp;
-use records::effect::Reply;
+use records::effect::EffectRecord;
+use records::effect::Sends;
 use records::message::stamped;
 use records::own::hold;
 use records::own::release;
 use records::own::set_commit;
 use word_ring::MessageWord;
 
-// Timer 3: "each held z outside my leafset with a spare". The own record stays; each spare gets a request.
-pub fn timer3(keys: &[u32], leaf: u32, me: NodeNumber, own: NodeRecord) -> u64
-    requires table { ⌜ InTable (now keys) (me .0) (own .held) × RoomNode own × (leaf ≤ 8)
+// "for each held z outside my leafset with a spare, type 9 to the spare, subject z, stamp now"
+pub fn timer3(keys: &[u32], leaf: u32, me: NodeNumber, own: NodeRecord) -> EffectRecord
+    requires table { ⌜ InTable (now keys) (me .0) (own .held) × OwnFits (length (now keys)) own × (leaf ≤ 8)
         × ((z : ℕ) → spareAt own z ≤ 64) ⌝ }
-    ensures effect { λ r. ⌜ ((time : ℕ)
-        → RequestsEach (me .0) time own r
+    ensures effect { λ r. ⌜ ((time : ℕ) → Leaves (length (now (keys .entry))) (me .0) time r
         (steps.timer3 (tableOf leaf (now (keys .entry))) (me .0) time (ownOf own))) ⌝ }
 {
     let outside = outside(keys, leaf, me, own.held);
-    spared(own, outside)
+    EffectRecord::sending(own, Sends::ToSpares(spared(own, outside)))
 }
 
 // The members of the set that have a spare.
@@ -61,14 +61,14 @@ pub fn on_ping_replace(
     time: Stamp,
     own: NodeRecord,
     message: MessageRecord,
-) -> Reply
+) -> EffectRecord
     requires record { ⌜ (me .0 < 64) × (time .0 < 2 ^ 24) × (message .subject .0 < 64) × RoomNode own
         × RoomMessage message ⌝ }
     ensures effect { λ r. ⌜ ((t : Table) (n : ℕ) → OwnFits n own
-        → Replies n r (steps.onPingReplace t (me .0) (time .0) (ownOf own) (messageOf message))) ⌝ }
+        → Leaves n (me .0) (time .0) r (steps.onPingReplace t (me .0) (time .0) (ownOf own) (messageOf message))) ⌝ }
 {
     if !sets::has(own.held, message.subject) {
-        return Reply::quiet(own);
+        return EffectRecord::quiet(own);
     }
     let next = set_commit(own, message.subject, time);
     let answer = stamped(
@@ -78,7 +78,7 @@ pub fn on_ping_replace(
         message.subject,
         message.stamp,
     );
-    Reply::sending(next, answer)
+    EffectRecord::replying(next, answer)
 }
 
 // Whether a stamp is earlier than another of the same clock.
@@ -114,16 +114,16 @@ pub fn on_pong_replace(
     time: Stamp,
     own: NodeRecord,
     message: MessageRecord,
-) -> Reply
+) -> EffectRecord
     requires table { ⌜ InTable (now keys) (me .0) (own .held) × OwnFits (length (now keys)) own × (leaf ≤ 8)
         × (time .0 < 2 ^ 24) × (message .sender .0 < length (now keys)) × (message .subject .0 < 64) ⌝ }
-    ensures effect { λ r. ⌜ Replies (length (now (keys .entry))) r
+    ensures effect { λ r. ⌜ Leaves (length (now (keys .entry))) (me .0) (time .0) r
         (steps.onPongReplace (tableOf leaf (now (keys .entry))) (me .0) (time .0) (ownOf own) (messageOf message)) ⌝ }
 {
     let outside = outside(keys, leaf, me, own.held);
     let at = message.subject.0 as usize;
     if !(sets::has(outside, message.subject) & (own.spare[at].0 == message.sender.0)) {
-        return Reply::quiet(own);
+        return EffectRecord::quiet(own);
     }
-    Reply::quiet(replaced(time, own, message.sender, message.subject, message.stamp))
+    EffectRecord::quiet(replaced(time, own, message.sender, message.subject, message.stamp))
 }

@@ -5,32 +5,27 @@ ghost use Rattle.model.specs.Leafset.{Table};
 ghost use Rattle.model.specs.Structs.{tableOf, ownOf, RoomNode, messageOf, RoomMessage};
 ghost use Rattle.model.specs.Steps as steps;
 ghost use Rattle.leafset.specs.Table.{InTable};
-ghost use Rattle.records.specs.Effects.{OwnFits, Replies, CallsEach};
+ghost use Rattle.records.specs.Effects.{OwnFits, Leaves};
 use leafset::leafset;
 use leafset::outside;
 use leafset_choice::closest;
 use model::message::MessageRecord;
 use model::node::NodeRecord;
 use model::values::NodeNumber;
-use records::effect::Calls;
-use records::effect::Reply;
+use records::effect::EffectRecord;
+use records::effect::Sends;
 use records::message::naming;
 use records::own::set_spare;
 use word_ring::MessageWord;
 
 // "type 7 to each held stand outside my leafset of the held"
-pub fn timer2(keys: &[u32], leaf: u32, me: NodeNumber, own: NodeRecord) -> Calls
+pub fn timer2(keys: &[u32], leaf: u32, me: NodeNumber, own: NodeRecord) -> EffectRecord
     requires table { ⌜ InTable (now keys) (me .0) (own .held) × OwnFits (length (now keys)) own × (leaf ≤ 8) ⌝ }
-    ensures effect { λ r. ⌜ ((time : ℕ)
-        → CallsEach (length (now (keys .entry))) (me .0) r
+    ensures effect { λ r. ⌜ ((time : ℕ) → Leaves (length (now (keys .entry))) (me .0) time r
         (steps.timer2 (tableOf leaf (now (keys .entry))) (me .0) time (ownOf own))) ⌝ }
 {
     let outside = outside(keys, leaf, me, own.held);
-    Calls {
-        own,
-        tag: MessageWord::PING_ASK_REPL,
-        to: outside,
-    }
+    EffectRecord::sending(own, Sends::Each(MessageWord::PING_ASK_REPL, outside))
 }
 
 // "On 7 from a: answer 8 whose subject is the member of my leafset, other than a, nearest to a and strictly nearer to
@@ -41,29 +36,29 @@ pub fn on_ping_ask_repl(
     me: NodeNumber,
     own: NodeRecord,
     message: MessageRecord,
-) -> Reply
+) -> EffectRecord
     requires table { ⌜ InTable (now keys) (me .0) (own .held) × OwnFits (length (now keys)) own × (leaf ≤ 8)
         × (message .sender .0 < length (now keys)) ⌝ }
     ensures effect { λ r. ⌜ ((time : ℕ)
-        → Replies (length (now (keys .entry))) r
+        → Leaves (length (now (keys .entry))) (me .0) time r
         (steps.onPingAskRepl (tableOf leaf (now (keys .entry))) (me .0) time (ownOf own) (messageOf message))) ⌝ }
 {
     let spare = closest(keys, leaf, me, own.held, message.sender);
-    Reply::sending(
+    EffectRecord::replying(
         own,
         naming(MessageWord::PONG_ASK_REPL, me, message.sender, spare),
     )
 }
 
 // "On 8: if the sender is held, its spare becomes the subject."
-pub fn on_pong_ask_repl(own: NodeRecord, message: MessageRecord) -> Reply
+pub fn on_pong_ask_repl(own: NodeRecord, message: MessageRecord) -> EffectRecord
     requires record { ⌜ RoomNode own ⌝ }
     requires message { ⌜ RoomMessage message ⌝ }
     ensures effect { λ r. ⌜ ((t : Table) (me time n : ℕ) → OwnFits n own
-        → Replies n r (steps.onPongAskRepl t me time (ownOf own) (messageOf message))) ⌝ }
+        → Leaves n me time r (steps.onPongAskRepl t me time (ownOf own) (messageOf message))) ⌝ }
 {
     if !sets::has(own.held, message.sender) {
-        return Reply::quiet(own);
+        return EffectRecord::quiet(own);
     }
-    Reply::quiet(set_spare(own, message.sender, message.subject))
+    EffectRecord::quiet(set_spare(own, message.sender, message.subject))
 }

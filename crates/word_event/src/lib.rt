@@ -2,7 +2,8 @@
 pub mod word;
 
 ghost use mathlib.Core.Path.{_≡_};
-ghost use Rattle.model.specs.Events.{partsFit, sameNode, eventAnswer, writeEvent, readEvent};
+ghost use Rattle.model.specs.Answers.{numberOf};
+ghost use Rattle.model.specs.Events.{partsFit, sameNode, eventAnswer, writeEvent, readEvent, readingOf};
 use model::answer::Answer;
 use model::event::Event;
 use model::event::Reading;
@@ -43,7 +44,7 @@ fn same_node(e: Event) -> bool
 
 // The word of an event, or refusal 4 or 5.
 pub fn write_event(e: Event) -> Writing
-    ensures answer { λ r. ⌜ r .answer ≡ eventAnswer e ⌝ }
+    ensures answer { λ r. ⌜ numberOf (r .answer) ≡ eventAnswer e ⌝ }
     ensures word { λ r. ⌜ r .word ≡ writeEvent e ⌝ }
 {
     if !parts_fit(e) {
@@ -66,7 +67,7 @@ pub fn write_event(e: Event) -> Writing
 
 // The event of a word, or refusal 4 or 5.
 pub fn read_event(word: u32) -> Reading
-    ensures value { λ r. ⌜ r ≡ readEvent word ⌝ }
+    ensures value { λ r. ⌜ readingOf r ≡ readEvent word ⌝ }
 {
     let e = EventWord(word).event();
     if EventWord::new(e).0 != word {

@@ -3,6 +3,7 @@ use native.Mathlib.Omega.{arith}
 use borrow.Author.Needs.{needs}
 use borrow.Author.Tests.{not-true, not-false}
 use lib.ListN.{length-take}
+use Rattle.model.specs.declared.answer.Answer.the-variants.{OpeningOutOfRange, BadKey}
 use Rattle.bench_open.proofs.Begins.{refused-head, enough, refused-sizes, refused-keys, passed, sizes-read, keys-read, table-read, few, script-refused, script-opened}
 use Rattle.bench_open.proofs.open_script.Statement.{statement}
 use Rattle.bench_open.proofs.open_script.Tie as tie
@@ -10,7 +11,7 @@ use Rattle.bench_open.proofs.open_script.Tie as tie
 returns : tie.Need-returns
 returns c =
     let ws = c .before .before .before .before .args .script .now in
-    script-refused _ ws _ (refused-head ws (sym (c .before .head-fits .ensures) ∙ not-true _ (c .if1 .taken))) refl
+    script-refused _ ws OpeningOutOfRange (refused-head ws (sym (c .before .head-fits .ensures) ∙ not-true _ (c .if1 .taken))) refl
 
 shared-slice-read-n : tie.Need-shared-slice-read-n
 shared-slice-read-n c =
@@ -21,7 +22,7 @@ returns-2 : tie.Need-returns-2
 returns-2 c =
     let ws = c .before .before .before .before .before .before .before .before .before .args .script .now in
     let head = sym (c .before .before .before .before .before .before .head-fits .ensures) ∙ not-false _ (c .before .before .before .before .before .if1 .left) in
-    script-refused _ ws _ (refused-sizes ws head (sizes-read ws (c .before .before .before .leaf .ensures) (c .before .before .nodes .ensures) (c .before .sizes-fit .ensures) ∙ not-true _ (c .if2 .taken))) refl
+    script-refused _ ws OpeningOutOfRange (refused-sizes ws head (sizes-read ws (c .before .before .before .leaf .ensures) (c .before .before .nodes .ensures) (c .before .sizes-fit .ensures) ∙ not-true _ (c .if2 .taken))) refl
 
 keys-fit-requires : tie.Need-keys-fit-requires
 keys-fit-requires c κs =
@@ -35,7 +36,7 @@ returns-3 c =
     let ws = c .before .before .before .before .before .before .before .before .before .before .before .args .script .now in
     let head = sym (c .before .before .before .before .before .before .before .before .head-fits .ensures) ∙ not-false _ (c .before .before .before .before .before .before .before .if1 .left) in
     let sizes = sizes-read ws (c .before .before .before .before .before .leaf .ensures) (c .before .before .before .before .nodes .ensures) (c .before .before .before .sizes-fit .ensures) ∙ not-false _ (c .before .before .if2 .left) in
-    script-refused _ ws _ (refused-keys ws head sizes (keys-read ws (c .before .before .before .before .before .leaf .ensures) (c .before .before .before .before .nodes .ensures) (c .before .keys-fit .ensures) ∙ not-true _ (c .if3 .taken))) refl
+    script-refused _ ws BadKey (refused-keys ws head sizes (keys-read ws (c .before .before .before .before .before .leaf .ensures) (c .before .before .before .before .nodes .ensures) (c .before .keys-fit .ensures) ∙ not-true _ (c .if3 .taken))) refl
 
 keys-requires : tie.Need-keys-requires
 keys-requires c κs =

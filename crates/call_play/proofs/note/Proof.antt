@@ -3,7 +3,7 @@ use native.Mathlib.Omega.{arith}
 use lib.ListN.{set}
 use lib.Seq.{set-out}
 use borrow.Author.Needs.{needs}
-use Rattle.call_play.proofs.Replays.{number-low}
+use Rattle.model.proofs.Cases.{number-low}
 use Rattle.call_play.proofs.note.Statement.{statement}
 use Rattle.call_play.proofs.note.Tie as tie
 

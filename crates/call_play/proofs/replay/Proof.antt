@@ -1,18 +1,24 @@
+use mathlib.Core.Path.{refl}
 use borrow.Author.Needs.{needs}
-use borrow.Author.Tests.{eq-eqb, ne-eqb}
-use mathlib.Core.Path.{sym, _∙_}
-use Rattle.call_play.proofs.Replays.{refused, opened-reads, accepted}
+use Rattle.answers.proofs.Answered.{refused, accepted}
+use Rattle.call_play.proofs.Replays.{not-opened, opened-reads, replayed}
 use Rattle.call_play.proofs.replay.Statement.{statement}
 use Rattle.call_play.proofs.replay.Tie as tie
 
 returns : tie.Need-returns
-returns c = refused _ _ (c .before .before .before .before .«open» .ensures) _ _ (ne-eqb _ 0 (λ e. c .if1 .taken (c .before .number .ensures ∙ e)))
+returns c =
+    let opened = c .before .before .before .before .«open» in
+    not-opened _ _ (opened .result) (opened .ensures) _ _ (refused (opened .result) _ refl (c .before .is-refusal .ensures) (c .if1 .taken))
 
 play-each-requires : tie.Need-play-each-requires
-play-each-requires c κs = opened-reads _ _ (c .before .before .before .before .before .before .«open» .ensures) (eq-eqb _ 0 (sym (c .before .before .before .number .ensures) ∙ c .before .before .if1 .left))
+play-each-requires c κs =
+    let opened = c .before .before .before .before .before .before .«open» in
+    opened-reads _ _ (opened .result) (opened .ensures) (accepted (opened .result) _ refl (c .before .before .before .is-refusal .ensures) (c .before .before .if1 .left))
 
 returns-2 : tie.Need-returns-2
-returns-2 c = accepted _ _ (c .before .before .before .before .before .before .before .before .before .before .before .«open» .ensures) (eq-eqb _ 0 (sym (c .before .before .before .before .before .before .before .before .number .ensures) ∙ c .before .before .before .before .before .before .before .if1 .left)) (c .before .before .before .before .play-each .ensures)
+returns-2 c =
+    let opened = c .before .before .before .before .before .before .before .before .before .before .before .«open» in
+    replayed _ _ (opened .result) (opened .ensures) (accepted (opened .result) _ refl (c .before .before .before .before .before .before .before .before .is-refusal .ensures) (c .before .before .before .before .before .before .before .if1 .left)) (c .before .before .before .before .play-each .ensures)
 
 pub replay-spec : {M : Type 1} → statement M
 replay-spec =

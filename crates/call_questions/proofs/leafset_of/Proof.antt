@@ -2,7 +2,7 @@ use mathlib.Core.Path.{_∙_}
 use mathlib.Core.List.{List}
 use Prim.Native.Nat.{ℕ}
 use borrow.Author.Needs.{needs}
-use Rattle.answers.proofs.Answered.{asked-refused, asked-accepted}
+use Rattle.answers.proofs.Answered.{refused, accepted}
 use Rattle.call_questions.proofs.Asked.{node-twice, leafset-refused, leafset-given, connection-reads, connection-from}
 use Rattle.call_questions.proofs.leafset_of.Statement.{statement}
 use Rattle.call_questions.proofs.leafset_of.Tie as tie
@@ -10,9 +10,9 @@ use Rattle.call_questions.proofs.leafset_of.Tie as tie
 returns : tie.Need-returns
 returns c =
     let start = c .before .before .before .before in
-    let e = c .before .before .of-nodes .ensures in (
-      e ∙ node-twice (start .args .words .now) (start .args .x .0),
-      leafset-refused (start .args .words .now) (start .args .x .0) (asked-refused e (c .before .number .ensures) (c .if1 .taken)),
+    let nodes = c .before .before .of-nodes in (
+      nodes .ensures ∙ node-twice (start .args .words .now) (start .args .x .0),
+      leafset-refused (start .args .words .now) (start .args .x .0) (refused (nodes .result) _ (nodes .ensures) (c .before .is-refusal .ensures) (c .if1 .taken)),
     )
 
 held-leafset-requires : tie.Need-held-leafset-requires
@@ -20,15 +20,16 @@ held-leafset-requires c κs =
     let start = c .before .before .before .before in
     let ws : List ℕ = start .args .words .now in
     let x : ℕ = start .args .x .0 in
-    let a = asked-accepted (c .before .before .of-nodes .ensures) (c .before .number .ensures) (c .if1 .left) in
+    let nodes = c .before .before .of-nodes in
+    let a = accepted (nodes .result) _ (nodes .ensures) (c .before .is-refusal .ensures) (c .if1 .left) in
     (connection-reads ws x x a, connection-from ws x x a)
 
 returns-2 : tie.Need-returns-2
 returns-2 c =
     let start = c .before .before .before .before .before in
-    let e = c .before .before .before .of-nodes .ensures in (
-      e ∙ node-twice (start .args .words .now) (start .args .x .0),
-      leafset-given (start .args .words .now) (start .args .x .0) (asked-accepted e (c .before .before .number .ensures) (c .before .if1 .left)) (c .held-leafset .ensures),
+    let nodes = c .before .before .before .of-nodes in (
+      nodes .ensures ∙ node-twice (start .args .words .now) (start .args .x .0),
+      leafset-given (start .args .words .now) (start .args .x .0) (accepted (nodes .result) _ (nodes .ensures) (c .before .before .is-refusal .ensures) (c .before .if1 .left)) (c .held-leafset .ensures),
     )
 
 pub leafset-of-spec : {M : Type 1} → statement M

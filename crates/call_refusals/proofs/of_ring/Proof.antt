@@ -6,7 +6,8 @@ use native.Mathlib.Omega.{arith}
 use borrow.Author.Needs.{needs}
 use borrow.Author.Tests.{not-true, not-false}
 use Rattle.answers.proofs.Valid.{long}
-use Rattle.answers.proofs.Refusals.{here, next, in-table, out-of-table}
+use Rattle.model.proofs.Answers.{here, next}
+use Rattle.answers.proofs.Refusals.{in-table, out-of-table}
 use Rattle.call_refusals.proofs.Refused.{one-off, both-on}
 use Rattle.call_refusals.proofs.of_ring.Statement.{statement}
 use Rattle.call_refusals.proofs.of_ring.Tie as tie

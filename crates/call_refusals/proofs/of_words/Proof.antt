@@ -3,7 +3,8 @@ use mathlib.Core.List.{List}
 use Prim.Native.Nat.{ℕ}
 use borrow.Author.Tests.{not-true, not-false}
 use Rattle.model.specs.Questions.{groupsAnswer}
-use Rattle.answers.proofs.Refusals.{here, next, no-more, wrong-length, right-length, no-ring, a-ring}
+use Rattle.model.proofs.Answers.{here, next, no-more}
+use Rattle.answers.proofs.Refusals.{wrong-length, right-length, no-ring, a-ring}
 use borrow.Author.Needs.{needs}
 use Rattle.call_refusals.proofs.of_words.Statement.{statement}
 use Rattle.call_refusals.proofs.of_words.Tie as tie

@@ -1,12 +1,18 @@
-use mathlib.Core.Path.{refl}
+use mathlib.Core.Path.{refl, sym, ap, _∙_}
+use Prim.Native.Nat.{ℕ}
 use native.Mathlib.Omega.{arith}
+use Rattle.model.specs.Ring.{Own}
+use Rattle.model.specs.Steps.{Effect}
 use Rattle.model.specs.Steps as steps
+use Rattle.model.specs.Answers.{numberOf}
 use Rattle.model.specs.Words.{decode}
 use Rattle.model.specs.Play.{after}
 use Rattle.model.specs.declared.event.Event.the-variants.{Contact}
-use Rattle.answers.proofs.Answered.{event-asked}
-use Rattle.event_act.proofs.Lent.{may-reply}
-use Rattle.event_contact.proofs.Meets.{meets-acts, meets-low, met}
+use Rattle.answers.proofs.Answered.{refused, accepted}
+use Rattle.event_act.specs.declared.decision.Taken.the-variants.{Nothing}
+use Rattle.event_act.proofs.Decides.{refused-before, decides}
+use Rattle.event_act.proofs.Leaving.{acting-fits, acting-leaves}
+use Rattle.event_contact.proofs.Meets.{meets-acts, meets-low}
 use borrow.Author.Needs.{needs}
 use Rattle.event_contact.proofs.contact.Statement.{statement}
 use Rattle.event_contact.proofs.contact.Tie as tie
@@ -14,35 +20,43 @@ use Rattle.event_contact.proofs.contact.Tie as tie
 returns : tie.Need-returns
 returns c =
     let a = c .before .before .before .before .before .args in
-    event-asked (a .words .now) (Contact (a .x) (a .y)) (c .before .before .may-meet .ensures) (c .before .number .ensures) (c .if1 .taken)
+    let asked = c .before .before .before .may-meet in
+    refused-before (a .words .now) (Contact (a .x) (a .y)) _ (ap numberOf (c .refused .ensures) ∙ asked .ensures) refl
+    (refused (asked .result) _ (asked .ensures) (c .before .before .is-refusal .ensures) (c .before .if1 .taken))
 
 load-requires : tie.Need-load-requires
-load-requires c κs = (c .before .before .before .before .before .before .pre, meets-acts _ _ _ (c .before .before .before .may-meet .ensures) (c .before .before .number .ensures) (c .before .if1 .left))
+load-requires c κs =
+    let asked = c .before .before .may-meet in
+    (c .before .before .before .before .pre, meets-acts _ _ _ (accepted (asked .result) _ (asked .ensures) (c .before .is-refusal .ensures) (c .if1 .left)))
 
 contact-requires : tie.Need-contact-requires
 contact-requires c κs =
     let is = c .load .ensures in
-    let low = meets-low _ _ _ (c .before .before .before .before .may-meet .ensures) (c .before .before .before .number .ensures) (c .before .before .if1 .left) is in
+    let asked = c .before .before .before .may-meet in
+    let low = meets-low _ _ _ (accepted (asked .result) _ (asked .ensures) (c .before .before .is-refusal .ensures) (c .before .if1 .left)) is in
     (omega (arith, is .member, is .few), low)
 
-reply-requires : tie.Need-reply-requires
-reply-requires c κs =
-    let is = c .before .before .load .ensures in
-    may-reply is (c .before .before .before .before .before .before .before .before .before .pre) (c .before .contact .ensures (decode (c .before .before .before .before .before .before .before .before .before .args .words .now) .table) 0 _ (is .fits))
+acting-requires : tie.Need-acting-requires
+acting-requires c κs = (c .before .load .ensures .room, tt)
 
 returns-2 : tie.Need-returns-2
 unfolding after
 returns-2 c =
-    let start = c .before .before .before .before .before .before .before .before .before .before .before .before in
+    let start = c .before .before .before .before .before .before .before in
     let a = start .args in
-    let t = decode (a .words .now) .table in
-    let is = c .before .before .before .before .before .load .ensures in
-    met _ _ _ (c .before .before .before .before .before .before .before .before .before .may-meet .ensures) (c .before .before .before .before .before .before .before .before .number .ensures) (c .before .before .before .before .before .before .before .if1 .left) is (start .pre) (Contact (a .x) (a .y)) refl
-    (λ now o. steps.contact t (a .x .0) now o (a .y .0)) refl (c .before .before .reply .ensures) (c .before .before .before .before .contact .ensures t _ _ (is .fits))
+    let ws = a .words .now in
+    let t = decode ws .table in
+    let is = c .before .before .load .ensures in
+    let asked = c .before .before .before .before .before .may-meet in
+    let left = c .before .contact .ensures t _ _ (is .fits) in
+    let step : ℕ → Own → Effect = (λ now o. steps.contact t (a .x .0) now o (a .y .0)) in
+    decides ws (Contact (a .x) (a .y)) (accepted (asked .result) _ (asked .ensures) (c .before .before .before .before .is-refusal .ensures) (c .before .before .before .if1 .left)) _
+    (acting-fits (start .pre) is _ step left Nothing tt) (acting-leaves (start .pre) is _ step left Nothing) _
+    (c .acting .ensures (decode ws) (sym (is .count)))
 
 pub contact-spec : {M : Type 1} → statement M
 contact-spec =
     tie.close
     (tie.spec
-    (λ c κs. search needs) (λ c κs. search needs) (λ c. search needs) returns load-requires contact-requires
-    reply-requires (λ c. search needs) returns-2)
+    (λ c κs. search needs) (λ c κs. search needs) (λ c κs. search needs) returns load-requires contact-requires
+    acting-requires returns-2)

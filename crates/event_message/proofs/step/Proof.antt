@@ -2,7 +2,7 @@ use mathlib.Core.Path.{sym}
 use native.Mathlib.Omega.{arith}
 use Rattle.model.specs.Steps as steps
 use Rattle.model.specs.Structs.{ownOf, messageOf}
-use Rattle.records.specs.Effects.{Replies}
+use Rattle.records.specs.Effects.{Leaves}
 use Rattle.answers.proofs.Valid.{long, leaf-high}
 use Rattle.event_act.proofs.Lent.{keys-many, of-table, in-table, own-fits}
 use borrow.Author.Needs.{needs}
@@ -37,7 +37,7 @@ returns c =
     let start = c .before .before .before .before .before in
     let a = start .args in
     of-table (start .pre .1) _ (c .before .before .keys .ensures .1)
-    (λ n t. Replies n (c .deliver .result) (steps.deliver t (a .message .receiver .0) (a .actor .time .0) (ownOf (a .actor .own)) (messageOf (a .message))))
+    (λ n t. Leaves n (a .message .receiver .0) (a .actor .time .0) (c .deliver .result) (steps.deliver t (a .message .receiver .0) (a .actor .time .0) (ownOf (a .actor .own)) (messageOf (a .message))))
     (c .before .before .before .leaf .ensures) (c .deliver .ensures)
 
 pub step-spec : {M : Type 1} → statement M

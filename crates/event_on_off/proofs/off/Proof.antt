@@ -1,59 +1,68 @@
-use mathlib.Core.Path.{refl, sym, _∙_}
+use mathlib.Core.Path.{refl, sym, ap, _∙_}
 use mathlib.Core.List.{List}
-use Prim.Native.Nat.{ℕ}
+use Prim.Native.Nat.{ℕ, _<_}
 use native.Mathlib.Omega.{arith}
-use borrow.Author.Tests.{not-true, not-false}
-use Rattle.model.specs.Words.{decode}
+use lib.Dec.{lit<}
+use Rattle.model.specs.Answers.{numberOf}
+use Rattle.model.specs.Leafset.{size}
+use Rattle.model.specs.Words.{decodeTable, decode}
 use Rattle.model.specs.Play.{after}
 use Rattle.model.specs.declared.event.Event.the-variants.{Off}
-use Rattle.ring_head.proofs.ReadRing.{read-is}
-use Rattle.answers.proofs.Valid.{long, few, room}
-use Rattle.answers.proofs.Answered.{applied-room, event-refused, event-passed}
+use Rattle.model.proofs.Answers.{here, next, no-more}
+use Rattle.answers.proofs.Valid.{long, room}
 use Rattle.answers.proofs.Refusals
+use Rattle.event_act.specs.declared.decision.Change.{Change}
+use Rattle.event_act.specs.declared.decision.Taken.the-variants.{Nothing}
+use Rattle.event_act.specs.declared.decision.Becomes.the-variants.{Stops}
+use Rattle.event_act.proofs.Decides.{refused-before, decides}
+use Rattle.event_act.proofs.Leaving.{silent-fits, silent-leaves, never-starts}
+use borrow.Author.Tests.{not-true, not-false}
 use borrow.Author.Needs.{needs}
 use Rattle.event_on_off.proofs.off.Statement.{statement}
 use Rattle.event_on_off.proofs.off.Tie as tie
 
 nodes-requires : tie.Need-nodes-requires
-nodes-requires c κs = long _ (c .before .before .pre)
+nodes-requires c κs = long _ (c .before .pre)
 
 returns : tie.Need-returns
 returns c =
     let a = c .before .before .before .before .before .args in
-    event-refused (a .words .now) (Off (a .x)) (Refusals.here _ _ (Refusals.out-of-table (a .words .now) (a .x .0) (omega (arith, c .before .before .nodes .ensures .0)))) refl
+    refused-before (a .words .now) (Off (a .x)) _ (ap numberOf (c .refused .ensures))
+    (sym (here _ _ (Refusals.out-of-table (a .words .now) (a .x .0) (omega (arith, c .before .before .before .nodes .ensures .0))))) refl
 
 is-running-requires : tie.Need-is-running-requires
-is-running-requires c κs = (long _ (c .before .before .before .before .before .before .pre), omega (arith, c .before .before .before .nodes .ensures .0))
+is-running-requires c κs = (long _ (c .before .before .before .before .pre), omega (arith, c .before .before .nodes .ensures .0))
 
 returns-2 : tie.Need-returns-2
 returns-2 c =
-    let a = c .before .before .before .before .before .before .before .before .args in
-    event-refused (a .words .now) (Off (a .x))
-    (Refusals.next _ _ (Refusals.in-table (a .words .now) (a .x .0) (omega (arith, c .before .before .before .before .before .nodes .ensures .0)))
-    ∙ Refusals.here _ _ (Refusals.off (a .words .now) (a .x .0) (sym (c .before .is-running .ensures) ∙ not-true _ (c .if2 .taken))))
-    refl
+    let a = c .before .before .before .before .before .before .before .args in
+    refused-before (a .words .now) (Off (a .x)) _ (ap numberOf (c .refused2 .ensures))
+    (sym (next _ _ (Refusals.in-table (a .words .now) (a .x .0) (omega (arith, c .before .before .before .before .before .nodes .ensures .0)))
+    ∙ here _ _ (Refusals.off (a .words .now) (a .x .0) (sym (c .before .before .is-running .ensures) ∙ not-true _ (c .before .if2 .taken))))) refl
 
-stop-requires : tie.Need-stop-requires
-stop-requires c κs =
-    let start = c .before .before .before .before .before .before .before .before .before in
-    (long _ (start .pre), omega (arith, few _ (start .pre), c .before .before .before .before .before .before .nodes .ensures .0), omega (arith, c .before .before .before .before .before .before .nodes .ensures .0))
+messages-requires : tie.Need-messages-requires
+messages-requires c κs = long _ (c .before .before .before .before .before .before .pre)
+
+silent-requires : tie.Need-silent-requires
+silent-requires c κs = (omega (arith, c .messages .ensures .0, room _ (c .before .before .before .before .before .before .before .pre)), tt)
 
 returns-3 : tie.Need-returns-3
 unfolding after
 returns-3 c =
-    let start = c .before .before .before .before .before .before .before .before .before .before .before .before in
+    let start = c .before .before .before .before .before .before .before .before in
     let ws : List ℕ = start .args .words .now in
     let x : ℕ = start .args .x .0 in
-    let nodes = c .before .before .before .before .before .before .before .before .before .nodes .ensures .0 in
-    applied-room ws (c .before .before .stop .ensures (decode ws) _ (read-is ws (start .pre) _ _ nodes refl)) refl (room ws (start .pre))
-    ∙ event-passed ws (Off (start .args .x))
-    (Refusals.next _ _ (Refusals.in-table ws x (omega (arith, nodes)))
-    ∙ Refusals.next _ _ (Refusals.on ws x (sym (c .before .before .before .before .before .is-running .ensures) ∙ not-false _ (c .before .before .before .before .if2 .left)))
-    ∙ Refusals.no-more)
+    let done = c .silent .ensures (decode ws) (sym (c .before .messages .ensures .0)) in
+    let in-table : x < size (decodeTable ws) = omega (arith, c .before .before .before .before .before .before .nodes .ensures .0) in
+    let change : Change = record { taken = Nothing; node = start .args .x; becomes = Stops; time = record { 0 = 0 }; effect = done .effect } in
+    decides ws (Off (start .args .x))
+    (next _ _ (Refusals.in-table ws x in-table) ∙ next _ _ (Refusals.on ws x (sym (c .before .before .before .is-running .ensures) ∙ not-false _ (c .before .before .if2 .left))) ∙ no-more)
+    change (silent-fits change (done .quiet 0) (start .pre) tt in-table (lit< tt) (λ e. absurd (never-starts refl e)))
+    (silent-leaves change (done .quiet 0) (decode ws)) _ (done .decided)
 
 pub off-spec : {M : Type 1} → statement M
 off-spec =
     tie.close
     (tie.spec
-    nodes-requires (λ c. search needs) (λ c. search needs) returns is-running-requires (λ c. search needs) returns-2
-    stop-requires (λ c. search needs) returns-3)
+    nodes-requires (λ c. search needs) (λ c κs. search needs) returns is-running-requires (λ c κs. search needs) returns-2
+    messages-requires silent-requires returns-3)

@@ -1,35 +1,31 @@
+use mathlib.Core.Path.{_∙_}
 use borrow.Author.Needs.{needs}
-use Rattle.event_play.proofs.Plays.{of-event}
+use Rattle.answers.proofs.Answered.{refused, accepted}
+use Rattle.event_play.proofs.Plays.{not-written, is-written}
 use Rattle.event_play.proofs.play_event.Statement.{statement}
 use Rattle.event_play.proofs.play_event.Tie as tie
 
 returns : tie.Need-returns
-returns c = of-event (c .before .before .before .before .before .before .before .before .args .words .now) (c .before .before .before .before .before .e .given .1) (search needs)
+returns c =
+    let a = c .before .before .before .before .before .args in
+    let decide = c .before .before .decide in
+    not-written (a .words .now) (a .e) (decide .result) (decide .ensures)
+    (refused (decide .result .answer) _ (decide .ensures .answer) (c .before .is-refusal .ensures) (c .if1 .taken))
+
+write-requires : tie.Need-write-requires
+write-requires c κs =
+    let decide = c .before .before .before .before .decide in
+    decide .ensures .writable (decide .ensures .answer ∙ accepted (decide .result .answer) _ (decide .ensures .answer) (c .before .before .before .is-refusal .ensures) (c .before .before .if1 .left))
 
 returns-2 : tie.Need-returns-2
-returns-2 c = of-event (c .before .before .before .before .before .before .before .before .args .words .now) (c .before .before .before .before .before .e2 .given .1) (search needs)
-
-returns-3 : tie.Need-returns-3
-returns-3 c = of-event (c .before .before .before .before .before .before .before .before .args .words .now) (c .before .before .before .before .before .e3 .given .1) (search needs)
-
-returns-4 : tie.Need-returns-4
-returns-4 c = of-event (c .before .before .before .before .before .before .before .before .args .words .now) (c .before .before .before .before .before .e4 .given .1) (search needs)
-
-returns-5 : tie.Need-returns-5
-returns-5 c = of-event (c .before .before .before .before .before .before .before .before .args .words .now) (c .before .before .before .before .before .e5 .given .1) (search needs)
-
-returns-6 : tie.Need-returns-6
-returns-6 c = of-event (c .before .before .before .before .before .before .before .before .args .words .now) (c .before .before .before .before .before .e6 .given .1) (search needs)
-
-returns-7 : tie.Need-returns-7
-returns-7 c = of-event (c .before .before .before .before .before .before .before .before .args .words .now) (c .before .before .before .before .before .e7 .given .1) (search needs)
+returns-2 c =
+    let a = c .before .before .before .before .before .before .before .before .before .before .args in
+    let decide = c .before .before .before .before .before .before .before .decide in
+    is-written (a .words .now) (a .e) (decide .result) (decide .ensures)
+    (accepted (decide .result .answer) _ (decide .ensures .answer) (c .before .before .before .before .before .before .is-refusal .ensures) (c .before .before .before .before .before .if1 .left)) (c .before .before .write .ensures)
 
 pub play-event-spec : {M : Type 1} → statement M
 play-event-spec =
     tie.close
     (tie.spec
-    (λ c. search needs) (λ c κs. search needs) (λ c. search needs) (λ c κs. search needs) (λ c. search needs) (λ c κs. search needs)
-    (λ c. search needs) (λ c κs. search needs) (λ c. search needs) (λ c κs. search needs) (λ c. search needs) (λ c κs. search needs)
-    (λ c. search needs) (λ c κs. search needs)
-    (λ c. search needs) returns (λ c. search needs) returns-2 (λ c. search needs) returns-3 (λ c. search needs) returns-4
-    (λ c. search needs) returns-5 (λ c. search needs) returns-6 (λ c. search needs) returns-7)
+    (λ c κs. search needs) (λ c κs. search needs) (λ c. search needs) returns write-requires (λ c. search needs) returns-2)

@@ -2,7 +2,6 @@ use mathlib.Core.Path.{ap, ap₂, _∙_}
 use mathlib.Core.List.{List}
 use Prim.Native.Nat.{ℕ}
 use Rattle.model.specs.Fields.{bit}
-use Rattle.model.specs.Answers.{numberOf}
 use Rattle.model.specs.Questions.{connectionAnswer, connectionOf}
 use Rattle.mekvalgs.proofs.Far.{connection-cut, connection-of-cut}
 use Rattle.mekvalgs.proofs.Chain.{yes-chain, no-chain}
@@ -19,7 +18,7 @@ returns c =
     let asked = c .before .before .connected .ensures in
     let from = c .before .before .before .before .node .ensures in
     let to = c .before .before .before .node2 .ensures in
-    let answer = c .number .ensures ∙ ap numberOf (asked .0 ∙ ap₂ (connectionAnswer ws) from to ∙ connection-cut ws a b) in
+    let answer = c .number .ensures ∙ asked .0 ∙ ap₂ (connectionAnswer ws) from to ∙ connection-cut ws a b in
     let value = ap bit (asked .1 .0 ∙ ap₂ (connectionOf ws) from to ∙ connection-of-cut ws a b) in
     (answer, (value, (yes-chain ws a b answer value, no-chain ws a b answer value)))
 

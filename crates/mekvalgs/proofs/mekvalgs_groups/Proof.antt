@@ -1,11 +1,10 @@
-use mathlib.Core.Path.{ap, _∙_}
-use Rattle.model.specs.Answers.{numberOf}
+use mathlib.Core.Path.{_∙_}
 use borrow.Author.Needs.{needs}
 use Rattle.mekvalgs.proofs.mekvalgs_groups.Statement.{statement}
 use Rattle.mekvalgs.proofs.mekvalgs_groups.Tie as tie
 
 returns : tie.Need-returns
-returns c = (c .number .ensures ∙ ap numberOf (c .before .groups .ensures .0), c .before .groups .ensures .1)
+returns c = (c .number .ensures ∙ c .before .groups .ensures .0, c .before .groups .ensures .1)
 
 pub mekvalgs-groups-spec : {M : Type 1} → statement M
 mekvalgs-groups-spec =

@@ -1,7 +1,6 @@
 use mathlib.Core.Path.{ap, _∙_}
 use mathlib.Core.List.{List}
 use Prim.Native.Nat.{ℕ}
-use Rattle.model.specs.Answers.{numberOf}
 use Rattle.model.specs.Questions.{leafsetAnswer, leafsetOf}
 use Rattle.mekvalgs.proofs.Far.{leafset-cut, leafset-of-cut}
 use borrow.Author.Needs.{needs}
@@ -13,7 +12,7 @@ returns c =
     let ws : List ℕ = c .before .before .before .before .args .words .now in
     let x : ℕ = c .before .before .before .before .args .x in
     let asked = c .before .leafset-of .ensures in (
-      c .number .ensures ∙ ap numberOf (asked .0 ∙ ap (leafsetAnswer ws) (c .before .before .node .ensures) ∙ leafset-cut ws x),
+      c .number .ensures ∙ asked .0 ∙ ap (leafsetAnswer ws) (c .before .before .node .ensures) ∙ leafset-cut ws x,
       asked .1 ∙ ap (leafsetOf ws) (c .before .before .node .ensures) ∙ leafset-of-cut ws x,
     )
 

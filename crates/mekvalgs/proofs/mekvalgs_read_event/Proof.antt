@@ -1,11 +1,10 @@
-use mathlib.Core.Path.{ap, _∙_}
-use Rattle.model.specs.Answers.{numberOf}
+use mathlib.Core.Path.{_∙_}
 use borrow.Author.Needs.{needs}
 use Rattle.mekvalgs.proofs.mekvalgs_read_event.Statement.{statement}
 use Rattle.mekvalgs.proofs.mekvalgs_read_event.Tie as tie
 
 returns : tie.Need-returns
-returns c = (c .number .ensures ∙ ap numberOf (c .before .before .read .ensures .0), c .before .before .read .ensures .1)
+returns c = (c .number .ensures ∙ c .before .before .read .ensures .0, c .before .before .read .ensures .1)
 
 pub mekvalgs-read-event-spec : {M : Type 1} → statement M
 mekvalgs-read-event-spec =

@@ -1,5 +1,4 @@
 use mathlib.Core.Path.{ap, _∙_}
-use Rattle.model.specs.Answers.{numberOf}
 use Rattle.mekvalgs_event.specs.Parts.{partsAnswer, writeParts}
 use borrow.Author.Needs.{needs}
 use Rattle.mekvalgs.proofs.mekvalgs_write_event.Statement.{statement}
@@ -7,7 +6,7 @@ use Rattle.mekvalgs.proofs.mekvalgs_write_event.Tie as tie
 
 returns : tie.Need-returns
 returns c = (
-  c .number .ensures ∙ ap numberOf (c .before .write .ensures .0 ∙ ap partsAnswer (c .before .before .make .ensures)),
+  c .number .ensures ∙ (c .before .write .ensures .0 ∙ ap partsAnswer (c .before .before .make .ensures)),
   c .before .write .ensures .1 ∙ ap writeParts (c .before .before .make .ensures),
 )
 

@@ -17,7 +17,7 @@ returns c =
     let a = start .args in
     λ leaf time.
     rw (sym (idle leaf (start .pre .0) (search needs) (eqb (a .message .subject .0) (a .me .0))) ∙ c .before .if1 .taken)
-    (c .quiet .ensures _ _ (unchanged (start .pre .1)))
+    (c .quiet .ensures _ _ _ _ (unchanged (start .pre .1)))
 
 returns-2 : tie.Need-returns-2
 unfolding steps.onPingDeloopy
@@ -26,7 +26,7 @@ returns-2 c =
     let a = start .args in
     λ leaf time.
     rw (sym (idle leaf (start .pre .0) (search needs) (eqb (a .message .subject .0) (a .me .0))) ∙ c .before .before .before .before .before .if1 .left, sym (c .before .before .before .before .passes-zero .ensures leaf) ∙ c .before .before .before .if2 .taken)
-    (c .sending .ensures _ _ _ (c .before .before .add-candidate .ensures _ (start .pre .1) (start .pre .2)) (c .before .plain .ensures))
+    (c .replying .ensures _ _ _ _ _ (c .before .before .add-candidate .ensures _ (start .pre .1) (start .pre .2)) (c .before .plain .ensures))
 
 naming-requires : tie.Need-naming-requires
 naming-requires c κs =
@@ -44,7 +44,7 @@ returns-3 c =
     let said = c .before .naming .ensures in
     λ leaf time.
     rw (sym (idle leaf (start .pre .0) (search needs) (eqb (a .message .subject .0) (a .me .0))) ∙ c .before .before .before .before .before .if1 .left, sym (c .before .before .before .before .passes-zero .ensures leaf) ∙ c .before .before .before .if2 .left)
-    (c .sending2 .ensures _ _ _ (unchanged (start .pre .1))
+    (c .replying2 .ensures _ _ _ _ _ (unchanged (start .pre .1))
     (record { message = said .message ∙ ap (λ (y : ℕ). steps.naming 11 (a .me .0) y (a .message .subject .0)) (c .before .before .successor .ensures leaf); room = said .room }))
 
 pub on-ping-deloopy-spec : {M : Type 1} → statement M

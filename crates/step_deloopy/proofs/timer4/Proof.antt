@@ -11,7 +11,7 @@ use Rattle.step_deloopy.proofs.timer4.Tie as tie
 
 returns : tie.Need-returns
 unfolding steps.timer4
-returns c = λ leaf time. rw (sym (c .before .before .passes-zero .ensures leaf) ∙ not-true _ (c .before .if1 .taken)) (c .quiet .ensures _ _ (unchanged (c .before .before .before .before .pre .1)))
+returns c = λ leaf time. rw (sym (c .before .before .passes-zero .ensures leaf) ∙ not-true _ (c .before .if1 .taken)) (c .quiet .ensures _ _ _ _ (unchanged (c .before .before .before .before .pre .1)))
 
 naming-requires : tie.Need-naming-requires
 naming-requires c κs =
@@ -27,7 +27,7 @@ returns-2 c =
     let said = c .before .naming .ensures in
     λ leaf time.
     rw (sym (c .before .before .before .before .passes-zero .ensures leaf) ∙ not-false _ (c .before .before .before .if1 .left))
-    (c .sending .ensures _ _ _ (unchanged (start .pre .1))
+    (c .replying .ensures _ _ _ _ _ (unchanged (start .pre .1))
     (record { message = said .message ∙ ap (λ (y : ℕ). steps.naming 11 (a .me .0) y (a .me .0)) (c .before .before .successor .ensures leaf); room = said .room }))
 
 pub timer4-spec : {M : Type 1} → statement M

@@ -11,7 +11,7 @@ returns c =
     let start = c .before .before .before .before .before in
     let a = start .args in
     let said = c .before .viewing .ensures in
-    λ time. c .sending .ensures _ _ _ (c .before .before .add-candidate .ensures _ (start .pre .1) (start .pre .0 .node))
+    λ time. c .replying .ensures _ _ _ _ _ (c .before .before .add-candidate .ensures _ (start .pre .1) (start .pre .0 .node))
     (record {
       message = said .message ∙ ap (steps.viewing 4 (a .me .0) (a .message .sender .0)) (leafset-back (a .leaf) (start .pre .0) (c .before .before .before .leafset .ensures));
       room = said .room;

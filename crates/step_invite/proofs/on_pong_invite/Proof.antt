@@ -19,7 +19,7 @@ returns c =
     let start = c .before .before .before .before .before .before .before in
     let a = start .args in
     rw (sym (near-test (a .leaf) (start .pre .0) (a .message .sender .0) _ (c .before .before .before .before .with .ensures) (start .pre .4) _ (c .before .before .before .leafset .ensures)) ∙ sym (c .before .before .has .ensures) ∙ not-true _ (c .before .if1 .taken))
-    (c .quiet .ensures _ _ (unchanged (start .pre .1)))
+    (c .quiet .ensures _ _ _ _ (unchanged (start .pre .1)))
 
 returns-2 : tie.Need-returns-2
 unfolding steps.onPongInvite
@@ -27,7 +27,7 @@ returns-2 c =
     let start = c .before .before .before .before .before .before .before .before in
     let a = start .args in
     rw (sym (near-test (a .leaf) (start .pre .0) (a .message .sender .0) _ (c .before .before .before .before .before .with .ensures) (start .pre .4) _ (c .before .before .before .before .leafset .ensures)) ∙ sym (c .before .before .before .has .ensures) ∙ not-false _ (c .before .before .if1 .left))
-    (c .quiet2 .ensures _ _ (c .before .hold .ensures _ (start .pre .1) (start .pre .4)))
+    (c .quiet2 .ensures _ _ _ _ (c .before .hold .ensures _ (start .pre .1) (start .pre .4)))
 
 pub on-pong-invite-spec : {M : Type 1} → statement M
 on-pong-invite-spec =

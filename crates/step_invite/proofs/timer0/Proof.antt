@@ -1,5 +1,6 @@
 use mathlib.Core.Path.{refl}
 use lib.Dec.{lit<}
+use borrow.Author.Needs.{needs}
 use Rattle.model.specs.Steps as steps
 use Rattle.records.proofs.Changes.{unchanged}
 use Rattle.records.proofs.Calls.{calls}
@@ -8,7 +9,8 @@ use Rattle.step_invite.proofs.timer0.Tie as tie
 
 returns : tie.Need-returns
 unfolding steps.timer0
-returns c = λ t me time few fits. calls me 3 (c .args .own .held) _ few (unchanged fits) (lit< tt) refl (fits .held-within)
+returns c = λ t me time few fits.
+    c .sending .ensures _ me time _ _ (unchanged fits) (calls me time _ (c .before .args .own .held) _ few (fits .held-within) refl 3 (lit< tt))
 
 pub timer0-spec : {M : Type 1} → statement M
-timer0-spec = tie.close (tie.spec returns)
+timer0-spec = tie.close (tie.spec (λ c κs. search needs) returns)

@@ -16,15 +16,15 @@ leafset-requires c κs =
 returns : tie.Need-returns
 unfolding steps.timer1
 returns c =
-    let start = c .before .before .before .before .before in
+    let start = c .before .before .before .before .before .before in
     let a = start .args in
     let fits = start .pre .1 in
+    let set = invited-set (a .leaf) (start .pre .0) (a .own .candidates) (fits .candidates-within) _ _ (c .before .before .minus .ensures) (c .before .before .before .leafset .ensures) in
+    let low = invited-low (a .leaf) (start .pre .0) (a .own .candidates) (fits .candidates-within) _ _ (c .before .before .minus .ensures) (c .before .before .before .leafset .ensures) in
     λ time.
-    calls (a .me .0) 5 _ _ (start .pre .0 .few)
-    (rw nobody at (c .set-candidates .ensures _ fits (within-none _)))
-    (lit< tt)
-    (invited-set (a .leaf) (start .pre .0) (a .own .candidates) (fits .candidates-within) _ _ (c .before .minus .ensures) (c .before .before .leafset .ensures))
-    (invited-low (a .leaf) (start .pre .0) (a .own .candidates) (fits .candidates-within) _ _ (c .before .minus .ensures) (c .before .before .leafset .ensures))
+    c .sending .ensures _ _ time _ _
+    (rw nobody at (c .before .set-candidates .ensures _ fits (within-none _)))
+    (calls (a .me .0) time _ _ _ (start .pre .0 .few) low set 5 (lit< tt))
 
 pub timer1-spec : {M : Type 1} → statement M
-timer1-spec = tie.close (tie.spec leafset-requires (λ c κs. search needs) (λ c κs. search needs) returns)
+timer1-spec = tie.close (tie.spec leafset-requires (λ c κs. search needs) (λ c κs. search needs) (λ c κs. search needs) returns)

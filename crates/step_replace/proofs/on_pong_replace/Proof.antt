@@ -26,7 +26,7 @@ returns c =
     let start = c .before .before .before .before .before .before .before in
     let a = start .args in
     rw (sym (replace-test (a .t5) _ (a .message .sender .0) (a .message .subject .0) _ _ (start .pre .1 .room) (start .pre .5) (c .before .before .before .has .ensures) (c .before .before .before .before .before .outside .ensures)) ∙ not-true _ (c .before .if1 .taken))
-    (c .quiet .ensures _ _ (unchanged (start .pre .1)))
+    (c .quiet .ensures _ _ _ _ (unchanged (start .pre .1)))
 
 replaced-requires : tie.Need-replaced-requires
 replaced-requires c κs =
@@ -39,7 +39,7 @@ returns-2 c =
     let start = c .before .before .before .before .before .before .before .before in
     let a = start .args in
     rw (sym (replace-test (a .t5) _ (a .message .sender .0) (a .message .subject .0) _ _ (start .pre .1 .room) (start .pre .5) (c .before .before .before .before .has .ensures) (c .before .before .before .before .before .before .outside .ensures)) ∙ not-false _ (c .before .before .if1 .left))
-    (c .quiet2 .ensures _ _ (c .before .replaced .ensures _ (start .pre .1) (start .pre .4)))
+    (c .quiet2 .ensures _ _ _ _ (c .before .replaced .ensures _ (start .pre .1) (start .pre .4)))
 
 pub on-pong-replace-spec : {M : Type 1} → statement M
 on-pong-replace-spec =

@@ -24,7 +24,7 @@ returns c =
     let start = c .before .before .before .before in
     let a = start .args in
     let said = c .before .naming .ensures in
-    λ time. c .sending .ensures _ _ _ (unchanged (start .pre .1))
+    λ time. c .replying .ensures _ _ _ _ _ (unchanged (start .pre .1))
     (record { message = said .message ∙ ap (steps.naming 8 (a .me .0) (a .message .sender .0)) (c .before .before .closest .ensures); room = said .room })
 
 pub on-ping-ask-repl-spec : {M : Type 1} → statement M

@@ -11,11 +11,12 @@ use Rattle.step_spare.proofs.timer2.Tie as tie
 returns : tie.Need-returns
 unfolding steps.timer2
 returns c =
-    let start = c .before .before in
+    let start = c .before .before .before in
     let a = start .args in
+    let outside = c .before .outside .ensures in
     λ time.
-    calls (a .me .0) 7 _ _ (start .pre .0 .few) (unchanged (start .pre .1)) (lit< tt) (c .outside .ensures)
-    (within-part _ _ (ofBits (a .own .held)) _ (start .pre .0 .within) (c .outside .ensures))
+    c .sending .ensures _ _ time _ _ (unchanged (start .pre .1))
+    (calls (a .me .0) time _ _ _ (start .pre .0 .few) (within-part _ _ (ofBits (a .own .held)) _ (start .pre .0 .within) outside) outside 7 (lit< tt))
 
 pub timer2-spec : {M : Type 1} → statement M
-timer2-spec = tie.close (tie.spec (λ c κs. search needs) returns)
+timer2-spec = tie.close (tie.spec (λ c κs. search needs) (λ c κs. search needs) returns)

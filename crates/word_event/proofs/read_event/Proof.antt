@@ -3,7 +3,7 @@ use mathlib.Core.Bool.{true, false}
 use lib.Dec.{eqb}
 use borrow.Author.Tests.{not-true, not-false, eq-eqb, ne-eqb}
 use Rattle.model.specs.Answers.{firstOf}
-use Rattle.model.specs.Events.{wordOf, eventOf, partsFit, sameNode, wordAnswer, readEvent}
+use Rattle.model.specs.Events.{wordOf, eventOf, partsFit, sameNode, wordAnswer, readEvent, readingOf}
 use Rattle.model.specs.declared.event.Reading.the-variants.{Read}
 use borrow.Author.Needs.{needs}
 use Rattle.word_event.proofs.read_event.Statement.{statement}
@@ -37,7 +37,7 @@ returns-4 c =
     let same : eqb (c .before .before .before .before .before .before .before .before .args .word) (wordOf (eventOf (c .before .before .before .before .before .before .before .before .args .word))) ≡ true = eq-eqb _ _ (sym (c .before .before .before .before .if1 .left) ∙ c .before .before .before .before .before .before .new .ensures ∙ ap wordOf (c .before .before .before .before .before .before .before .event .ensures)) in
     let parts : partsFit (eventOf (c .before .before .before .before .before .before .before .before .args .word)) ≡ true = ap partsFit (sym (c .before .before .before .before .before .before .before .event .ensures)) ∙ sym (c .before .before .before .parts-fit .ensures) ∙ not-false _ (c .before .before .if2 .left) in
     let both : sameNode (eventOf (c .before .before .before .before .before .before .before .before .args .word)) ≡ false = ap sameNode (sym (c .before .before .before .before .before .before .before .event .ensures)) ∙ sym (c .before .same-node .ensures) ∙ c .if3 .left in
-    rw (same, parts, both) (ap Read (c .before .before .before .before .before .before .before .event .ensures))
+    rw (same, parts, both) (ap (λ e. readingOf (Read e)) (c .before .before .before .before .before .before .before .event .ensures))
 
 pub read-event-spec : {M : Type 1} → statement M
 read-event-spec =

@@ -13,8 +13,9 @@ messages-requires c κs =
 
 returns : tie.Need-returns
 returns c =
-    let p = c .before .before .before .before .before .before .before .before .before .play .ensures in
-    one-played _ (c .before .before .before .before .before .before .before .before .before .before .before .before .before .pre .0) _ (ap (λ (q : Written). q .words) p) _ (ap (λ (q : Written). q .answer) p)
+    let played = c .before .before .before .before .before .before .before .before .before .play in
+    let p = played .ensures in
+    one-played _ (c .before .before .before .before .before .before .before .before .before .before .before .before .before .pre .0) _ (ap (λ (q : Written). q .words) p) (played .result) (ap (λ (q : Written). q .answer) p)
     (c .before .before .before .before .before .number .ensures) (c .before .before .before .messages .ensures .0) (c .before .before .put-three .ensures .0) (c .before .before .put-three .ensures .1)
 
 pub play-word-spec : {M : Type 1} → statement M
