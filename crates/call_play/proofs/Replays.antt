@@ -10,15 +10,17 @@ use native.Mathlib.Decide.{ℕ-discrete}
 use lib.ListN.{length, getD, take, set, length-set}
 use lib.Seq.{take-length, getD-set-same, getD-set-other}
 use Rattle.model.specs.Leafset.{Table}
-use Rattle.model.specs.Answers.{numberOf, isAccepted}
+use Rattle.model.specs.Answers.{numberOf, firstOf, isAccepted}
 use Rattle.model.specs.Words.{readsAsRing}
-use Rattle.model.specs.Buffer.{Written, openBuffer, playBuffer, playBufferAll}
+use Rattle.model.specs.Buffer.{wrongLength, notARing, Written, openBuffer, playBuffer, playBufferAll}
+use Rattle.model.specs.Questions.{groupsAnswer}
 use Rattle.model.specs.declared.answer.Answer.{Answer}
 use Rattle.model.proofs.Laws.{clash}
 use Rattle.model.proofs.Theorems.{opening-reads, playing-reads, refused-opening, connectivity-preserved}
 use Rattle.answers.specs.Applied.{written}
 use Rattle.answers.proofs.Answered.{refuses, accepts}
-use Rattle.call_play.specs.Replay.{replayBuffer, Replayed, PlayedUpTo}
+use Rattle.call_refusals.proofs.Refused.{groups-reads}
+use Rattle.call_play.specs.Replay.{replayBuffer, Replayed, PlayedAll, PlayedUpTo}
 
 -- the words at the next point
 next : (ws script : List ℕ) (k : ℕ) → k < length script → playBufferAll ws (take (suc k) script) ≡ playBuffer (playBufferAll ws (take k script)) (getD script k 0) .words
@@ -53,6 +55,41 @@ one-more a {i} {ws} {script} {answers} {u} {v} {ws'} p h e =
   where
     given : written a ws' ≡ playBuffer (playBufferAll ws (take i script)) (getD script i 0)
     given = e ∙ ap (λ (l : List ℕ). playBuffer l (getD script i 0)) (p .words)
+
+-- ---- a script on a ring that is there, by the answer of its words
+
+module _ (ws : List ℕ) (r : Answer) (asked : numberOf r ≡ groupsAnswer ws) where
+  of-buffer : numberOf r ≡ firstOf (wrongLength ws ∷ notARing ws ∷ [])
+  unfolding groupsAnswer
+  of-buffer = asked
+
+  pub none-read : (script answers : List ℕ) → isAccepted (numberOf r) ≡ false → PlayedAll ws script answers (numberOf r) ws answers
+  none-read script answers n =
+      record {
+        answer = of-buffer;
+        words = λ a. clash (ap isAccepted a) n;
+        answer-at-place = λ a. clash (ap isAccepted a) n;
+        other-places-kept = λ i h. refl;
+        as-many-places = refl;
+        refused-keeps-words = λ f. refl;
+        refused-keeps-places = λ f. refl;
+      }
+
+  module _ (ok : numberOf r ≡ 0) where
+    pub read-as-ring : readsAsRing ws ≡ true
+    read-as-ring = groups-reads ws (sym asked ∙ ok)
+
+    pub all-played : {script answers ws' answers' : List ℕ} → PlayedUpTo (length script) ws script answers ws' answers' → PlayedAll ws script answers (numberOf r) ws' answers'
+    all-played {script} p =
+        record {
+          answer = of-buffer;
+          words = λ a. p .words ∙ ap (playBufferAll ws) (take-length script);
+          answer-at-place = λ a. p .answer-at-place;
+          other-places-kept = p .other-places-kept;
+          as-many-places = p .as-many-places;
+          refused-keeps-words = λ n. clash (ap isAccepted ok) n;
+          refused-keeps-places = λ n. clash (ap isAccepted ok) n;
+        }
 
 -- ---- a replay, by the answer of its opening
 

@@ -1,5 +1,5 @@
-// Public: playing an event word on lent words, and a list of them on a ring that is opened first. The calls require
-// nothing: on every input the answer, and every lent word afterwards, is the definition's.
+// Public: playing an event word on lent words; a list of them; and such a list on a ring that is opened first. The
+// calls require nothing: on every input the answer, and every lent word afterwards, is the definition's.
 ghost use mathlib.Core.Path.{_≡_};
 ghost use mathlib.Core.Bool.{true};
 ghost use lib.ListN.{length, set};
@@ -8,7 +8,7 @@ ghost use Rattle.model.specs.Answers.{numberOf};
 ghost use Rattle.model.specs.Words.{readsAsRing};
 ghost use Rattle.model.specs.Structs.{tableOf};
 ghost use Rattle.answers.specs.Applied.{written};
-ghost use Rattle.call_play.specs.Replay.{PlayedUpTo, Replayed};
+ghost use Rattle.call_play.specs.Replay.{PlayedUpTo, PlayedAll, Replayed};
 use call_open::open;
 use model::answer::Answer;
 use model::event::Reading;
@@ -52,6 +52,20 @@ fn play_each(words: &mut [u32], script: &[u32], answers: &mut [u8])
         let answer = event_play::play_word(words, script[i]);
         note(answers, i, answer);
     }
+}
+
+// Plays a list of words on a ring that is there: 1; 6. The words are read as a ring once. Each answer's number is
+// written to its place; those past the places are dropped.
+pub fn play_all(words: &mut [u32], script: &[u32], answers: &mut [u8]) -> Answer
+    ensures played { λ r. ⌜ PlayedAll (now (words .entry)) (now (script .entry)) (now (answers .entry)) (numberOf r)
+        (now (words .exit)) (now (answers .exit)) ⌝ }
+{
+    let read = call_refusals::of_words(words);
+    if answers::is_refusal(read) {
+        return read;
+    }
+    play_each(words, script, answers);
+    read
 }
 
 // Opens a ring and plays a list of words on it. Each answer's number is written to its place; those past the places
