@@ -86,6 +86,12 @@ uint32_t mekvalgs_open(uint32_t *words, size_t length, uint32_t leaf, const uint
 /* Plays an event word on the ring. Answers 0, 1, 4 to 11. */
 uint32_t mekvalgs_play(uint32_t *words, size_t length, uint32_t word);
 
+/* Plays the script's words on the ring one by one, as mekvalgs_play does, but reads the words as a ring once only.
+ * Answers 0, 1, 6. The answer to each word is written to its place in answers; answers past the places are dropped, and
+ * places past the script stay. Where the call is refused, answers stays whole. */
+uint32_t mekvalgs_play_all(uint32_t *words, size_t length, const uint32_t *script, size_t script_length,
+                           uint8_t *answers, size_t places);
+
 /* Opens a ring as mekvalgs_open does, and plays the script's words on it one by one.
  * Answers as mekvalgs_open. The answer to each word is written to its place in answers; answers past the places are
  * dropped, and places past the script stay. Where the opening is refused, answers stays whole. */

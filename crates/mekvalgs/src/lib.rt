@@ -8,7 +8,7 @@ ghost use Rattle.model.specs.Questions.{leafsetAnswer, leafsetOf, connectionAns
 ghost use Rattle.model.specs.Words.{decode};
 ghost use Rattle.model.specs.Connection.{Connected};
 ghost use Rattle.model.specs.Events.{wordAnswer};
-ghost use Rattle.call_play.specs.Replay.{Replayed};
+ghost use Rattle.call_play.specs.Replay.{PlayedAll, Replayed};
 ghost use Rattle.mekvalgs_event.specs.Parts.{numbers, readParts, partsAnswer, writeParts};
 ghost use Rattle.mekvalgs.specs.Nodes.{nodeOf};
 use call_open::open;
@@ -31,6 +31,15 @@ pub extern "C" fn mekvalgs_play(words: &mut [u32], word: u32) -> u32
     ensures words { λ r. ⌜ now (words .exit) ≡ playBuffer (now (words .entry)) word .words ⌝ }
 {
     answers::number(call_play::play(words, word))
+}
+
+// Plays the script on the ring; the answers' numbers, as far as there are places for them.
+#[no_mangle]
+pub extern "C" fn mekvalgs_play_all(words: &mut [u32], script: &[u32], answers: &mut [u8]) -> u32
+    ensures played { λ r. ⌜ PlayedAll (now (words .entry)) (now (script .entry)) (now (answers .entry)) r
+        (now (words .exit)) (now (answers .exit)) ⌝ }
+{
+    answers::number(call_play::play_all(words, script, answers))
 }
 
 // Opens a ring and plays the script on it; the answers' numbers, as far as there are places for them.
