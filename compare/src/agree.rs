@@ -1,6 +1,6 @@
 //! Random scripts, played on implementations in step, with damaged buffers between the events.
 
-use crate::case::{Case, Fault, Runner, Step};
+use crate::case::{Case, Fault, List, Runner, Step};
 use crate::damage::damage;
 use crate::look;
 use crate::random::Random;
@@ -30,6 +30,9 @@ pub struct Tally {
     /// Damaged buffers that still read as a ring.
     pub valid: u64,
     pub questions: u64,
+    /// Lists of events played by one call, and those of them that the buffer refused.
+    pub lists: u64,
+    pub refused_lists: u64,
     /// Answers to the events, by number, those on damaged buffers included.
     pub answers: [u64; 12],
     /// Accepted deliveries by type.
@@ -44,6 +47,8 @@ impl Tally {
         self.damaged += other.damaged;
         self.valid += other.valid;
         self.questions += other.questions;
+        self.lists += other.lists;
+        self.refused_lists += other.refused_lists;
         self.answers.iter_mut().zip(other.answers).for_each(|(sum, count)| *sum += count);
         self.delivered.iter_mut().zip(other.delivered).for_each(|(sum, count)| *sum += count);
         self.tested.add(other.tested);
@@ -52,8 +57,9 @@ impl Tally {
 
 impl fmt::Display for Tally {
     fn fmt(&self, f: &mut fmt::Formatter) -> fmt::Result {
-        let Tally { scripts, events, damaged, valid, questions, answers, delivered, tested } = self;
+        let Tally { scripts, events, damaged, valid, questions, lists, refused_lists, answers, delivered, tested } = self;
         writeln!(f, "{scripts} scripts, {events} events, {questions} questions")?;
+        writeln!(f, "{lists} lists of events by one call, of which {refused_lists} were refused")?;
         writeln!(f, "{damaged} damaged buffers, of which {valid} still read as a ring")?;
         writeln!(f, "answers 0 to 11: {answers:?}")?;
         writeln!(f, "delivered, types 1 to 12: {:?}", &delivered[1..])?;
@@ -143,6 +149,10 @@ impl<'a> Play<'a> {
             if self.random.percent(10) {
                 self.ask(tally)?;
             }
+            if self.random.percent(5) {
+                let before = self.runner.words().to_vec();
+                self.play_list(&before, tally)?;
+            }
             let damages = self.damage_rate / 1_000 + (self.random.below(1_000) < self.damage_rate as usize % 1_000) as u64;
             for _ in 0..damages {
                 self.damage(tally)?;
@@ -180,6 +190,22 @@ impl<'a> Play<'a> {
         Ok(())
     }
 
+    /// Plays a list by one call, on the case for as long as it is played, and puts the words back.
+    fn play_list(&mut self, chosen_by: &[u32], tally: &mut Tally) -> Result<(), Fault> {
+        let words: Vec<u32> = (0..self.random.below(List::MOST + 1)).map(|_| self.script.any(chosen_by)).collect();
+        let more = self.random.below(4);
+        let places = if self.random.percent(50) { words.len() + more } else { self.random.below(words.len() + 1) };
+        let before = self.runner.words().to_vec();
+        let list = Step::PlayAll(List::new(&words, places));
+        self.case.steps.push(list);
+        let answer = self.runner.step(list)?;
+        self.case.steps.pop();
+        self.runner.restore(&before);
+        tally.lists += 1;
+        tally.refused_lists += (answer != 0) as u64;
+        Ok(())
+    }
+
     /// Damages the buffers, plays some events and asks on them, and puts everything back.
     fn damage(&mut self, tally: &mut Tally) -> Result<(), Fault> {
         let before = self.runner.words().to_vec();
@@ -190,6 +216,9 @@ impl<'a> Play<'a> {
             self.runner.step(poke)?;
         }
         tally.damaged += 1;
+        if self.random.percent(20) {
+            self.play_list(&before, tally)?;
+        }
         self.play_on_damaged(damage.event, &before, tally)?;
         if self.random.percent(20) {
             self.ask(tally)?;

@@ -9,6 +9,7 @@ use std::fmt;
 #[derive(Clone, Copy)]
 pub enum Step {
     Play(u32),
+    PlayAll(List),
     /// The word at a place is overwritten: damage.
     Poke(usize, u32),
     Leafset(u32),
@@ -16,10 +17,44 @@ pub enum Step {
     Groups,
 }
 
+/// A list of event words for one call, and the number of places for their answers.
+#[derive(Clone, Copy)]
+pub struct List {
+    words: [u32; List::MOST],
+    length: usize,
+    places: usize,
+}
+
+impl List {
+    pub const MOST: usize = 16;
+
+    pub fn new(list: &[u32], places: usize) -> List {
+        let mut words = [0; List::MOST];
+        words[..list.len()].copy_from_slice(list);
+        List { words, length: list.len(), places }
+    }
+
+    /// The answer, and a digest of all places, which hold no answer before.
+    fn play(&self, ring: &dyn Ring, words: &mut [u32]) -> Outcome {
+        let mut answers = vec![0xA5; self.places];
+        let answer = ring.play_all(words, &self.words[..self.length], &mut answers);
+        (answer, answers.iter().fold(0, |digest: u64, &place| (digest ^ place as u64).wrapping_mul(0x100_0000_01B3)))
+    }
+}
+
+impl fmt::Display for List {
+    fn fmt(&self, f: &mut fmt::Formatter) -> fmt::Result {
+        write!(f, "play_all(")?;
+        self.words[..self.length].iter().try_for_each(|word| write!(f, "{word:08X} "))?;
+        write!(f, "in {} places)", self.places)
+    }
+}
+
 impl fmt::Display for Step {
     fn fmt(&self, f: &mut fmt::Formatter) -> fmt::Result {
         match *self {
             Step::Play(word) => write!(f, "{word:08X}"),
+            Step::PlayAll(list) => write!(f, "{list}"),
             Step::Poke(at, value) => write!(f, "@{at}={value:08X}"),
             Step::Leafset(x) => write!(f, "leafset({x})"),
             Step::Connected(a, b) => write!(f, "connected({a},{b})"),
@@ -47,7 +82,7 @@ impl fmt::Display for Case {
     }
 }
 
-/// The answer of a call, with the value that comes beside it: 0 for a play.
+/// The answer of a call, with the value that comes beside it: 0 for a play, a digest of the answers for a list.
 type Outcome = (u32, u64);
 
 /// What a run found.
@@ -131,6 +166,7 @@ impl<'a> Runner<'a> {
     pub fn step(&mut self, step: Step) -> Result<u32, Fault> {
         let (answer, _) = match step {
             Step::Play(word) => self.call(|ring, words| (ring.play(words, word), 0))?,
+            Step::PlayAll(list) => self.call(|ring, words| list.play(ring, words))?,
             Step::Leafset(x) => self.call(|ring, words| ring.leafset_of(words, x))?,
             Step::Connected(a, b) => self.call(|ring, words| {
                 let (answer, yes) = ring.connected(words, a, b);

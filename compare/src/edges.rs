@@ -45,6 +45,9 @@ fn opening(random: &mut Random) -> (u32, Vec<u32>) {
 fn calls(ring: &dyn Ring, mut words: Vec<u32>, leaf: u32, keys: &[u32], word: u32) -> (Vec<u64>, Vec<u32>) {
     let mut answers = vec![ring.open(&mut words, leaf, keys) as u64];
     answers.push(ring.play(&mut words, word) as u64);
+    let mut places = [0xA5; 3];
+    answers.push(ring.play_all(&mut words, &[word, word ^ 3 << 28, word ^ 1], &mut places) as u64);
+    answers.extend(places.map(u64::from));
     let (answer, set) = ring.leafset_of(&words, word & 63);
     answers.extend([answer as u64, set]);
     let (answer, yes) = ring.connected(&words, word & 63, word & 63);

@@ -6,6 +6,9 @@ use crate::ring::Ring;
 extern "C" {
     fn mekvalgs_open(words: *mut u32, len: usize, leaf: u32, keys: *const u32, n: usize) -> u32;
     fn mekvalgs_play(words: *mut u32, len: usize, word: u32) -> u32;
+    fn mekvalgs_play_all(
+        words: *mut u32, len: usize, script: *const u32, script_len: usize, answers: *mut u8, places: usize,
+    ) -> u32;
     fn mekvalgs_leafset(words: *const u32, len: usize, node: u32, set: *mut u64) -> u32;
     fn mekvalgs_connected(words: *const u32, len: usize, a: u32, b: u32, yes: *mut u32) -> u32;
     fn mekvalgs_groups(words: *const u32, len: usize, number: *mut u32) -> u32;
@@ -32,6 +35,14 @@ impl Ring for Library {
 
     fn play(&self, words: &mut [u32], word: u32) -> u32 {
         unsafe { mekvalgs_play(words.as_mut_ptr(), words.len(), word) }
+    }
+
+    fn play_all(&self, words: &mut [u32], list: &[u32], answers: &mut [u8]) -> u32 {
+        unsafe {
+            mekvalgs_play_all(
+                words.as_mut_ptr(), words.len(), list.as_ptr(), list.len(), answers.as_mut_ptr(), answers.len(),
+            )
+        }
     }
 
     // A refused question has to write its empty value, too: the locals start with another.

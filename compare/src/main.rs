@@ -82,6 +82,7 @@ fn speed_table() -> bool {
     println!("\nSpeed");
     speed::reads(&fast_rings());
     speed::report(&fast_rings());
+    speed::lists(fast_rings()[0], &compare::reference::Reference);
     true
 }
 

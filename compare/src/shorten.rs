@@ -102,8 +102,11 @@ fn in_queue(queue: Option<&[Sent]>, traced: Traced) -> Option<Traced> {
     Some(Traced { step: Step::Play(word & !1_023 | place as u32), ..traced })
 }
 
-/// After an accepted step: its message is taken out, and those that it sent are at the end.
+/// After an accepted step: its message is taken out, and those that it sent are at the end. A list is not followed.
 fn follow(queue: &mut Option<Vec<Sent>>, traced: Traced, words: &[u32]) {
+    if matches!(traced.step, Step::PlayAll(_)) {
+        *queue = None;
+    }
     let Some(queue) = queue else { return };
     if let Some(place) = position(traced.step) {
         queue.remove(place);

@@ -10,6 +10,7 @@ use std::time::Instant;
 
 const ROUNDS: usize = 301;
 const EVENTS: usize = 60;
+const LISTED: usize = 100;
 
 /// A ring to start from and the events that are timed on it.
 pub struct Load {
@@ -19,7 +20,7 @@ pub struct Load {
 
 impl Load {
     /// `n` running nodes, links made by contacts and timers, about `messages` in flight, and events that keep it so.
-    pub fn new(ring: &dyn Ring, n: usize, leaf: u32, messages: usize) -> Load {
+    pub fn new(ring: &dyn Ring, n: usize, leaf: u32, messages: usize, count: usize) -> Load {
         let mut random = Random::new(1, (n * 10_000 + messages) as u64);
         let keys: Vec<u32> = (0..n as u32).map(|s| s << 18 | random.word() & 0x3_FFFF).collect();
         let mut words = vec![0; LENGTH];
@@ -31,7 +32,7 @@ impl Load {
         }
         let start = words.clone();
         let mut events = Vec::new();
-        while events.len() < EVENTS {
+        while events.len() < count {
             let word = steady(&mut random, &words, messages);
             if ring.play(&mut words, word) == 0 {
                 events.push(word);
@@ -176,22 +177,45 @@ pub fn report(rings: &[&dyn Ring]) {
     println!();
     let builder = rings[rings.len() - 1];
     for (n, leaf, messages) in [(64, 8, 700), (64, 2, 700), (16, 2, 200)] {
-        line(rings, &Load::new(builder, n, leaf, messages));
+        line(rings, &Load::new(builder, n, leaf, messages, EVENTS));
     }
     println!("with n");
     for n in [1, 2, 4, 8, 16, 32, 64] {
-        line(rings, &Load::new(builder, n, 2, 100));
+        line(rings, &Load::new(builder, n, 2, 100, EVENTS));
     }
     println!("with m");
     for messages in [0, 100, 300, 500, 700, 1_000] {
-        line(rings, &Load::new(builder, 64, 2, messages));
+        line(rings, &Load::new(builder, 64, 2, messages, EVENTS));
     }
 }
 
-fn line(rings: &[&dyn Ring], load: &Load) {
+/// The events one by one, and the same as lists for one call each, in turns, medians.
+pub fn lists(ring: &dyn Ring, builder: &dyn Ring) {
+    println!("{:<44}{:>12}{:>12}", format!("nanoseconds an event, lists of {LISTED}"), "play", "play_all");
+    for (n, leaf, messages) in [(64, 8, 700), (64, 2, 700), (16, 2, 200), (1, 2, 0)] {
+        let load = Load::new(builder, n, leaf, messages, LISTED);
+        let (mut plays, mut lists) = (Vec::new(), Vec::new());
+        let mut words = vec![0; LENGTH];
+        let mut answers = [0; LISTED];
+        for _ in 0..ROUNDS {
+            words.copy_from_slice(&load.words);
+            plays.push(each(&load.events, |word| ring.play(&mut words, word)));
+            words.copy_from_slice(&load.words);
+            let list = each(&[0], |_| ring.play_all(&mut words, black_box(&load.events), &mut answers));
+            lists.push(list / LISTED as f64);
+        }
+        assert!(answers == [0; LISTED]);
+        println!("{:<44}{:>12.0}{:>12.0}", head(&load), median(plays), median(lists));
+    }
+}
+
+fn head(load: &Load) -> String {
     let (n, leaf, messages) = (look::nodes(&load.words), look::leaf(&load.words), look::messages(&load.words));
-    let head = format!("  n {n}, L {leaf}, m {messages}, {} held, {} spares", held(&load.words), spares_of(&load.words));
-    print!("{head:<44}");
+    format!("  n {n}, L {leaf}, m {messages}, {} held, {} spares", held(&load.words), spares_of(&load.words))
+}
+
+fn line(rings: &[&dyn Ring], load: &Load) {
+    print!("{:<44}", head(load));
     let (mut times, pass) = measure(load, rings);
     times.push(pass);
     times.iter().for_each(|time| print!("{time:>12.0}"));

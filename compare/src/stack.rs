@@ -48,6 +48,9 @@ fn measure() {
     line("connected", (0..64).map(|s| depth(&mut || _ = ring.connected(&words, s, 63 - s))).max().unwrap());
     line("groups", depth(&mut || _ = ring.groups(&words)));
     line("replay", depth(&mut || library::replay(&mut words, leaf, &keys, &events)));
+    ring.open(&mut words, leaf, &keys);
+    let mut answers = vec![0; events.len()];
+    line("play_all", depth(&mut || _ = ring.play_all(&mut words, &events, &mut answers)));
     line("read_event", events.iter().map(|&word| depth(&mut || library::read_event(word))).max().unwrap());
     line("write_event", (0..7).map(|kind| depth(&mut || library::write_event(9 + kind, 1, 2))).max().unwrap());
 }
