@@ -1,4 +1,5 @@
--- Demand 3: no list of event words parts two running nodes.
+-- Demand 3: from a point with no acknowledgement in flight, and while only harmless words are accepted, connected nodes stay so. Each word
+-- is a step of Cut; the lent words follow the ring.
 use mathlib.Core.Path.{_≡_, refl, ap, _∙_}
 use mathlib.Core.Logic.{_↔_}
 use Prim.Native.Nat.{ℕ, zero, suc, _≤_, _<_}

@@ -39,8 +39,8 @@ impl EffectRecord {
     }
 
     pub fn sending(own: NodeRecord, sends: Sends) -> EffectRecord
-        ensures effect { λ r. ⌜ ((n me time : ℕ) (o : Own) (ms : List Message) → Owns n own o → Sent me time own sends ms
-            → Leaves n me time r (record { own = o; sent = ms })) ⌝ }
+        ensures effect { λ r. ⌜ ((n me time : ℕ) (o : Own) (ms : List Message) → Owns n own o
+            → Sent me time own sends ms → Leaves n me time r (record { own = o; sent = ms })) ⌝ }
     {
         EffectRecord {
             own,

@@ -29,8 +29,8 @@ const LAST_STAMP: u32 = PairWord::HELD - 1;
 
 const LAST_HELD: u32 = PairWord::CANDIDATE - 1;
 
-// u without the candidate mark, plus 2^24 - 1. Bit 24 of that is clear exactly where a held pair has a stamp and another
-// has none; it is then at most 2^25 - 1 plus the clock exactly where the stamp is at most the clock.
+// u without the candidate mark, plus 2^24 - 1. Bit 24 of that is clear exactly where a held pair has a stamp and
+// another has none; it is then at most 2^25 - 1 plus the clock exactly where the stamp is at most the clock.
 fn lifted(u: u32) -> u32
     ensures value { λ r. ⌜ r ≡ u / 2 ^ 26 * 2 ^ 26 + u % 2 ^ 25 + 16777215 ⌝ }
 {
