@@ -12,7 +12,7 @@ const PARTING: [Slip; 2] = [Slip::ReleaseAtTimer3, Slip::ReleaseWithoutHold];
 /// How many wrong programs were not found. Where one is named, only that, and its case is shown.
 pub fn run(plan: &Plan, only: Option<&str>) -> usize {
     let wanted = |slip: &Slip| only.is_none_or(|only| only == format!("{slip:?}"));
-    let agreement = Plan { events: 300_000, damaged: 300_000, mixes: Mix::ALL.to_vec(), ..*plan };
+    let agreement = Plan { events: 3_000_000, damaged: 300_000, mixes: Mix::ALL.to_vec(), ..*plan };
     let demand_3 = Plan { events: 10_000_000, damaged: 0, mixes: vec![Mix::Replacement], nodes: 10, ..*plan };
     let by_difference = Slip::ALL.into_iter().filter(wanted).filter(|&slip| {
         let wrong = Plain { slip: Some(slip) };
