@@ -32,10 +32,6 @@ module _ (ws : List ℕ) (reads : readsAsRing ws ≡ true) where
   unfolding decode
   clock-high x = reads-well ws reads .node-well x .clock-high
 
-  pub leaf-high : decodeTable ws .leaf ≤ 8
-  unfolding decode
-  leaf-high = read-sizes ws reads .leaf-high
-
   pub message-well : (k : ℕ) → k < length (decode ws .messages) → WellFormedMessage (size (decodeTable ws)) (messageAt (decode ws) k)
   unfolding decode
   message-well k low = each-at (reads-well ws reads .messages-well) blank k low

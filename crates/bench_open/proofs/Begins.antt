@@ -1,5 +1,5 @@
 -- The tests of a script's first words, and the answer that they give.
-use mathlib.Core.Path.{_≡_, refl, sym, ap, _∙_}
+use mathlib.Core.Path.{_≡_, refl, sym, ap, ap₂, _∙_}
 use mathlib.Core.Bool.{Bool, true, false, not, _&&_}
 use mathlib.Core.List.{List, [], _∷_}
 use Prim.Native.Nat.{ℕ, _+_, _≤_, _<_}
@@ -15,11 +15,12 @@ use Rattle.model.specs.Fields.{bits}
 use Rattle.model.specs.Ring.{initial}
 use Rattle.model.specs.WellFormed.{WellFormed}
 use Rattle.model.specs.Answers.{Refusal, firstOf, isAccepted, numberOf}
-use Rattle.model.specs.Words.{ringLength, headWord, keyWord, inRange, encode, decode, readsAsRing}
+use Rattle.model.specs.Words.{ringLength, sidesOf, sidesFit, headWord, keyWord, inRange, encode, decode, readsAsRing}
 use Rattle.model.specs.Buffer.{Written, outOfRange, badKey, openingRefusals, openAnswer, openBuffer}
 use Rattle.model.specs.Structs.{tableOf}
 use Rattle.model.specs.Bench.{scriptTable, scriptAnswer}
 use Rattle.model.specs.declared.answer.Answer.{Answer}
+use Rattle.model.specs.declared.values.Sides.{Sides}
 use Rattle.model.proofs.Laws.{clash, decide, and-right, same-test, all-in, all-out}
 use Rattle.model.proofs.Words.{length-encode}
 use Rattle.model.proofs.RoundTrip.{round-trip}
@@ -56,10 +57,10 @@ module _ (ws : List ℕ) where
   abbrev n : ℕ
   n = bits 4 7 (getD ws 0 0)
 
-  abbrev leaf : ℕ
-  leaf = bits 0 4 (getD ws 0 0)
+  abbrev sides : Sides
+  sides = sidesOf (getD ws 0 0)
 
-  pub table-is : scriptTable ws ≡ tableOf leaf (scriptKeys ws n)
+  pub table-is : scriptTable ws ≡ tableOf sides (scriptKeys ws n)
   unfolding scriptTable
   table-is = refl
 
@@ -83,24 +84,23 @@ module _ (ws : List ℕ) where
   module _ (head : headFits ws ≡ true) where
     pub enough : 1 + n ≤ length ws
     unfolding headFits
-    enough = leb-true (1 + n) (length ws) (and-right (eqb (getD ws 0 0) (headWord leaf n 0)) _ head)
+    enough = leb-true (1 + n) (length ws) (and-right (eqb (getD ws 0 0) (headWord sides n 0)) _ head)
 
-    range-is : inRange (scriptTable ws) ≡ sizesFit leaf n
+    range-is : inRange (scriptTable ws) ≡ sizesFit sides n
     unfolding inRange scriptTable
-    range-is = rw (keys-long ws n enough) (regroup (leb 1 leaf) (leb leaf 8) (leb 1 n) (leb n 64))
+    range-is = rw (keys-long ws n enough) (regroup (sidesFit sides) (leb 1 n) (leb n 64))
       where
-        regroup : (a b c d : Bool) → every ((a && b) ∷ (c && d) ∷ []) ≡ (a && b && c && d)
-        regroup false b c d = refl
-        regroup true false c d = refl
-        regroup true true false d = refl
-        regroup true true true false = refl
-        regroup true true true true = refl
+        regroup : (a c d : Bool) → every (a ∷ (c && d) ∷ []) ≡ (a && c && d)
+        regroup false c d = refl
+        regroup true false d = refl
+        regroup true true false = refl
+        regroup true true true = refl
 
-    pub refused-sizes : sizesFit leaf n ≡ false → scriptAnswer ws ≡ 2
+    pub refused-sizes : sizesFit sides n ≡ false → scriptAnswer ws ≡ 2
     unfolding firstOf
     refused-sizes e = by-tests ∙ rw (head, range-is ∙ e)
 
-    module _ (sizes : sizesFit leaf n ≡ true) where
+    module _ (sizes : sizesFit sides n ≡ true) where
       same : (s : ℕ) → s < n → eqb (getD ws (1 + s) 0) (keyWord (key (scriptTable ws) s) false) ≡ keyFits (getD ws (1 + s) 0)
       unfolding keyFits scriptTable
       same s l = ap (λ (k : ℕ). eqb (getD ws (1 + s) 0) (keyWord k false)) (key-at ws n s l)
@@ -122,9 +122,9 @@ module _ (ws : List ℕ) where
 
 -- ---- of the numbers that the code reads
 
-module _ (ws : List ℕ) {l m : ℕ} (le : l ≡ leaf ws) (me : m ≡ n ws) where
-  pub sizes-read : {b : Bool} → b ≡ sizesFit l m → sizesFit (leaf ws) (n ws) ≡ b
-  sizes-read e = rw (← le, ← me) (sym e)
+module _ (ws : List ℕ) {l : Sides} {m : ℕ} (le : l ≡ sides ws) (me : m ≡ n ws) where
+  pub sizes-read : {b : Bool} → b ≡ sizesFit l m → sizesFit (sides ws) (n ws) ≡ b
+  sizes-read e = sym (e ∙ ap₂ sizesFit le me)
 
   pub keys-read : {b : Bool} → b ≡ keysFit ws m → keysFit ws (n ws) ≡ b
   keys-read e = rw (← me) (sym e)
@@ -132,8 +132,8 @@ module _ (ws : List ℕ) {l m : ℕ} (le : l ≡ leaf ws) (me : m ≡ n ws) wher
   pub table-read : {ks : List ℕ} → ks ≡ scriptKeys ws m → tableOf l ks ≡ scriptTable ws
   table-read {ks} e = rw (e, le, me) (sym (table-is ws))
 
-  pub few : sizesFit (leaf ws) (n ws) ≡ true → m ≤ 64
-  few e = rw me (leb-true (n ws) 64 (and-right (leb 1 (leaf ws) && leb (leaf ws) 8 && leb 1 (n ws)) _ e))
+  pub few : sizesFit (sides ws) (n ws) ≡ true → m ≤ 64
+  few e = rw me (leb-true (n ws) 64 (and-right (sidesFit (sides ws) && leb 1 (n ws)) _ e))
 
 -- ---- the call
 
@@ -156,8 +156,8 @@ module _ (ws : List ℕ) (ok : scriptAnswer ws ≡ 0) where
   head-is : headFits ws ≡ true
   head-is = decide (headFits ws) (λ h. h) (λ f. refuted _ refl (refused-head ws f))
 
-  sizes-are : sizesFit (leaf ws) (n ws) ≡ true
-  sizes-are = decide (sizesFit (leaf ws) (n ws)) (λ h. h) (λ f. refuted _ refl (refused-sizes ws head-is f))
+  sizes-are : sizesFit (sides ws) (n ws) ≡ true
+  sizes-are = decide (sizesFit (sides ws) (n ws)) (λ h. h) (λ f. refuted _ refl (refused-sizes ws head-is f))
 
   keys-fit-is : keysFit ws (n ws) ≡ true
   keys-fit-is = decide (keysFit ws (n ws)) (λ h. h) (λ f. refuted _ refl (refused-keys ws head-is sizes-are f))

@@ -7,7 +7,8 @@ use lib.ListN.{length, getD, take, drop}
 use Rattle.model.specs.Sets.{all}
 use Rattle.model.specs.Fields.{bits}
 use Rattle.model.specs.Ring.{initial}
-use Rattle.model.specs.Words.{headWord, keyWord, encode}
+use Rattle.model.specs.Words.{sidesOf, sidesFit, headWord, keyWord, encode}
+use Rattle.model.specs.declared.values.Sides.{Sides}
 use Rattle.model.specs.Buffer.{Written, writes}
 use Rattle.model.specs.Bench.{scriptTable, scriptAnswer}
 
@@ -17,13 +18,13 @@ openScript old ws = writes old (scriptAnswer ws) (encode (initial (scriptTable w
 
 -- "word 0 with m = 0", and as many words after it as it says that there are nodes
 unfoldable pub headFits : List ℕ → Bool
-headFits ws = eqb w (headWord (bits 0 4 w) (bits 4 7 w) 0) && leb (1 + bits 4 7 w) (length ws)
+headFits ws = eqb w (headWord (sidesOf w) (bits 4 7 w) 0) && leb (1 + bits 4 7 w) (length ws)
   where
     w : ℕ
     w = getD ws 0 0
 
-abbrev pub sizesFit : ℕ → ℕ → Bool
-sizesFit leaf n = leb 1 leaf && leb leaf 8 && leb 1 n && leb n 64
+abbrev pub sizesFit : Sides → ℕ → Bool
+sizesFit sides n = sidesFit sides && leb 1 n && leb n 64
 
 -- a key word "with running 0"
 unfoldable pub keyFits : ℕ → Bool

@@ -8,8 +8,10 @@ ghost use Rattle.answers.specs.Applied.{written};
 ghost use Rattle.bench_open.specs.Beginning.{headFits, sizesFit, keyFits, keysFit, scriptKeys, openScript};
 use call_open::open;
 use model::answer::Answer;
+use model::values::Sides;
 use word_ring::HeadWord;
 use word_ring::KeyWord;
+use word_ring::limit;
 
 // Opens a ring over the words, or refuses with 2 or 3.
 pub fn open_script(script: &[u32], words: &mut [u32]) -> Answer
@@ -20,16 +22,16 @@ pub fn open_script(script: &[u32], words: &mut [u32]) -> Answer
         return Answer::OpeningOutOfRange;
     }
     let head = HeadWord(script[0]);
-    let leaf = head.leaf();
+    let sides = head.sides();
     let n = head.nodes() as usize;
-    if !sizes_fit(leaf, n) {
+    if !sizes_fit(sides, n) {
         return Answer::OpeningOutOfRange;
     }
     if !keys_fit(script, n) {
         return Answer::BadKey;
     }
     let keys = keys(script, n);
-    open(words, leaf, &keys[..n])
+    open(words, sides.each, &keys[..n])
 }
 
 // The first word is one with m = 0, and none of the key words is missing.
@@ -41,14 +43,14 @@ fn head_fits(script: &[u32]) -> bool
     }
     let word = script[0];
     let n = HeadWord(word).nodes();
-    (word == HeadWord::new(HeadWord(word).leaf(), n, 0).0) & (1 + n as usize <= script.len())
+    (word == HeadWord::new(HeadWord(word).sides(), n, 0).0) & (1 + n as usize <= script.len())
 }
 
 // "L is 1 to 8"; "table size n (1 to 64)"
-fn sizes_fit(leaf: u32, n: usize) -> bool
-    ensures value { λ r. ⌜ r ≡ sizesFit leaf n ⌝ }
+fn sizes_fit(sides: Sides, n: usize) -> bool
+    ensures value { λ r. ⌜ r ≡ sizesFit sides n ⌝ }
 {
-    (1 <= leaf) & (leaf <= 8) & (1 <= n) & (n <= 64)
+    limit::sides_fit(sides) & (1 <= n) & (n <= 64)
 }
 
 // A key word with running 0.

@@ -10,16 +10,17 @@ use lib.ListN.{length, getD, List·getD-eq-default}
 use Rattle.model.specs.Leafset.{Table}
 use Rattle.model.specs.Words.{ringLength, inRange, keysDiffer}
 use Rattle.model.specs.Buffer.{openAnswer}
-use Rattle.model.specs.Structs.{tableOf}
+use Rattle.model.specs.Structs.{tableOf, RoomSides}
+use Rattle.model.specs.declared.values.Sides.{Sides}
 use Rattle.model.specs.WellFormed.{WellFormedTable}
 use Rattle.model.proofs.WellFormedPlay.{table-well}
 use Rattle.model.proofs.Answers.{here, next, no-more}
 use Rattle.answers.proofs.Refusals.{wrong-length, right-length}
 use Rattle.call_open.specs.Keys.{keysFit}
 
-module _ (ws : List ℕ) (leaf : ℕ) (keys : List ℕ) where
+module _ (ws : List ℕ) (sides : Sides) (keys : List ℕ) where
   abbrev t : Table
-  t = tableOf leaf keys
+  t = tableOf sides keys
 
   pub refused-length : (length ws ≡ ringLength → ⊥) → openAnswer ws t ≡ 1
   unfolding openAnswer
@@ -43,8 +44,8 @@ module _ (ws : List ℕ) (leaf : ℕ) (keys : List ℕ) where
     abbrev well : WellFormedTable t
     well = table-well ws t a
 
-    pub leaf-room : leaf < 2 ^ 4
-    leaf-room = omega (arith, well .leaf-high)
+    pub sides-room : RoomSides sides
+    sides-room = record { each-room = omega (arith, well .sides-well .each-high) }
 
     pub few-keys : length keys ≤ 64
     few-keys = well .size-high

@@ -1,13 +1,15 @@
 // Opening: the initial ring written over a lent buffer.
 ghost use mathlib.Core.Path.{_≡_};
-ghost use Prim.Native.Nat.{ℕ, _<_};
+ghost use Prim.Native.Nat.{_<_};
 ghost use lib.ListN.{length};
 ghost use Rattle.model.specs.Words.{keysDiffer, inRange};
 ghost use Rattle.model.specs.Structs.{tableOf};
+ghost use Rattle.model.specs.declared.values.Sides.{Sides};
 ghost use Rattle.model.specs.Buffer.{openBuffer};
 ghost use Rattle.answers.specs.Applied.{written};
 ghost use Rattle.call_open.specs.Keys.{keyDiffers, keysFit};
 use model::answer::Answer;
+use model::values::Sides;
 use word_ring::limit;
 use word_ring::place;
 
@@ -15,26 +17,27 @@ use word_ring::place;
 // don't matter."
 pub fn open(words: &mut [u32], leaf: u32, keys: &[u32]) -> Answer
     ensures written { λ r. ⌜ written r (now (words .exit))
-        ≡ openBuffer (now (words .entry)) (tableOf leaf (now (keys .entry))) ⌝ }
+        ≡ openBuffer (now (words .entry)) (tableOf (record { each = leaf }) (now (keys .entry))) ⌝ }
 {
     if words.len() != place::LENGTH {
         return Answer::WrongLength;
     }
-    if !in_range(leaf, keys) {
+    let sides = Sides { each: leaf };
+    if !in_range(sides, keys) {
         return Answer::OpeningOutOfRange;
     }
     if !(keys_fit(keys) & keys_differ(keys)) {
         return Answer::BadKey;
     }
-    ring_initial::write(words, leaf, keys);
+    ring_initial::write(words, sides, keys);
     Answer::Accepted
 }
 
 // "L is 1 to 8"; "table size n (1 to 64)"
-fn in_range(leaf: u32, keys: &[u32]) -> bool
-    ensures value { λ r. ⌜ r ≡ inRange (tableOf leaf (now (keys .entry))) ⌝ }
+fn in_range(sides: Sides, keys: &[u32]) -> bool
+    ensures value { λ r. ⌜ r ≡ inRange (tableOf sides (now (keys .entry))) ⌝ }
 {
-    (1 <= leaf) & (leaf <= 8) & (1 <= keys.len()) & (keys.len() <= 64)
+    limit::sides_fit(sides) & (1 <= keys.len()) & (keys.len() <= 64)
 }
 
 // No key is above 16,777,215.
@@ -62,7 +65,7 @@ fn key_differs(keys: &[u32], x: usize) -> bool
 
 // "keys differ"
 fn keys_differ(keys: &[u32]) -> bool
-    ensures value { λ r. ⌜ ((leaf : ℕ) → r ≡ keysDiffer (tableOf leaf (now (keys .entry)))) ⌝ }
+    ensures value { λ r. ⌜ ((sides : Sides) → r ≡ keysDiffer (tableOf sides (now (keys .entry)))) ⌝ }
 {
     let mut ok = true;
     for x in 0..keys.len() {

@@ -77,8 +77,8 @@ pub fn replay(
     script: &[u32],
     answers: &mut [u8],
 ) -> Answer
-    ensures replayed { λ r. ⌜ Replayed (now (words .entry)) (tableOf leaf (now (keys .entry))) (now (script .entry))
-        (now (answers .entry)) (numberOf r) (now (words .exit)) (now (answers .exit)) ⌝ }
+    ensures replayed { λ r. ⌜ Replayed (now (words .entry)) (tableOf (record { each = leaf }) (now (keys .entry)))
+        (now (script .entry)) (now (answers .entry)) (numberOf r) (now (words .exit)) (now (answers .exit)) ⌝ }
 {
     let opened = open(words, leaf, keys);
     if answers::is_refusal(opened) {

@@ -96,7 +96,7 @@ fn held_leafset(words: &[u32], x: NodeNumber) -> u64
 {
     let n = ring_head::nodes(words);
     let keys = ring_head::keys(words, n);
-    let leaf = ring_head::leaf(words);
+    let sides = ring_head::sides(words);
     let own = ring_pairs::load(words, n, x);
-    leafset(&keys[..n], leaf, x, own.held)
+    leafset(&keys[..n], sides, x, own.held)
 }

@@ -52,11 +52,11 @@ fn step(words: &[u32], actor: Actor, message: MessageRecord) -> EffectRecord
         (messageOf message)) ⌝ }
 {
     let n = actor.n;
-    let leaf = ring_head::leaf(words);
+    let sides = ring_head::sides(words);
     let keys = ring_head::keys(words, n);
     step_dispatch::deliver(
         &keys[..n],
-        leaf,
+        sides,
         message.receiver,
         actor.time,
         actor.own,

@@ -37,7 +37,7 @@ fn step(words: &[u32], x: NodeNumber, k: u8, actor: Actor) -> EffectRecord
         (steps.timer (decode (now (words .entry)) .table) (x .0) (actor .time .0) (ownOf (actor .own)) k) ⌝ }
 {
     let n = actor.n;
-    let leaf = ring_head::leaf(words);
+    let sides = ring_head::sides(words);
     let keys = ring_head::keys(words, n);
-    step_dispatch::timer(&keys[..n], leaf, x, actor.own, k)
+    step_dispatch::timer(&keys[..n], sides, x, actor.own, k)
 }

@@ -13,8 +13,9 @@ use Rattle.model.specs.Leafset.{Table, leafset}
 use Rattle.model.proofs.Laws.{and-left}
 use Rattle.model.proofs.Bits.{bits-back}
 use Rattle.model.specs.Leafset as model
-use Rattle.leafset.specs.Table.{InTable}
+use Rattle.sets.specs.Within.{InTable}
 use Rattle.model.specs.Structs.{tableOf}
+use Rattle.model.specs.declared.values.Sides.{Sides}
 use Rattle.leafset_nearest.specs.Span.{spanOf, spanTo}
 use Rattle.leafset.specs.Near.{isNear}
 use Rattle.leafset_nearest.specs.declared.Way.{Way}
@@ -22,9 +23,9 @@ use Rattle.leafset_nearest.specs.declared.Way.the-variants.{Clockwise, CounterC
 use Rattle.sets.proofs.Members.{count-to}
 use Rattle.sets.proofs.Bits.{toBits-ofBits}
 
-module _ (leaf : ℕ) {keys : List ℕ} {x set : ℕ} (q : InTable keys x set) where
+module _ (sides : Sides) {keys : List ℕ} {x set : ℕ} (q : InTable keys x set) where
   abbrev t : Table
-  t = tableOf leaf keys
+  t = tableOf sides keys
 
   abbrev S : Set
   S = ofBits set
@@ -43,7 +44,7 @@ module _ (leaf : ℕ) {keys : List ℕ} {x set : ℕ} (q : InTable keys x set) w
 
   -- the leafset, from the set without x
   abbrev leaves : Set → Set
-  leaves left y = left y && (ltb (count (length keys) left) (2 * leaf) || model.isNear t clockwise x left y || model.isNear t counterClockwise x left y)
+  leaves left y = left y && (ltb (count (length keys) left) (2 * sides .each) || model.isNear t clockwise (getD keys x 0) left y || model.isNear t counterClockwise (getD keys x 0) left y)
 
   module _ {left : Set} (e : left ≡ without S x) where
     leaves-are : (y : ℕ) → leaves left y ≡ leafset t x S y
@@ -57,22 +58,22 @@ module _ (leaf : ℕ) {keys : List ℕ} {x set : ℕ} (q : InTable keys x set) w
     left-count = count-to left (length keys) left-low 64 (q .few)
 
     -- "if fewer than 2 times L are left, all of them"
-    pub leafset-all : count 64 left < 2 * leaf → left ≡ leafset t x S
+    pub leafset-all : count 64 left < 2 * sides .each → left ≡ leafset t x S
     leafset-all h = fun-ext (λ y. all y ∙ leaves-are y)
       where
         all : (y : ℕ) → left y ≡ leaves left y
-        all y = rw (left-count, lt-ltb (count 64 left) (2 * leaf) h) (sym (and-true (left y)))
+        all y = rw (left-count, lt-ltb (count 64 left) (2 * sides .each) h) (sym (and-true (left y)))
 
     -- the nearest of 64 are the nearest of the table
-    near : (way : Way) (y : ℕ) → isNear leaf left (spanTo way (getD keys x 0) keys) y ≡ model.isNear t (spanOf way) x left y
+    near : (way : Way) (y : ℕ) → isNear (sides .each) left (spanTo way (getD keys x 0) keys) y ≡ model.isNear t (spanOf way) (getD keys x 0) left y
     near way y =
-        ap (λ (k : ℕ). ltb k leaf)
+        ap (λ (k : ℕ). ltb k (sides .each))
         (sym (count-to (λ z. left z && ltb (spanTo way (getD keys x 0) keys z) (spanTo way (getD keys x 0) keys y)) (length keys) (λ z r. left-low z (and-left (left z) _ r)) 64 (q .few)))
 
     -- "else the L nearest clockwise and the L nearest counter-clockwise"
-    pub leafset-near : 2 * leaf ≤ count 64 left → {ahead behind : Set}
-        → ((y : ℕ) → ahead y ≡ (left y && isNear leaf left (spanTo Clockwise (getD keys x 0) keys) y))
-        → ((y : ℕ) → behind y ≡ (left y && isNear leaf left (spanTo CounterClockwise (getD keys x 0) keys) y))
+    pub leafset-near : 2 * sides .each ≤ count 64 left → {ahead behind : Set}
+        → ((y : ℕ) → ahead y ≡ (left y && isNear (sides .each) left (spanTo Clockwise (getD keys x 0) keys) y))
+        → ((y : ℕ) → behind y ≡ (left y && isNear (sides .each) left (spanTo CounterClockwise (getD keys x 0) keys) y))
         → union ahead behind ≡ leafset t x S
     leafset-near h f g = fun-ext (λ y. ap₂ _||_ (f y ∙ ap (_&&_ (left y)) (near Clockwise y)) (g y ∙ ap (_&&_ (left y)) (near CounterClockwise y)) ∙ both y ∙ leaves-are y)
       where
@@ -80,8 +81,8 @@ module _ (leaf : ℕ) {keys : List ℕ} {x set : ℕ} (q : InTable keys x set) w
         distribute true b c d e = rw e
         distribute false b c d e = refl
 
-        both : (y : ℕ) → ((left y && model.isNear t clockwise x left y) || (left y && model.isNear t counterClockwise x left y)) ≡ leaves left y
-        both y = distribute (left y) _ _ _ (ap (λ (k : ℕ). ltb k (2 * leaf)) left-count ∙ le-ltb (count 64 left) (2 * leaf) h)
+        both : (y : ℕ) → ((left y && model.isNear t clockwise (getD keys x 0) left y) || (left y && model.isNear t counterClockwise (getD keys x 0) left y)) ≡ leaves left y
+        both y = distribute (left y) _ _ _ (ap (λ (k : ℕ). ltb k (2 * sides .each)) left-count ∙ le-ltb (count 64 left) (2 * sides .each) h)
 
 -- a number whose set is known
 pub from-set : {r : ℕ} {S : Set} → r < 2 ^ 64 → ofBits r ≡ S → r ≡ toBits 64 S

@@ -5,15 +5,15 @@ ghost use Prim.Native.Nat.{ℕ, _≤_};
 ghost use lib.Dec.{ltb};
 ghost use lib.ListN.{length};
 ghost use Rattle.model.specs.Sets.{ofBits, toBits, count};
-ghost use Rattle.model.specs.Structs.{tableOf};
+ghost use Rattle.model.specs.Structs.{tableOf, RoomSides};
 ghost use Rattle.model.specs.Leafset as model;
-ghost use Rattle.sets.specs.Within.{Within};
-ghost use Rattle.leafset.specs.Table.{InTable};
+ghost use Rattle.sets.specs.Within.{Within, InTable};
 ghost use Rattle.leafset_nearest.specs.Span.{spanTo};
 ghost use Rattle.leafset.specs.Near.{isNear, IsLimit};
 use leafset_nearest::Way;
 use model::values::Key;
 use model::values::NodeNumber;
+use model::values::Sides;
 
 // The limit below which the spans of the `leaf` nearest members lie.
 fn limit(keys: &[u32], leaf: u32, way: Way, from: Key, set: u64) -> u32
@@ -67,28 +67,28 @@ fn near(keys: &[u32], leaf: u32, way: Way, from: Key, set: u64) -> u64
 
 // "take x out of S; if fewer than 2 times L are left, all of them; else the L nearest clockwise and the L nearest
 // counter-clockwise"
-pub fn leafset(keys: &[u32], leaf: u32, x: NodeNumber, set: u64) -> u64
+pub fn leafset(keys: &[u32], sides: Sides, x: NodeNumber, set: u64) -> u64
     requires table { ⌜ InTable (now keys) (x .0) set ⌝ }
-    requires bounds { ⌜ leaf ≤ 8 ⌝ }
-    ensures value { λ r. ⌜ r ≡ toBits 64 (model.leafset (tableOf leaf (now (keys .entry))) (x .0) (ofBits set)) ⌝ }
+    requires sides { ⌜ RoomSides sides ⌝ }
+    ensures value { λ r. ⌜ r ≡ toBits 64 (model.leafset (tableOf sides (now (keys .entry))) (x .0) (ofBits set)) ⌝ }
 {
     let left = sets::without(set, x);
-    if sets::size(left) < 2 * leaf {
+    if sets::size(left) < 2 * sides.each {
         return left;
     }
     let at = x.0 as usize;
     let from = Key(keys[at]);
-    let ahead = near(keys, leaf, Way::Clockwise, from, left);
-    let behind = near(keys, leaf, Way::CounterClockwise, from, left);
+    let ahead = near(keys, sides.each, Way::Clockwise, from, left);
+    let behind = near(keys, sides.each, Way::CounterClockwise, from, left);
     ahead | behind
 }
 
-pub fn outside(keys: &[u32], leaf: u32, me: NodeNumber, held: u64) -> u64
+pub fn outside(keys: &[u32], sides: Sides, me: NodeNumber, held: u64) -> u64
     requires table { ⌜ InTable (now keys) (me .0) held ⌝ }
-    requires bounds { ⌜ leaf ≤ 8 ⌝ }
+    requires sides { ⌜ RoomSides sides ⌝ }
     ensures members { λ r. ⌜ ofBits r
         ≡
-        (λ (z : ℕ). ofBits held z && not (model.leafset (tableOf leaf (now (keys .entry))) (me .0) (ofBits held) z)) ⌝ }
+        (λ (z : ℕ). ofBits held z && not (model.leafset (tableOf sides (now (keys .entry))) (me .0) (ofBits held) z)) ⌝ }
 {
-    sets::minus(held, leafset(keys, leaf, me, held))
+    sets::minus(held, leafset(keys, sides, me, held))
 }

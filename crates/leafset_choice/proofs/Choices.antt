@@ -9,17 +9,18 @@ use Rattle.model.specs.Key.{clockwise}
 use Rattle.model.specs.Sets.{Set, some, ofBits}
 use Rattle.model.specs.Leafset.{Table, successor, passesZero}
 use Rattle.model.proofs.Laws.{clash, is-false, and-left, some-in, some-out}
-use Rattle.leafset.specs.Table.{InTable}
+use Rattle.sets.specs.Within.{InTable}
 use Rattle.model.specs.Structs.{tableOf}
+use Rattle.model.specs.declared.values.Sides.{Sides}
 use Rattle.leafset_nearest.specs.Span.{spanTo, Found}
 use Rattle.leafset_nearest.specs.declared.Way.the-variants.{Clockwise}
 use Rattle.leafset_nearest.proofs.Spans.{beyond, span<}
 use Rattle.leafset_nearest.proofs.Pick.{picked, found-least}
 use Rattle.leafset_nearest.proofs.Firsts.{found-count}
 
-module _ (leaf : ℕ) (keys : List ℕ) where
+module _ (sides : Sides) (keys : List ℕ) where
   abbrev t : Table
-  t = tableOf leaf keys
+  t = tableOf sides keys
 
   pub successor-found : (x : ℕ) (S : Set) → ((y : ℕ) → S y ≡ true → y < length keys) → {b : ℕ}
       → Found S (spanTo Clockwise (getD keys x 0) keys) b → b ≡ successor t x S
@@ -43,11 +44,11 @@ module _ (leaf : ℕ) (keys : List ℕ) where
   unfolding passesZero
   passes-nobody x held f = rw (is-false (some (length keys) held) (λ s. let p = some-out (length keys) held s in clash (p .2) (f (p .0))))
 
-module _ (leaf : ℕ) {keys : List ℕ} {x held : ℕ} (q : InTable keys x held) where
+module _ (sides : Sides) {keys : List ℕ} {x held : ℕ} (q : InTable keys x held) where
   -- the successor of a node that holds somebody, as one that passes zero does
-  pub some-successor : some (length keys) (ofBits held) ≡ true → successor (tableOf leaf keys) x (ofBits held) < length keys
-  some-successor e = let p = some-out (length keys) (ofBits held) e in successor-low leaf keys x (ofBits held) (q .within) (p .0) (p .2)
+  pub some-successor : some (length keys) (ofBits held) ≡ true → successor (tableOf sides keys) x (ofBits held) < length keys
+  some-successor e = let p = some-out (length keys) (ofBits held) e in successor-low sides keys x (ofBits held) (q .within) (p .0) (p .2)
 
-  pub passes-some : passesZero (tableOf leaf keys) x (ofBits held) ≡ true → some (length keys) (ofBits held) ≡ true
+  pub passes-some : passesZero (tableOf sides keys) x (ofBits held) ≡ true → some (length keys) (ofBits held) ≡ true
   unfolding passesZero
   passes-some e = and-left (some (length keys) (ofBits held)) _ e

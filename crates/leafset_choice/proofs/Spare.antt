@@ -13,9 +13,9 @@ use Rattle.model.specs.Key.{distance}
 use Rattle.model.specs.Sets.{Set, without, noneNode, some, lowest, toBits, ofBits}
 use Rattle.model.specs.Leafset.{Table, leafset, nearest, closest}
 use Rattle.model.proofs.Laws.{decide, is-false, and-in, and-left, and-right, some-none}
-use Rattle.sets.specs.Within.{Within}
-use Rattle.leafset.specs.Table.{InTable}
+use Rattle.sets.specs.Within.{Within, InTable}
 use Rattle.model.specs.Structs.{tableOf}
+use Rattle.model.specs.declared.values.Sides.{Sides}
 use Rattle.leafset_nearest.specs.Span.{spanTo, Least, Found, nobody, found}
 use Rattle.leafset_nearest.specs.declared.Way.the-variants.{Either}
 use Rattle.sets.proofs.Members.{lowest-first, lowest-none}
@@ -23,25 +23,25 @@ use Rattle.leafset_nearest.proofs.Spans.{beats-rank, rank-nearer}
 use Rattle.leafset_nearest.proofs.Firsts.{found-none}
 use Rattle.leafset.proofs.Leaves.{leafset-low, leafset-back}
 
-module _ (leaf : ℕ) (keys : List ℕ) where
+module _ (sides : Sides) (keys : List ℕ) where
   abbrev t : Table
-  t = tableOf leaf keys
+  t = tableOf sides keys
 
   nearest-found : (a : ℕ) (S : Set) → ((y : ℕ) → S y ≡ true → y < length keys) → {b : ℕ}
-      → Found S (spanTo Either (getD keys a 0) keys) b → b ≡ nearest t a S
+      → Found S (spanTo Either a keys) b → b ≡ nearest t a S
   unfolding nearest
   nearest-found a S low f =
-      found-none (length keys) S low (spanTo Either (getD keys a 0) keys) f
+      found-none (length keys) S low (spanTo Either a keys) f
       ∙ ap (lowest (length keys)) (fun-ext (λ y. ap (λ (P : Set). S y && not (some (length keys) P)) (fun-ext (λ z. ap (_&&_ (S z)) (sym (beats-rank t a z y))))))
 
 -- the choice of a spare: the first of the leafset but for a, where it is near enough
-module _ (leaf : ℕ) {keys : List ℕ} {x held : ℕ} (q : InTable keys x held) (a mine others : ℕ)
-    (is : mine ≡ toBits 64 (leafset (tableOf leaf keys) x (ofBits held))) (e : ofBits others ≡ without (ofBits mine) a) where
-  others-are : ofBits others ≡ without (leafset (tableOf leaf keys) x (ofBits held)) a
-  others-are = e ∙ ap (λ (R : Set). without R a) (leafset-back leaf q is)
+module _ (sides : Sides) {keys : List ℕ} {x held : ℕ} (q : InTable keys x held) (a mine others : ℕ)
+    (is : mine ≡ toBits 64 (leafset (tableOf sides keys) x (ofBits held))) (e : ofBits others ≡ without (ofBits mine) a) where
+  others-are : ofBits others ≡ without (leafset (tableOf sides keys) x (ofBits held)) a
+  others-are = e ∙ ap (λ (R : Set). without R a) (leafset-back sides q is)
 
   pub others-low : Within (length keys) others
-  others-low y h = leafset-low leaf q y (and-left (leafset (tableOf leaf keys) x (ofBits held) y) (not (eqb y a)) (sym (ap (λ (R : Set). R y) others-are) ∙ h))
+  others-low y h = leafset-low sides q y (and-left (leafset (tableOf sides keys) x (ofBits held) y) (not (eqb y a)) (sym (ap (λ (R : Set). R y) others-are) ∙ h))
 
   abbrev far : ℕ → ℕ
   far y = distance (getD keys a 0) (getD keys y 0)
@@ -49,13 +49,13 @@ module _ (leaf : ℕ) {keys : List ℕ} {x held : ℕ} (q : InTable keys x held)
   abbrev enough : Set
   enough y = ofBits others y && ltb (far y) (far x)
 
-  closest-is : {b : ℕ} → Found enough (spanTo Either (getD keys a 0) keys) b → b ≡ closest (tableOf leaf keys) x (ofBits held) a
+  closest-is : {b : ℕ} → Found enough (spanTo Either (getD keys a 0) keys) b → b ≡ closest (tableOf sides keys) x (ofBits held) a
   unfolding closest
   closest-is f =
-      nearest-found leaf keys a enough (λ y h. others-low y (and-left (ofBits others y) (ltb (far y) (far x)) h)) f
-      ∙ ap (λ (R : Set). nearest (tableOf leaf keys) a (λ y. R y && ltb (far y) (far x))) others-are
+      nearest-found sides keys (getD keys a 0) enough (λ y h. others-low y (and-left (ofBits others y) (ltb (far y) (far x)) h)) f
+      ∙ ap (λ (R : Set). nearest (tableOf sides keys) (getD keys a 0) (λ y. R y && ltb (far y) (far x))) others-are
 
-  pub closest-nobody : ((y : ℕ) → ofBits others y ≡ false) → noneNode ≡ closest (tableOf leaf keys) x (ofBits held) a
+  pub closest-nobody : ((y : ℕ) → ofBits others y ≡ false) → noneNode ≡ closest (tableOf sides keys) x (ofBits held) a
   closest-nobody f = closest-is (nobody (λ y. rw (f y)))
 
   module _ {b : ℕ} (l : Least (ofBits others) (spanTo Either (getD keys a 0) keys) b) where
@@ -66,7 +66,7 @@ module _ (leaf : ℕ) {keys : List ℕ} {x held : ℕ} (q : InTable keys x held)
           | no h ↦ omega arith
         ]
 
-    pub closest-found : far b < far x → b ≡ closest (tableOf leaf keys) x (ofBits held) a
+    pub closest-found : far b < far x → b ≡ closest (tableOf sides keys) x (ofBits held) a
     closest-found h =
         closest-is (found (record {
           member = and-in (l .member) (lt-ltb (far b) (far x) h);
@@ -74,7 +74,7 @@ module _ (leaf : ℕ) {keys : List ℕ} {x held : ℕ} (q : InTable keys x held)
           lowest = λ y q g. l .lowest y (and-left (ofBits others y) (ltb (far y) (far x)) q) g;
         }))
 
-    pub closest-none : far x ≤ far b → noneNode ≡ closest (tableOf leaf keys) x (ofBits held) a
+    pub closest-none : far x ≤ far b → noneNode ≡ closest (tableOf sides keys) x (ofBits held) a
     closest-none h =
         closest-is (nobody (λ y. is-false (enough y) (λ q.
         lt-irrefl (far y) (le-trans (ltb-true (far y) (far x) (and-right (ofBits others y) (ltb (far y) (far x)) q)) (le-trans h (first-far y (and-left (ofBits others y) (ltb (far y) (far x)) q)))))))
@@ -86,6 +86,6 @@ lowest-room n S few =
     (λ e. let f = lowest-first n S e in omega (arith, f .below))
     (λ e. let f = lowest-none n S (some-none n S e) in omega arith)
 
-pub closest-room : (leaf : ℕ) (keys : List ℕ) (x : ℕ) (held : Set) (a : ℕ) → length keys ≤ 64 → closest (tableOf leaf keys) x held a < 2 ^ 7
+pub closest-room : (sides : Sides) (keys : List ℕ) (x : ℕ) (held : Set) (a : ℕ) → length keys ≤ 64 → closest (tableOf sides keys) x held a < 2 ^ 7
 unfolding closest nearest
-closest-room leaf keys x held a few = lowest-room (length keys) _ few
+closest-room sides keys x held a few = lowest-room (length keys) _ few

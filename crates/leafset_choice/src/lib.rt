@@ -1,23 +1,25 @@
 // Choices by nearness: the successor, whether a node passes zero, and the spare that type 7 offers.
 ghost use mathlib.Core.Path.{_≡_};
-ghost use Prim.Native.Nat.{ℕ, _≤_, _<_};
+ghost use Prim.Native.Nat.{_<_};
 ghost use lib.ListN.{length};
 ghost use Rattle.model.specs.Sets.{ofBits};
-ghost use Rattle.model.specs.Structs.{tableOf};
+ghost use Rattle.model.specs.Structs.{tableOf, RoomSides};
+ghost use Rattle.model.specs.declared.values.Sides.{Sides};
 ghost use Rattle.model.specs.Leafset as model;
-ghost use Rattle.leafset.specs.Table.{InTable};
+ghost use Rattle.sets.specs.Within.{InTable};
 use leafset::leafset;
 use leafset_nearest::Way;
 use leafset_nearest::clockwise;
 use leafset_nearest::distance;
 use model::values::Key;
 use model::values::NodeNumber;
+use model::values::Sides;
 
 // "a stand's successor is its held stand nearest clockwise"; none for a node that holds nobody
 pub fn successor(keys: &[u32], x: NodeNumber, held: u64) -> NodeNumber
     requires table { ⌜ InTable (now keys) (x .0) held ⌝ }
-    ensures value { λ r. ⌜ ((leaf : ℕ)
-        → r .0 ≡ model.successor (tableOf leaf (now (keys .entry))) (x .0) (ofBits held)) ⌝ }
+    ensures value { λ r. ⌜ ((sides : Sides)
+        → r .0 ≡ model.successor (tableOf sides (now (keys .entry))) (x .0) (ofBits held)) ⌝ }
 {
     let at = x.0 as usize;
     leafset_nearest::nearest(keys, Way::Clockwise, Key(keys[at]), held)
@@ -27,8 +29,8 @@ pub fn successor(keys: &[u32], x: NodeNumber, held: u64) -> NodeNumber
 // doesn't pass zero"
 pub fn passes_zero(keys: &[u32], x: NodeNumber, held: u64) -> bool
     requires table { ⌜ InTable (now keys) (x .0) held ⌝ }
-    ensures value { λ r. ⌜ ((leaf : ℕ)
-        → r ≡ model.passesZero (tableOf leaf (now (keys .entry))) (x .0) (ofBits held)) ⌝ }
+    ensures value { λ r. ⌜ ((sides : Sides)
+        → r ≡ model.passesZero (tableOf sides (now (keys .entry))) (x .0) (ofBits held)) ⌝ }
 {
     if held == 0 {
         return false;
@@ -42,11 +44,11 @@ pub fn passes_zero(keys: &[u32], x: NodeNumber, held: u64) -> bool
 
 // "the member of my leafset, other than a, nearest to a and strictly nearer to a than I am; of two equally near, the
 // clockwise one from a; else 64", at x
-pub fn closest(keys: &[u32], leaf: u32, x: NodeNumber, held: u64, a: NodeNumber) -> NodeNumber
-    requires table { ⌜ InTable (now keys) (x .0) held × (leaf ≤ 8) × (a .0 < length (now keys)) ⌝ }
-    ensures value { λ r. ⌜ r .0 ≡ model.closest (tableOf leaf (now (keys .entry))) (x .0) (ofBits held) (a .0) ⌝ }
+pub fn closest(keys: &[u32], sides: Sides, x: NodeNumber, held: u64, a: NodeNumber) -> NodeNumber
+    requires table { ⌜ InTable (now keys) (x .0) held × RoomSides sides × (a .0 < length (now keys)) ⌝ }
+    ensures value { λ r. ⌜ r .0 ≡ model.closest (tableOf sides (now (keys .entry))) (x .0) (ofBits held) (a .0) ⌝ }
 {
-    let others = sets::without(leafset(keys, leaf, x, held), a);
+    let others = sets::without(leafset(keys, sides, x, held), a);
     if others == 0 {
         return NodeNumber::NONE;
     }

@@ -113,10 +113,9 @@ module _ (c d c′ d′ : ℕ) where
           let t = tie-rank (ltb-true (rank c d) (rank c′ d′) e) (ltb-false (min c d) (min c′ d′) p) in
           or-right (ltb (min c d) (min c′ d′)) (and-in (eq-eqb (min c d) (min c′ d′) (t .0)) (lt-ltb c c′ (t .1))))
 
-pub beats-rank : (t : Table) (a y z : ℕ) → beats t a y z ≡ ltb (rankOf (key t a) (key t y)) (rankOf (key t a) (key t z))
+pub beats-rank : (t : Table) (a y z : ℕ) → beats t a y z ≡ ltb (rankOf a (key t y)) (rankOf a (key t z))
 beats-rank t a y z =
-    closer-rank (clockwise (key t a) (key t y)) (clockwise (key t y) (key t a)) (clockwise (key t a) (key t z)) (clockwise (key t z) (key t a))
-    (round (key t a) (key t y)) (round (key t a) (key t z))
+    closer-rank (clockwise a (key t y)) (clockwise (key t y) a) (clockwise a (key t z)) (clockwise (key t z) a) (round a (key t y)) (round a (key t z))
 
 pub rank-nearer : (a y z : ℕ) → distance a y < distance a z → rankOf a y < rankOf a z
 rank-nearer a y z = nearer-rank (clockwise a y) (clockwise y a) (clockwise a z) (clockwise z a)

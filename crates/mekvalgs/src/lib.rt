@@ -17,9 +17,10 @@ use model::values::NodeNumber;
 // Writes the initial ring of `leaf` and the keys.
 #[no_mangle]
 pub extern "C" fn mekvalgs_open(words: &mut [u32], leaf: u32, keys: &[u32]) -> u32
-    ensures answer { λ r. ⌜ r ≡ openBuffer (now (words .entry)) (tableOf leaf (now (keys .entry))) .answer ⌝ }
+    ensures answer { λ r. ⌜ r
+        ≡ openBuffer (now (words .entry)) (tableOf (record { each = leaf }) (now (keys .entry))) .answer ⌝ }
     ensures words { λ r. ⌜ now (words .exit)
-        ≡ openBuffer (now (words .entry)) (tableOf leaf (now (keys .entry))) .words ⌝ }
+        ≡ openBuffer (now (words .entry)) (tableOf (record { each = leaf }) (now (keys .entry))) .words ⌝ }
 {
     answers::number(open(words, leaf, keys))
 }
@@ -51,8 +52,8 @@ pub extern "C" fn mekvalgs_replay(
     script: &[u32],
     answers: &mut [u8],
 ) -> u32
-    ensures replayed { λ r. ⌜ Replayed (now (words .entry)) (tableOf leaf (now (keys .entry))) (now (script .entry))
-        (now (answers .entry)) r (now (words .exit)) (now (answers .exit)) ⌝ }
+    ensures replayed { λ r. ⌜ Replayed (now (words .entry)) (tableOf (record { each = leaf }) (now (keys .entry)))
+        (now (script .entry)) (now (answers .entry)) r (now (words .exit)) (now (answers .exit)) ⌝ }
 {
     answers::number(call_play::replay(words, leaf, keys, script, answers))
 }

@@ -145,11 +145,11 @@ module _ (t : Table) where
   successor-held x held e =
       let d : ℕ → ℕ = λ z. clockwise (key t x) (key t z) in
       let l : Least (size t) held d = least (size t) held d e in
-      let c : nearer t clockwise x held (l .best) ≡ 0 = count-none (size t) (λ z. held z && ltb (d z) (d (l .best)))
+      let c : nearer t clockwise (key t x) held (l .best) ≡ 0 = count-none (size t) (λ z. held z && ltb (d z) (d (l .best)))
       (λ z h. is-false (held z && ltb (d z) (d (l .best)))
       (λ k. clash (and-right (held z) (ltb (d z) (d (l .best))) k)
       (le-ltb (d z) (d (l .best)) (l .no-less z (record { below = h; within = and-left (held z) (ltb (d z) (d (l .best))) k }))))) in
       and-left (held (successor t x held)) _
-      (lowest-in (size t) (λ y. held y && eqb (nearer t clockwise x held y) 0) (l .best)
-      (record { below = l .member .below; within = and-in (l .member .within) (eq-eqb (nearer t clockwise x held (l .best)) 0 c) })
+      (lowest-in (size t) (λ y. held y && eqb (nearer t clockwise (key t x) held y) 0) (l .best)
+      (record { below = l .member .below; within = and-in (l .member .within) (eq-eqb (nearer t clockwise (key t x) held (l .best)) 0 c) })
       .within)

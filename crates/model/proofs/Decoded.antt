@@ -13,7 +13,8 @@ use Rattle.model.specs.Leafset.{Table, size, key}
 use Rattle.model.specs.Ring.{Own, Node, Message, blank, messageAt}
 use Rattle.model.specs.Fields.{bits}
 use Rattle.model.specs.WellFormed.{WellFormedTable, Spare, none, spare, WellFormedOwn, WellFormedNode, WellFormedMessage, WellFormed, Each}
-use Rattle.model.specs.Words.{isPair, nodePlace, messagePlace, decodeTable, decodeOwn, decodeNode, decodeMessage, decode, between, inRange, keysDiffer, nodeOrNone, pairFits, nodeFits, usesView, usesSubject, usesStamp, subjectFits, viewFits, messageFits, ringFits, readsAsRing}
+use Rattle.model.specs.Words.{isPair, nodePlace, messagePlace, decodeTable, decodeOwn, decodeNode, decodeMessage, decode, between, sidesFit, inRange, keysDiffer, nodeOrNone, pairFits, nodeFits, usesView, usesSubject, usesStamp, subjectFits, viewFits, messageFits, ringFits, readsAsRing}
+use Rattle.model.proofs.Fits.{sides-out}
 use Rattle.model.proofs.Laws.{clash, and-left, and-right, or-case, or-left, or-right, implies-out, not-out, not-in, between-low, between-high, every-out, then-out, else-out, decide, is-false, if-law, all-out, length-tabulate, getD-tabulate}
 use Rattle.model.proofs.Lists.{first, rest, each-of}
 use Rattle.model.proofs.Fields.{bits<}
@@ -123,10 +124,9 @@ module _ (ws : List ℕ) (fits : ringFits (decode ws) ≡ true) where
   decoded-table : WellFormedTable t
   unfolding inRange
   decoded-table =
-      let range = every-out (between 1 8 (t .leaf) ∷ between 1 64 (size t) ∷ []) (first ring-parts) in
+      let range = every-out (sidesFit (t .sides) ∷ between 1 64 (size t) ∷ []) (first ring-parts) in
       record {
-        leaf-low = between-low 1 8 (t .leaf) (first range);
-        leaf-high = between-high 1 8 (t .leaf) (first range);
+        sides-well = sides-out (t .sides) (first range);
         size-low = between-low 1 64 (size t) (first (rest range));
         size-high = between-high 1 64 (size t) (first (rest range));
         key-high = decoded-key;

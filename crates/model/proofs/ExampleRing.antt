@@ -23,7 +23,7 @@ holding S = record { held = ofBits S; candidates = empty; commit = λ z. if ofBi
 
 -- node 2 is outside the leafset of node 0 in the nodes 2, 3 and 4, and in these and node 1
 unfoldable pub five : Table
-five = record { leaf = 1; keys = 10 ∷ 20 ∷ 30 ∷ 16777210 ∷ 15 ∷ [] }
+five = record { sides = record { each = 1 }; keys = 10 ∷ 20 ∷ 30 ∷ 16777210 ∷ 15 ∷ [] }
 
 -- node 0, which holds the nodes of S, and of them node 2 with the commit that is given and spare 1; and any other node
 unfoldable pub node0 : ℕ → ℕ → Node
@@ -43,8 +43,7 @@ table-well : WellFormedTable five
 unfolding five keysDiffer all
 table-well =
     record {
-      leaf-low = omega arith;
-      leaf-high = omega arith;
+      sides-well = record { each-low = omega arith; each-high = omega arith };
       size-low = omega arith;
       size-high = omega arith;
       key-high = λ s h. leb-true (key five s) 16777215 (all-out 5 (λ s. leb (key five s) 16777215) refl s h);

@@ -12,16 +12,24 @@ use Rattle.model.specs.Choice.{_⇒_, every}
 use Rattle.model.specs.Sets.{all}
 use Rattle.model.specs.Leafset.{Table, size}
 use Rattle.model.specs.Ring.{Node, Message, Ring, blank, messageAt}
-use Rattle.model.specs.WellFormed.{WellFormedTable, Spare, none, spare, WellFormedOwn, WellFormedNode, WellFormedMessage, WellFormed, nil, cons}
-use Rattle.model.specs.Words.{isPair, encode, decode, inRange, nodeOrNone, pairFits, nodeFits, usesView, usesSubject, usesStamp, subjectFits, viewFits, messageFits, ringFits, readsAsRing}
-use Rattle.model.proofs.Laws.{and-in, or-left, or-right, implies-in, not-in, not-out, between-in, every-in, if-law, decide, all-in}
+use Rattle.model.specs.WellFormed.{WellFormedSides, WellFormedTable, Spare, none, spare, WellFormedOwn, WellFormedNode, WellFormedMessage, WellFormed, nil, cons}
+use Rattle.model.specs.Words.{isPair, encode, decode, sidesFit, inRange, nodeOrNone, pairFits, nodeFits, usesView, usesSubject, usesStamp, subjectFits, viewFits, messageFits, ringFits, readsAsRing}
+use Rattle.model.specs.declared.values.Sides.{Sides}
+use Rattle.model.proofs.Laws.{and-in, or-left, or-right, implies-in, not-in, not-out, between-in, between-low, between-high, every-in, if-law, decide, all-in}
 use Rattle.model.proofs.Lists.{each-at}
 use Rattle.model.proofs.Words.{pair-low, pair-other, length-encode, format-in, reads-in}
 use Rattle.model.proofs.RoundTrip.{round-trip}
 
+-- L, both ways
+sides-in : (s : Sides) → WellFormedSides s → sidesFit s ≡ true
+sides-in s g = between-in 1 8 (s .each) (g .each-low) (g .each-high)
+
+pub sides-out : (s : Sides) → sidesFit s ≡ true → WellFormedSides s
+sides-out s e = record { each-low = between-low 1 8 (s .each) e; each-high = between-high 1 8 (s .each) e }
+
 table-fits : (t : Table) → WellFormedTable t → inRange t ≡ true
 unfolding inRange
-table-fits t g = every-in (cons (between-in 1 8 (t .leaf) (g .leaf-low) (g .leaf-high)) (cons (between-in 1 64 (size t) (g .size-low) (g .size-high)) nil))
+table-fits t g = every-in (cons (sides-in (t .sides) (g .sides-well)) (cons (between-in 1 64 (size t) (g .size-low) (g .size-high)) nil))
 
 -- what a spare is not
 record Apart (x z y : ℕ) : Type 0 where

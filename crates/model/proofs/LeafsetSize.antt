@@ -164,11 +164,11 @@ clockwise-lt a b = omega arith
 -- A are L members of S, nearer to x by the distance d than any other member of S
 pub record Nearest (t : Table) (d : ℕ → ℕ → ℕ) (x : ℕ) (S A : Set) : Type 0 where
   pub within : (y : ℕ) → A y ≡ true → S y ≡ true
-  pub number : count (size t) A ≡ t .leaf
+  pub number : count (size t) A ≡ t .sides .each
   pub nearest : (y z : ℕ) → A y ≡ true → S z ≡ true → A z ≡ false → d (key t x) (key t y) < d (key t x) (key t z)
 
 -- the leafset of x in S is two sides without a common node
-pub record Sides (t : Table) (x : ℕ) (S : Set) : Type 0 where
+pub record TwoSides (t : Table) (x : ℕ) (S : Set) : Type 0 where
   pub ahead : Set
   pub behind : Set
   pub ahead-nearest : Nearest t clockwise x (without S x) ahead
@@ -216,13 +216,13 @@ module _ (t : Table) (g : WellFormedTable t) (x : ℕ) (hx : x < size t) (S : Se
 
   -- the L nearest on one way
   abbrev near : (ℕ → ℕ → ℕ) → Set
-  near d y = left y && isNear t d x left y
+  near d y = left y && isNear t d a left y
 
-  near-ahead : count n (near clockwise) ≡ min (t .leaf) (count n left)
-  near-ahead = least-count left ahead n ahead-inj (t .leaf) 16777216 (λ y l e. clockwise-lt a (key t y))
+  near-ahead : count n (near clockwise) ≡ min (t .sides .each) (count n left)
+  near-ahead = least-count left ahead n ahead-inj (t .sides .each) 16777216 (λ y l e. clockwise-lt a (key t y))
 
-  near-behind : count n (near counterClockwise) ≡ min (t .leaf) (count n left)
-  near-behind = least-count left behind n behind-inj (t .leaf) 16777216 (λ y l e. clockwise-lt (key t y) a)
+  near-behind : count n (near counterClockwise) ≡ min (t .sides .each) (count n left)
+  near-behind = least-count left behind n behind-inj (t .sides .each) 16777216 (λ y l e. clockwise-lt (key t y) a)
 
   -- seen from a member y, any other member is nearer on one way or on the other
   past : (y z : ℕ) → y < n → z < n → left y ≡ true
@@ -245,17 +245,17 @@ module _ (t : Table) (g : WellFormedTable t) (x : ℕ) (hx : x < size t) (S : Se
       (λ lz. rw lz)
 
   -- nobody is among the L nearest on both ways
-  apart : (y : ℕ) → y < n → 2 * t .leaf ≤ count n left → near clockwise y ≡ true → near counterClockwise y ≡ true → ⊥
+  apart : (y : ℕ) → y < n → 2 * t .sides .each ≤ count n left → near clockwise y ≡ true → near counterClockwise y ≡ true → ⊥
   apart y hy enough p q =
       let ly : left y ≡ true = and-left (left y) _ p in
-      let whole : count n left ≡ nearer t clockwise x left y + count n (λ z. left z && not (ltb (ahead z) (ahead y))) =
+      let whole : count n left ≡ nearer t clockwise a left y + count n (λ z. left z && not (ltb (ahead z) (ahead y))) =
       count-add n (λ z. left z && ltb (ahead z) (ahead y)) (λ z. left z && not (ltb (ahead z) (ahead y))) left (λ z l. split (left z) (ltb (ahead z) (ahead y))) in
-      let rest : count n (λ z. left z && not (ltb (ahead z) (ahead y))) ≡ nearer t counterClockwise x left y + count n (λ z. left z && eqb z y) =
+      let rest : count n (λ z. left z && not (ltb (ahead z) (ahead y))) ≡ nearer t counterClockwise a left y + count n (λ z. left z && eqb z y) =
       count-add n (λ z. left z && ltb (behind z) (behind y)) (λ z. left z && eqb z y) (λ z. left z && not (ltb (ahead z) (ahead y))) (λ z l. past y z hy l ly) in
       let itself : count n (λ z. left z && eqb z y) ≤ 1 =
       count-one n (λ z. left z && eqb z y) (λ u v hu hv eu ev. eqb-true u y (and-right (left u) _ eu) ∙ sym (eqb-true v y (and-right (left v) _ ev))) in
-      let here : nearer t clockwise x left y < t .leaf = ltb-true _ (t .leaf) (and-right (left y) _ p) in
-      let there : nearer t counterClockwise x left y < t .leaf = ltb-true _ (t .leaf) (and-right (left y) _ q) in
+      let here : nearer t clockwise a left y < t .sides .each = ltb-true _ (t .sides .each) (and-right (left y) _ p) in
+      let there : nearer t counterClockwise a left y < t .sides .each = ltb-true _ (t .sides .each) (and-right (left y) _ q) in
       omega arith
 
   -- a node among the L nearest by d is nearer than one that is not
@@ -264,9 +264,9 @@ module _ (t : Table) (g : WellFormedTable t) (x : ℕ) (hx : x < size t) (S : Se
       elim (decLt (d a (key t y)) (d a (key t z))) [
         | yes h ↦ h
         | no h ↦
-            (let few : nearer t d x left y < t .leaf = ltb-true _ (t .leaf) (and-right (left y) _ p) in
-            let many : t .leaf ≤ nearer t d x left z = ltb-false _ (t .leaf) (rw lz at q) in
-            let mono : nearer t d x left z ≤ nearer t d x left y =
+            (let few : nearer t d a left y < t .sides .each = ltb-true _ (t .sides .each) (and-right (left y) _ p) in
+            let many : t .sides .each ≤ nearer t d a left z = ltb-false _ (t .sides .each) (rw lz at q) in
+            let mono : nearer t d a left z ≤ nearer t d a left y =
             count-mono (λ v. left v && ltb (d a (key t v)) (d a (key t z))) (λ v. left v && ltb (d a (key t v)) (d a (key t y))) n
             (λ v l e.
             let i = ltb-true (d a (key t v)) (d a (key t z)) (and-right (left v) _ e) in
@@ -274,15 +274,15 @@ module _ (t : Table) (g : WellFormedTable t) (x : ℕ) (hx : x < size t) (S : Se
             absurd (omega arith))
       ]
 
-  nearest-by : (d : ℕ → ℕ → ℕ) → count n (near d) ≡ min (t .leaf) (count n left) → 2 * t .leaf ≤ count n left → Nearest t d x left (near d)
+  nearest-by : (d : ℕ → ℕ → ℕ) → count n (near d) ≡ min (t .sides .each) (count n left) → 2 * t .sides .each ≤ count n left → Nearest t d x left (near d)
   nearest-by d e enough =
       record {
-        within = λ y p. and-left (left y) (isNear t d x left y) p;
+        within = λ y p. and-left (left y) (isNear t d a left y) p;
         number = omega arith;
         nearest = near-nearest d;
       }
 
-  pub leafset-sides : 2 * t .leaf ≤ count n left → Sides t x S
+  pub leafset-sides : 2 * t .sides .each ≤ count n left → TwoSides t x S
   unfolding leafset
   leafset-sides enough =
       record {
@@ -292,14 +292,14 @@ module _ (t : Table) (g : WellFormedTable t) (x : ℕ) (hx : x < size t) (S : Se
         behind-nearest = nearest-by counterClockwise near-behind enough;
         apart = λ y l p q. apart y l enough p q;
         together = λ y.
-            ap (λ (few : Bool). left y && (few || isNear t clockwise x left y || isNear t counterClockwise x left y))
-            (le-ltb (count n left) (2 * t .leaf) enough)
-            ∙ distribute (left y) (isNear t clockwise x left y) (isNear t counterClockwise x left y);
+            ap (λ (few : Bool). left y && (few || isNear t clockwise a left y || isNear t counterClockwise a left y))
+            (le-ltb (count n left) (2 * t .sides .each) enough)
+            ∙ distribute (left y) (isNear t clockwise a left y) (isNear t counterClockwise a left y);
       }
 
-  pub leafset-size : 2 * t .leaf ≤ count n left → count n (leafset t x S) ≡ 2 * t .leaf
+  pub leafset-size : 2 * t .sides .each ≤ count n left → count n (leafset t x S) ≡ 2 * t .sides .each
   leafset-size enough =
-      let s : Sides t x S = leafset-sides enough in
+      let s : TwoSides t x S = leafset-sides enough in
       let sum : count n (leafset t x S) ≡ count n (s .ahead) + count n (s .behind) =
       count-add n (s .ahead) (s .behind) (leafset t x S)
       (λ y l. ap one (s .together y) ∙ either (s .ahead y) (s .behind y) (s .apart y l)) in

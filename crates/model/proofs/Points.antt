@@ -31,7 +31,7 @@ computed = tt
 
 -- keys 10, 20, 30 and 16777210 with L = 1
 pub four : Leafset.Table
-four = record { leaf = 1; keys = 10 ∷ 20 ∷ 30 ∷ 16777210 ∷ [] }
+four = record { sides = record { each = 1 }; keys = 10 ∷ 20 ∷ 30 ∷ 16777210 ∷ [] }
 
 -- the leafset at key 10 in the set of nodes that is given by its bits
 pub near10 : ℕ → List ℕ
@@ -40,7 +40,7 @@ near10 S = Sets.members 4 (Leafset.leafset four 0 (Sets.ofBits S))
 -- type 7 from node 0, key 100, is delivered at node x of keys 100, 130, 90 and 110, which holds the nodes that are given by their bits:
 -- what it sends, for each L from 1 to 8
 pub asked : ℕ → ℕ → List (List Ring.Message)
-asked x S = Sets.tabulate 8 λ i. Steps.deliver (record { leaf = suc i; keys = 100 ∷ 130 ∷ 90 ∷ 110 ∷ [] }) x 9 (holding S) m .sent
+asked x S = Sets.tabulate 8 λ i. Steps.deliver (record { sides = record { each = suc i }; keys = 100 ∷ 130 ∷ 90 ∷ 110 ∷ [] }) x 9 (holding S) m .sent
   where
     m : Ring.Message
     m = record { type = 7; sender = 0; receiver = x; subject = 64; stamp = 0; view = Sets.empty }

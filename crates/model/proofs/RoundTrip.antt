@@ -61,26 +61,26 @@ module _ (r : Ring) (g : WellFormed r) where
   gt : WellFormedTable (r .table)
   gt = g .table-well
 
-  word0 : getD ws 0 0 ≡ headWord (r .table .leaf) (size (r .table)) (length (r .messages))
+  word0 : getD ws 0 0 ≡ headWord (r .table .sides) (size (r .table)) (length (r .messages))
   unfolding ws wordAt
   word0 = encode-at r 0 (lit< tt)
 
-  word-leaf : bits 0 4 (getD ws 0 0) ≡ r .table .leaf
+  word-leaf : bits 0 4 (getD ws 0 0) ≡ r .table .sides .each
   unfolding headWord
   word-leaf =
-      field 0 4 (2 ^ 24 + length (r .messages) * 2 ^ 7 + size (r .table)) (r .table .leaf) 0 (word0 ∙ omega arith) (lit< tt) (omega (arith, gt .leaf-high))
+      field 0 4 (2 ^ 24 + length (r .messages) * 2 ^ 7 + size (r .table)) (r .table .sides .each) 0 (word0 ∙ omega arith) (lit< tt) (omega (arith, gt .sides-well .each-high))
 
   word-size : bits 4 7 (getD ws 0 0) ≡ size (r .table)
   unfolding headWord
   word-size =
-      field 4 7 (2 ^ 17 + length (r .messages)) (size (r .table)) (r .table .leaf)
-      (word0 ∙ omega arith) (omega (arith, gt .leaf-high)) (omega (arith, gt .size-high))
+      field 4 7 (2 ^ 17 + length (r .messages)) (size (r .table)) (r .table .sides .each)
+      (word0 ∙ omega arith) (omega (arith, gt .sides-well .each-high)) (omega (arith, gt .size-high))
 
   word-count : bits 11 11 (getD ws 0 0) ≡ length (r .messages)
   unfolding headWord
   word-count =
-      field 11 11 (2 ^ 6) (length (r .messages)) (size (r .table) * 16 + r .table .leaf)
-      (word0 ∙ omega arith) (omega (arith, gt .leaf-high, gt .size-high)) (omega (arith, g .count-high))
+      field 11 11 (2 ^ 6) (length (r .messages)) (size (r .table) * 16 + r .table .sides .each)
+      (word0 ∙ omega arith) (omega (arith, gt .sides-well .each-high, gt .size-high)) (omega (arith, g .count-high))
 
   -- ---- nodes
 
@@ -104,7 +104,7 @@ module _ (r : Ring) (g : WellFormed r) where
   table-back : decodeTable ws ≡ r .table
   unfolding decodeTable
   table-back =
-      ap₂ (λ a b. record { leaf = a; keys = b }) word-leaf
+      ap₂ (λ a b. record { sides = record { each = a }; keys = b }) word-leaf
       (ap (λ k. tabulate k (λ s. bits 0 24 (getD ws (nodePlace s) 0))) word-size
       ∙ tabulate-cong (λ s. bits 0 24 (getD ws (nodePlace s) 0)) (key (r .table)) (size (r .table)) key-back
       ∙ tabulate-getD 0 (r .table .keys))

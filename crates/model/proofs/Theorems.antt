@@ -24,7 +24,7 @@ use Rattle.model.specs.declared.event.Event.the-variants.{On, Off, Notic
 use Rattle.model.specs.declared.event.Reading.the-variants.{Read}
 use Rattle.model.proofs.Answers.{risingFrom, LowestOf, lowest-given}
 use Rattle.model.proofs.Events as events
-use Rattle.model.proofs.LeafsetSize.{Sides}
+use Rattle.model.proofs.LeafsetSize.{TwoSides}
 use Rattle.model.proofs.LeafsetSize as size-of
 use Rattle.model.proofs.Questions as questions
 use Rattle.model.proofs.Words as words
@@ -101,15 +101,15 @@ no-other d e a b i = events.no-other d e a b i
 -- common node. Each has exactly L nodes, and these are nearer on their way than any other that is left.
 pub leafset-sides :
     (t : Table) → WellFormedTable t → (x : ℕ) → x < size t → (S : Set)
-    → 2 * t .leaf ≤ count (size t) (without S x)
-    → Sides t x S
+    → 2 * t .sides .each ≤ count (size t) (without S x)
+    → TwoSides t x S
 leafset-sides t g x h S enough = size-of.leafset-sides t g x h S enough
 
 -- so it has "exactly 2 times L stands" (001, section 4)
 pub leafset-size :
     (t : Table) → WellFormedTable t → (x : ℕ) → x < size t → (S : Set)
-    → 2 * t .leaf ≤ count (size t) (without S x)
-    → count (size t) (leafset t x S) ≡ 2 * t .leaf
+    → 2 * t .sides .each ≤ count (size t) (without S x)
+    → count (size t) (leafset t x S) ≡ 2 * t .sides .each
 leafset-size t g x h S enough = size-of.leafset-size t g x h S enough
 
 -- ---- the ring's words

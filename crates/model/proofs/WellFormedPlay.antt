@@ -14,11 +14,12 @@ use Rattle.model.specs.WellFormed.{WellFormedTable, WellFormedOwn, WellF
 use Rattle.model.specs.Steps.{Effect}
 use Rattle.model.specs.Answers.{Refusal, firstOf, isAccepted}
 use Rattle.model.specs.Events.{eventOf, sameNode, wordRefusals}
-use Rattle.model.specs.Words.{between, inRange, keysDiffer}
+use Rattle.model.specs.Words.{between, sidesFit, inRange, keysDiffer}
 use Rattle.model.specs.Buffer.{wrongLength, openingRefusals, openAnswer}
 use Rattle.model.specs.Play.{setNode, removeMessage, act, after, refusals, leftRefusals, stateRefusals, playAnswer, playWord, playAll}
 use Rattle.model.specs.declared.event.Event.{Event}
 use Rattle.model.specs.declared.event.Event.the-variants.{On, Off, Notice, Contact, Timer, Deliver, Lose}
+use Rattle.model.proofs.Fits.{sides-out}
 use Rattle.model.proofs.Laws.{clash, and-left, and-right, and-in, not-out-false, is-false, between-low, between-high, every-out, if-law, put-each, all-out}
 use Rattle.model.proofs.Lists.{first, rest, each-at, each-append, each-left, each-right, each-take, each-drop}
 use Rattle.model.proofs.Cases.{refusals-refuse, left-refuses}
@@ -186,12 +187,11 @@ pub table-well : (old : List ℕ) (t : Table) → openAnswer old t ≡ 0 → Wel
 unfolding openAnswer inRange
 table-well old t a =
     let p = rest (none-applies (wrongLength old ∷ openingRefusals t) (cons refl (cons refl (cons refl nil))) a) in
-    let range = every-out (between 1 8 (t .leaf) ∷ between 1 64 (size t) ∷ []) (not-out-false (inRange t) (first p)) in
+    let range = every-out (sidesFit (t .sides) ∷ between 1 64 (size t) ∷ []) (not-out-false (inRange t) (first p)) in
     let small : ℕ → _ = λ (s : ℕ). leb (key t s) 16777215 in
     let keys : (all (size t) small && keysDiffer t) ≡ true = not-out-false (all (size t) small && keysDiffer t) (first (rest p)) in
     record {
-      leaf-low = between-low 1 8 (t .leaf) (first range);
-      leaf-high = between-high 1 8 (t .leaf) (first range);
+      sides-well = sides-out (t .sides) (first range);
       size-low = between-low 1 64 (size t) (first (rest range));
       size-high = between-high 1 64 (size t) (first (rest range));
       key-high = λ s h. leb-true (key t s) 16777215 (all-out (size t) small (and-left (all (size t) small) (keysDiffer t) keys) s h);

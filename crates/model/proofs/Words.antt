@@ -12,9 +12,15 @@ use borrow.Author.Tests.{le-ltb, lt-ltb, ltb-true, eqb-true, eqb-false, eq-eqb, 
 use Rattle.model.specs.Leafset.{Table, size}
 use Rattle.model.specs.Ring.{Ring}
 use Rattle.model.specs.WellFormed.{Other, nil, cons}
-use Rattle.model.specs.Words.{isPair, ofNode, ofPair, ofMessage, nodePlace, pairPlace, messagePlace, wordAt, ringLength, encode, decode, ringFits, formatFits, readsAsRing}
+use Rattle.model.specs.Structs.{RoomSides}
+use Rattle.model.specs.Words.{sidesOf, isPair, ofNode, ofPair, ofMessage, nodePlace, pairPlace, messagePlace, wordAt, ringLength, encode, decode, ringFits, formatFits, readsAsRing}
 use Rattle.model.proofs.Laws.{and-left, and-right, and-in, not-in, not-out, all-in, all-out, every-in, every-out, length-tabulate, getD-tabulate}
 use Rattle.model.proofs.Lists.{first, rest}
+use Rattle.model.proofs.Fields.{bits<}
+
+-- L has room where it was read
+pub sides-room : (w : ℕ) → RoomSides (sidesOf w)
+sides-room w = record { each-room = bits< 0 4 w }
 
 -- ---- the word at a place of an encoded ring
 

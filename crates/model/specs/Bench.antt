@@ -11,7 +11,7 @@ use Rattle.model.specs.Ring.{Ring, initial, holds}
 use Rattle.model.specs.Answers.{Refusal, firstOf, isAccepted}
 use Rattle.model.specs.Fields.{bits, bit}
 use Rattle.model.specs.Play.{Played, playWord, playAll}
-use Rattle.model.specs.Words.{headWord, keyWord}
+use Rattle.model.specs.Words.{headWord, keyWord, sidesOf}
 use Rattle.model.specs.Buffer.{outOfRange, badKey}
 use Rattle.model.specs.Connection.{groups}
 
@@ -43,12 +43,12 @@ nodeLine r x =
 
 -- the table that the first words give
 unfoldable pub scriptTable : List ℕ → Table
-scriptTable ws = record { leaf = bits 0 4 (getD ws 0 0); keys = map (bits 0 24) (take (bits 4 7 (getD ws 0 0)) (drop 1 ws)) }
+scriptTable ws = record { sides = sidesOf (getD ws 0 0); keys = map (bits 0 24) (take (bits 4 7 (getD ws 0 0)) (drop 1 ws)) }
 
 -- "word 0 with m = 0 (any fault is 2), n key words with running 0 (a wrong one is 3, a missing or cut one 2)"
 abbrev pub scriptRefusals : List ℕ → List Refusal
 scriptRefusals ws =
-    record { number = 2; applies = not (eqb (getD ws 0 0) (headWord (t .leaf) n 0) && leb (1 + n) (length ws)) }
+    record { number = 2; applies = not (eqb (getD ws 0 0) (headWord (t .sides) n 0) && leb (1 + n) (length ws)) }
     ∷ outOfRange t
     ∷ record { number = 3; applies = not (all n (λ s. eqb (getD ws (1 + s) 0) (keyWord (key t s) false))) }
     ∷ badKey t

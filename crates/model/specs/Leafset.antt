@@ -6,10 +6,11 @@ use lib.ListN.{length, getD}
 use lib.Dec.{ltb, eqb}
 use Rattle.model.specs.Key.{clockwise, counterClockwise, distance}
 use Rattle.model.specs.Sets.{Set, without, count, some, lowest}
+use Rattle.model.specs.declared.values.Sides.{Sides}
 
 -- "Opening takes L and a list of n keys, stand 0's first": what never changes of a ring
 pub record Table : Type 0 where
-  pub leaf : ℕ
+  pub sides : Sides
   pub keys : List ℕ
 
 -- "table size n"
@@ -20,45 +21,44 @@ abbrev pub key : Table → ℕ → ℕ
 key t x = getD (t .keys) x 0
 
 module _ (t : Table) where
-  -- how many of S lie nearer to x than y does, by the distance d
+  -- how many of S lie nearer to the key a than y does, by the distance d
   abbrev pub nearer : (ℕ → ℕ → ℕ) → ℕ → Set → ℕ → ℕ
-  nearer d x S y = count (size t) (λ z. S z && ltb (d (key t x) (key t z)) (d (key t x) (key t y)))
+  nearer d a S y = count (size t) (λ z. S z && ltb (d a (key t z)) (d a (key t y)))
 
-  -- y is one of the L of S nearest to x, by the distance d
+  -- y is one of the L of S nearest to the key a, by the distance d
   abbrev pub isNear : (ℕ → ℕ → ℕ) → ℕ → Set → ℕ → Bool
-  isNear d x S y = ltb (nearer d x S y) (t .leaf)
+  isNear d a S y = ltb (nearer d a S y) (t .sides .each)
 
   -- "take x out of S; if fewer than 2 times L are left, all of them;
   -- else the L nearest clockwise and the L nearest counter-clockwise"
   unfoldable pub leafset : ℕ → Set → Set
   leafset x S y =
       left y
-      && (ltb (count (size t) left) (2 * t .leaf)
-      || isNear clockwise x left y
-      || isNear counterClockwise x left y)
+      && (ltb (count (size t) left) (2 * t .sides .each)
+      || isNear clockwise (key t x) left y
+      || isNear counterClockwise (key t x) left y)
     where
       left : Set
       left = without S x
 
-  -- y is nearer to a than z is; "of two equally near, the clockwise one from a"
+  -- y is nearer to the key a than z is; "of two equally near, the clockwise one from a"
   abbrev pub beats : ℕ → ℕ → ℕ → Bool
   beats a y z =
-      ltb (distance (key t a) (key t y)) (distance (key t a) (key t z))
-      || (eqb (distance (key t a) (key t y)) (distance (key t a) (key t z))
-      && ltb (clockwise (key t a) (key t y)) (clockwise (key t a) (key t z)))
+      ltb (distance a (key t y)) (distance a (key t z))
+      || (eqb (distance a (key t y)) (distance a (key t z)) && ltb (clockwise a (key t y)) (clockwise a (key t z)))
 
-  -- the member of S nearest to a, or 64
+  -- the member of S nearest to the key a, or 64
   unfoldable pub nearest : ℕ → Set → ℕ
   nearest a S = lowest (size t) (λ y. S y && not (some (size t) (λ z. S z && beats a z y)))
 
   -- "the member of my leafset, other than a, nearest to a and strictly nearer to a than I am; .. else 64", at x
   unfoldable pub closest : ℕ → Set → ℕ → ℕ
   closest x held a =
-      nearest a (λ y. without (leafset x held) a y && ltb (distance (key t a) (key t y)) (distance (key t a) (key t x)))
+      nearest (key t a) (λ y. without (leafset x held) a y && ltb (distance (key t a) (key t y)) (distance (key t a) (key t x)))
 
   -- "a stand's successor is its held stand nearest clockwise"; 64 for one that holds nobody
   unfoldable pub successor : ℕ → Set → ℕ
-  successor x held = lowest (size t) (λ y. held y && eqb (nearer clockwise x held y) 0)
+  successor x held = lowest (size t) (λ y. held y && eqb (nearer clockwise (key t x) held y) 0)
 
   -- "it passes zero when the stand's clockwise distance to key 0 is below that to the successor;
   -- one that holds nobody doesn't pass zero"

@@ -6,12 +6,13 @@ use lib.ListN.{length, getD}
 use Rattle.model.specs.Sets.{ofBits, noneNode}
 use Rattle.model.specs.Leafset.{Table}
 use Rattle.model.specs.Ring.{Own, Message}
+use Rattle.model.specs.declared.values.Sides.{Sides}
 use Rattle.model.specs.declared.node.NodeRecord.{NodeRecord}
 use Rattle.model.specs.declared.message.MessageRecord.{MessageRecord}
 
 -- the table of L and a lent list of keys
-abbrev pub tableOf : ℕ → List ℕ → Table
-tableOf leaf keys = record { leaf = leaf; keys = keys }
+abbrev pub tableOf : Sides → List ℕ → Table
+tableOf sides keys = record { sides = sides; keys = keys }
 
 abbrev pub stampAt : NodeRecord → ℕ → ℕ
 stampAt q z = getD (q .commit) z (record { 0 = 0 }) .0
@@ -41,6 +42,9 @@ messageOf m =
     }
 
 -- the arrays are whole, and the parts have room in their bits
+
+pub record RoomSides (s : Sides) : Type 0 where
+  pub each-room : s .each < 2 ^ 4
 
 pub record RoomNode (q : NodeRecord) : Type 0 where
   pub commit-room : (z : ℕ) → stampAt q z < 2 ^ 24

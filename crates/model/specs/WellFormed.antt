@@ -8,11 +8,16 @@ use lib.ListN.{length}
 use Rattle.model.specs.Leafset.{Table, size, key}
 use Rattle.model.specs.Ring.{Own, Node, Message, Ring}
 use Rattle.model.specs.Words.{usesSubject, usesStamp, keysDiffer}
+use Rattle.model.specs.declared.values.Sides.{Sides}
 
--- "L is 1 to 8", "n (1 to 64)", "a key of 24 bits", "keys differ"
+-- "L is 1 to 8"
+pub record WellFormedSides (s : Sides) : Type 0 where
+  pub each-low : 1 ≤ s .each
+  pub each-high : s .each ≤ 8
+
+-- "n (1 to 64)", "a key of 24 bits", "keys differ"
 pub record WellFormedTable (t : Table) : Type 0 where
-  pub leaf-low : 1 ≤ t .leaf
-  pub leaf-high : t .leaf ≤ 8
+  pub sides-well : WellFormedSides (t .sides)
   pub size-low : 1 ≤ size t
   pub size-high : size t ≤ 64
   pub key-high : (s : ℕ) → s < size t → key t s ≤ 16777215

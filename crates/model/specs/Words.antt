@@ -9,6 +9,7 @@ use Rattle.model.specs.Sets.{tabulate, all, toBits, ofBits, noneNode}
 use Rattle.model.specs.Leafset.{Table, size, key}
 use Rattle.model.specs.Ring.{Own, Node, Message, Ring, messageAt}
 use Rattle.model.specs.Fields.{bits, bit, flag, ofKind}
+use Rattle.model.specs.declared.values.Sides.{Sides}
 
 -- (x, z) is a "pair .. of different stands"
 abbrev pub isPair : Table → ℕ → ℕ → Bool
@@ -17,8 +18,8 @@ isPair t x z = ltb x (size t) && ltb z (size t) && not (eqb x z)
 -- ---- writing
 
 -- "Word 0, kind 1: L in bits 0-3, table size n (1 to 64) in 4-10, message count m (0 to 1,024) in 11-21."
-unfoldable pub headWord : ℕ → ℕ → ℕ → ℕ
-headWord leaf n m = ofKind 1 (m * 2 ^ 11 + n * 2 ^ 4 + leaf)
+unfoldable pub headWord : Sides → ℕ → ℕ → ℕ
+headWord sides n m = ofKind 1 (m * 2 ^ 11 + n * 2 ^ 4 + sides .each)
 
 -- "kind 2, key in 0-23, running in bit 24; kind 5, clock in 0-23"
 unfoldable pub keyWord : ℕ → Bool → ℕ
@@ -86,7 +87,7 @@ messagePlace k = 8321 + 5 * k
 -- the word at place i, by whose place it is
 unfoldable pub wordAt : Ring → ℕ → ℕ
 wordAt r i =
-    if ltb i 1 then headWord (r .table .leaf) (size (r .table)) (length (r .messages))
+    if ltb i 1 then headWord (r .table .sides) (size (r .table)) (length (r .messages))
     else if ltb i 129 then ofNode r ((i - 1) / 2) ((i - 1) % 2)
     else if ltb i 8321 then ofPair r ((i - 129) / 2 / 64) ((i - 129) / 2 % 64) ((i - 129) % 2)
     else ofMessage r ((i - 8321) / 5) ((i - 8321) % 5)
@@ -100,12 +101,16 @@ encode r = tabulate ringLength (wordAt r)
 
 -- ---- reading: what the named bits say, whatever the others
 
+-- L, of word 0
+abbrev pub sidesOf : ℕ → Sides
+sidesOf w = record { each = bits 0 4 w }
+
 module _ (ws : List ℕ) where
   abbrev pub at : ℕ → ℕ
   at i = getD ws i 0
 
   unfoldable pub decodeTable : Table
-  decodeTable = record { leaf = bits 0 4 (at 0); keys = tabulate (bits 4 7 (at 0)) (λ s. bits 0 24 (at (nodePlace s))) }
+  decodeTable = record { sides = sidesOf (at 0); keys = tabulate (bits 4 7 (at 0)) (λ s. bits 0 24 (at (nodePlace s))) }
 
   -- of what is no pair: nothing
   unfoldable pub decodeOwn : ℕ → Own
@@ -148,9 +153,13 @@ module _ (ws : List ℕ) where
 abbrev pub between : ℕ → ℕ → ℕ → Bool
 between low high k = leb low k && leb k high
 
--- "L is 1 to 8"; "table size n (1 to 64)"
+-- "L is 1 to 8"
+abbrev pub sidesFit : Sides → Bool
+sidesFit s = between 1 8 (s .each)
+
+-- ".. n or L out of range"; "table size n (1 to 64)"
 unfoldable pub inRange : Table → Bool
-inRange t = every (between 1 8 (t .leaf) ∷ between 1 64 (size t) ∷ [])
+inRange t = every (sidesFit (t .sides) ∷ between 1 64 (size t) ∷ [])
 
 -- "keys differ"
 unfoldable pub keysDiffer : Table → Bool

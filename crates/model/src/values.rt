@@ -1,4 +1,4 @@
-// Keys, stamps and node numbers: numbers that are never mixed up.
+// Keys, stamps, node numbers and L: numbers that are never mixed up.
 
 // A place on the ring of 16,777,216 places.
 pub struct Key(pub u32);
@@ -11,4 +11,9 @@ pub struct NodeNumber(pub u8);
 
 impl NodeNumber {
     pub const NONE: NodeNumber = NodeNumber(64);
+}
+
+// L: how many nodes a leafset has on each side of its own.
+pub struct Sides {
+    pub each: u32,
 }

@@ -32,7 +32,7 @@ encoded ρ ws h =
     ext-getD 0 ws (encode ρ) (h .long ∙ sym (length-encode ρ))
     (λ i l. let k : i < ringLength = omega (arith, h .long) in h .word i k ∙ sym (encode-at ρ i k))
 
-pub head-at : (ρ : Ring) → wordAt ρ 0 ≡ headWord (ρ .table .leaf) (size (ρ .table)) (length (ρ .messages))
+pub head-at : (ρ : Ring) → wordAt ρ 0 ≡ headWord (ρ .table .sides) (size (ρ .table)) (length (ρ .messages))
 unfolding wordAt
 head-at ρ = refl
 
@@ -130,7 +130,7 @@ module _ (ρ : Ring) (x : ℕ) (s : Node) (ws ws' : List ℕ) (h : Holds ρ ws) 
 
 module _ (ρ : Ring) (ms : List Message) (ws ws' : List ℕ) (h : Holds ρ ws)
     (long : length ws' ≡ length ws)
-    (head : getD ws' 0 0 ≡ headWord (ρ .table .leaf) (size (ρ .table)) (length ms))
+    (head : getD ws' 0 0 ≡ headWord (ρ .table .sides) (size (ρ .table)) (length ms))
     (below : (i : ℕ) → 0 < i → i < 8321 → getD ws' i 0 ≡ getD ws i 0)
     (message : (k i : ℕ) → k < length ms → i < 5 → getD ws' (messagePlace k + i) 0 ≡ getD (messageWords (getD ms k blank)) i 0)
     (rest : (k i : ℕ) → length ms ≤ k → k < 1024 → i < 5 → getD ws' (messagePlace k + i) 0 ≡ 0) where

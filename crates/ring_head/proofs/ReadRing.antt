@@ -10,19 +10,23 @@ use lib.ListN.{length, getD}
 use Rattle.model.specs.Leafset.{size, key}
 use Rattle.model.specs.Ring.{Ring, blank, messageAt}
 use Rattle.model.specs.Fields.{bits}
+use Rattle.model.specs.Structs.{RoomSides}
 use Rattle.model.specs.Words.{readsAsRing, nodePlace, decodeTable, decodeNode, decodeMessage, decode}
 use Rattle.model.proofs.Fields.{bits<}
 use Rattle.model.proofs.Laws.{getD-tabulate, beyond-tabulate}
-use Rattle.model.proofs.Words.{decoded-back}
+use Rattle.model.proofs.Words.{decoded-back, sides-room}
 use Rattle.model.proofs.Decoded.{reads-well}
 use Rattle.ring_head.specs.Parts.{Encodes}
 use Rattle.ring_head.proofs.Decoded.{count-read}
 
 -- what words that read as a ring have of its sizes
 pub record Sizes (r : Ring) : Type 0 where
-  pub leaf-high : r .table .leaf ≤ 8
   pub nodes-high : size (r .table) ≤ 64
   pub count-high : length (r .messages) ≤ 1024
+
+pub table-sides-room : (ws : List ℕ) → RoomSides (decodeTable ws .sides)
+unfolding decodeTable
+table-sides-room ws = sides-room (getD ws 0 0)
 
 key-high : (ws : List ℕ) (s : ℕ) → key (decodeTable ws) s < 2 ^ 24
 unfolding decodeTable
@@ -37,14 +41,14 @@ module _ (ws : List ℕ) (e : readsAsRing ws ≡ true) where
   pub read-sizes : Sizes (decode ws)
   read-sizes =
       let w = reads-well ws e in
-      record { leaf-high = w .table-well .leaf-high; nodes-high = w .table-well .size-high; count-high = w .count-high }
+      record { nodes-high = w .table-well .size-high; count-high = w .count-high }
 
   -- with the numbers that the code reads
   pub read-is : (n m : ℕ) → n ≡ size (decodeTable ws) → m ≡ length (decode ws .messages) → Encodes ws n m (decode ws)
   unfolding decode
   read-is n m p q =
       record {
-        room = record { leaf-room = omega (arith, read-sizes .leaf-high); size-room = read-sizes .nodes-high; key-room = key-high ws };
+        room = record { sides-room = table-sides-room ws; size-room = read-sizes .nodes-high; key-room = key-high ws };
         nodes = sym p;
         count = sym q;
         words = decoded-back ws e;

@@ -5,13 +5,14 @@ use mathlib.Core.List.{List}
 use Prim.Native.Nat.{ℕ, _^_, _<_, _≤_}
 use lib.ListN.{length}
 use Rattle.model.specs.Leafset.{Table, size, key}
+use Rattle.model.specs.Structs.{RoomSides}
 use Rattle.model.specs.Ring.{Own, Node, Ring}
 use Rattle.model.specs.Words.{encode}
 use Rattle.model.specs.Play.{setNode}
 
 -- the parts of a table have room in their bits
 pub record RoomTable (t : Table) : Type 0 where
-  pub leaf-room : t .leaf < 2 ^ 4
+  pub sides-room : RoomSides (t .sides)
   pub size-room : size t ≤ 64
   pub key-room : (s : ℕ) → key t s < 2 ^ 24
 

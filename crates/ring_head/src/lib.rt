@@ -7,16 +7,17 @@ ghost use Rattle.model.specs.Words.{ringLength, decodeTable, decode};
 ghost use Rattle.model.specs.Leafset as model;
 use model::values::Key;
 use model::values::NodeNumber;
+use model::values::Sides;
 use word_ring::HeadWord;
 use word_ring::KeyWord;
 use word_ring::place;
 
 // L.
-pub fn leaf(words: &[u32]) -> u32
+pub fn sides(words: &[u32]) -> Sides
     requires length { ⌜ length (now words) ≡ ringLength ⌝ }
-    ensures value { λ r. ⌜ r ≡ decodeTable (now (words .entry)) .leaf ⌝ }
+    ensures value { λ r. ⌜ r ≡ decodeTable (now (words .entry)) .sides ⌝ }
 {
-    HeadWord(words[0]).leaf()
+    HeadWord(words[0]).sides()
 }
 
 // The number of nodes.

@@ -58,7 +58,7 @@ module _ (t : Table) (hn : size t ≤ 64) where
       (omega arith) (omega arith) (eb ∙ sym second) (omega arith)
 
   module _ (ws v u ws' : List ℕ) (head : ℕ) (long : length ws ≡ 13441)
-      (c : Patched ws v 0 13441 (λ i. 0)) (e : head ≡ headWord (t .leaf) (size t) 0)
+      (c : Patched ws v 0 13441 (λ i. 0)) (e : head ≡ headWord (t .sides) (size t) 0)
       (p : Patched (set v 0 head) u (nodePlace 0) (nodePlace (size t)) (wordAt (initial t))) (r : Rows u ws' (size t) (size t)) where
     ρ : Ring
     ρ = initial t

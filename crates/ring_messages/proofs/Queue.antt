@@ -11,7 +11,7 @@ use borrow.Author.Tests.{lt-ltb, le-ltb}
 use Rattle.model.specs.Leafset.{size}
 use Rattle.model.specs.Ring.{Message, Ring, blank}
 use Rattle.model.specs.Fields.{bits}
-use Rattle.model.specs.Words.{headWord, messageWord, stampWord, viewWord, messageWords, messagePlace}
+use Rattle.model.specs.Words.{sidesOf, headWord, messageWord, stampWord, viewWord, messageWords, messagePlace}
 use Rattle.model.specs.Play.{setMessages, removeMessage}
 use Rattle.model.specs.Structs.{messageOf}
 use Rattle.model.specs.declared.message.MessageRecord.{MessageRecord}
@@ -48,7 +48,7 @@ module _ (ms : List Message) (k : ℕ) (h : k < length ms) where
 
 -- the first word with the count c
 abbrev pub counted : List ℕ → ℕ → List ℕ
-counted ws c = set ws 0 (headWord (bits 0 4 (getD ws 0 0)) (bits 4 7 (getD ws 0 0)) c)
+counted ws c = set ws 0 (headWord (sidesOf (getD ws 0 0)) (bits 4 7 (getD ws 0 0)) c)
 
 module _ (ρ : Ring) (ws : List ℕ) (n m : ℕ) (is : Encodes ws n m ρ) (few : m ≤ 1024) (c : ℕ) where
   h : Holds ρ ws
@@ -57,15 +57,15 @@ module _ (ρ : Ring) (ws : List ℕ) (n m : ℕ) (is : Encodes ws n m ρ) (few :
   counted-long : length (counted ws c) ≡ length ws
   counted-long = length-set ws 0 _
 
-  counted-head : getD (counted ws c) 0 0 ≡ headWord (ρ .table .leaf) (size (ρ .table)) c
+  counted-head : getD (counted ws c) 0 0 ≡ headWord (ρ .table .sides) (size (ρ .table)) c
   unfolding headWord
   counted-head =
       let r : RoomTable (ρ .table) = is .room in
-      let e : getD ws 0 0 ≡ headWord (ρ .table .leaf) (size (ρ .table)) (length (ρ .messages)) = h .word 0 (lit< tt) ∙ head-at ρ in
-      let l : bits 0 4 (getD ws 0 0) ≡ ρ .table .leaf =
-      field 0 4 (2 ^ 24 + length (ρ .messages) * 2 ^ 7 + size (ρ .table)) (ρ .table .leaf) 0 (e ∙ omega arith) (lit< tt) (r .leaf-room) in
+      let e : getD ws 0 0 ≡ headWord (ρ .table .sides) (size (ρ .table)) (length (ρ .messages)) = h .word 0 (lit< tt) ∙ head-at ρ in
+      let l : bits 0 4 (getD ws 0 0) ≡ ρ .table .sides .each =
+      field 0 4 (2 ^ 24 + length (ρ .messages) * 2 ^ 7 + size (ρ .table)) (ρ .table .sides .each) 0 (e ∙ omega arith) (lit< tt) (r .sides-room .each-room) in
       let s : bits 4 7 (getD ws 0 0) ≡ size (ρ .table) =
-      field 4 7 (2 ^ 17 + length (ρ .messages)) (size (ρ .table)) (ρ .table .leaf) (e ∙ omega arith) (r .leaf-room) (omega (arith, r .size-room)) in
+      field 4 7 (2 ^ 17 + length (ρ .messages)) (size (ρ .table)) (ρ .table .sides .each) (e ∙ omega arith) (r .sides-room .each-room) (omega (arith, r .size-room)) in
       getD-set-same ws 0 _ 0 (omega (arith, h .long)) ∙ rw (l, s)
 
   counted-other : (i : ℕ) → 0 < i → getD (counted ws c) i 0 ≡ getD ws i 0
@@ -120,7 +120,7 @@ module _ (ρ : Ring) (ws a v ws' : List ℕ) (n m k : ℕ) (few : m ≤ 1024) (h
         count = out-length;
         words = messages-written ρ out ws ws' (holds ρ ws (is .words))
             (u .long ∙ s .long ∙ counted-long ρ ws n m is few (m - 1))
-            (u .low 0 (omega arith) ∙ s .low 0 (omega arith) ∙ counted-head ρ ws n m is few (m - 1) ∙ ap (headWord (ρ .table .leaf) (size (ρ .table))) (sym out-length))
+            (u .low 0 (omega arith) ∙ s .low 0 (omega arith) ∙ counted-head ρ ws n m is few (m - 1) ∙ ap (headWord (ρ .table .sides) (size (ρ .table))) (sym out-length))
             (λ i b d. u .low i (omega arith) ∙ s .low i (omega arith) ∙ counted-other ρ ws n m is few (m - 1) i b)
             (λ j i hj hi.
             u .low (messagePlace j + i) (omega arith)
@@ -175,7 +175,7 @@ module _ (ρ : Ring) (ws v ws' : List ℕ) (n m : ℕ) (x : Message) (f : ℕ �
         count = more;
         words = messages-written ρ (ρ .messages ++ x ∷ []) ws ws' (holds ρ ws (is .words))
             (put .long ∙ counted-long ρ ws n m is le (m + 1))
-            (put .low 0 (omega arith) ∙ counted-head ρ ws n m is le (m + 1) ∙ ap (headWord (ρ .table .leaf) (size (ρ .table))) (sym more))
+            (put .low 0 (omega arith) ∙ counted-head ρ ws n m is le (m + 1) ∙ ap (headWord (ρ .table .sides) (size (ρ .table))) (sym more))
             (λ i a b. put .low i (omega arith) ∙ counted-other ρ ws n m is le (m + 1) i a)
             (λ k i hk hi.
             elim (decLt k m) [

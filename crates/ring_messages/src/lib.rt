@@ -5,7 +5,7 @@ ghost use mathlib.Core.Bool.{true};
 ghost use Prim.Native.Nat.{_+_, _*_, _^_, _<_, ℕ, _-_, _≤_};
 ghost use lib.ListN.{length, getD, set};
 ghost use Rattle.model.specs.Fields.{bits};
-ghost use Rattle.model.specs.Words.{ringLength, headWord, viewWord};
+ghost use Rattle.model.specs.Words.{ringLength, sidesOf, headWord, viewWord};
 ghost use Rattle.model.specs.Ring.{Ring};
 ghost use Rattle.model.specs.Play.{setMessages, removeMessage};
 ghost use Rattle.model.specs.Structs.{messageOf, RoomMessage, spareAt, RoomNode};
@@ -103,10 +103,10 @@ fn set_count(words: &mut [u32], m: usize)
     requires bounds { ⌜ m ≤ 1024 ⌝ }
     ensures words { λ _. ⌜ now (words .exit)
         ≡ set (now (words .entry)) 0
-        (headWord (bits 0 4 (getD (now (words .entry)) 0 0)) (bits 4 7 (getD (now (words .entry)) 0 0)) m) ⌝ }
+        (headWord (sidesOf (getD (now (words .entry)) 0 0)) (bits 4 7 (getD (now (words .entry)) 0 0)) m) ⌝ }
 {
     let head = HeadWord(words[0]);
-    words[0] = HeadWord::new(head.leaf(), head.nodes(), m as u32).0;
+    words[0] = HeadWord::new(head.sides(), head.nodes(), m as u32).0;
 }
 
 // Sends a message of a type that uses nothing to each of the set, after the m messages. How many there are then.

@@ -7,10 +7,10 @@ use lib.Dec.{eqb}
 use lib.ListN.{length}
 use Rattle.model.specs.Sets.{ofBits, some}
 use Rattle.model.proofs.Laws.{or-none-right, not-out-false}
-use Rattle.leafset.specs.Table.{InTable}
+use Rattle.sets.specs.Within.{InTable}
 use Rattle.sets.proofs.Bits.{zero-none}
 
-module _ (leaf : ℕ) {keys : List ℕ} {x held : ℕ} (q : InTable keys x held) where
+module _ {keys : List ℕ} {x held : ℕ} (q : InTable keys x held) where
   -- "I hold nobody", as the code asks it
   module _ (fits : held < 2 ^ 64) (b : Bool) where
     pub idle : (b || eqb held 0) ≡ (b || not (some (length keys) (ofBits held)))

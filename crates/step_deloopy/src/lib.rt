@@ -4,7 +4,8 @@ ghost use lib.ListN.{length};
 ghost use Rattle.model.specs.Leafset.{Table};
 ghost use Rattle.model.specs.Structs.{tableOf, ownOf, messageOf};
 ghost use Rattle.model.specs.Steps as steps;
-ghost use Rattle.leafset.specs.Table.{InTable};
+ghost use Rattle.model.specs.declared.values.Sides.{Sides};
+ghost use Rattle.sets.specs.Within.{InTable};
 ghost use Rattle.records.specs.Effects.{OwnFits, Leaves};
 use leafset_choice::passes_zero;
 use leafset_choice::successor;
@@ -22,9 +23,9 @@ use word_ring::MessageWord;
 pub fn timer4(keys: &[u32], me: NodeNumber, own: NodeRecord) -> EffectRecord
     requires table { ⌜ InTable (now keys) (me .0) (own .held) ⌝ }
     requires record { ⌜ OwnFits (length (now keys)) own ⌝ }
-    ensures effect { λ r. ⌜ ((leaf time : ℕ)
+    ensures effect { λ r. ⌜ ((sides : Sides) (time : ℕ)
         → Leaves (length (now (keys .entry))) (me .0) time r
-        (steps.timer4 (tableOf leaf (now (keys .entry))) (me .0) time (ownOf own))) ⌝ }
+        (steps.timer4 (tableOf sides (now (keys .entry))) (me .0) time (ownOf own))) ⌝ }
 {
     if !passes_zero(keys, me, own.held) {
         return EffectRecord::quiet(own);
@@ -43,9 +44,9 @@ pub fn on_ping_deloopy(
 ) -> EffectRecord
     requires table { ⌜ InTable (now keys) (me .0) (own .held) × OwnFits (length (now keys)) own
         × (message .subject .0 < length (now keys)) ⌝ }
-    ensures effect { λ r. ⌜ ((leaf time : ℕ)
+    ensures effect { λ r. ⌜ ((sides : Sides) (time : ℕ)
         → Leaves (length (now (keys .entry))) (me .0) time r
-        (steps.onPingDeloopy (tableOf leaf (now (keys .entry))) (me .0) time (ownOf own) (messageOf message))) ⌝ }
+        (steps.onPingDeloopy (tableOf sides (now (keys .entry))) (me .0) time (ownOf own) (messageOf message))) ⌝ }
 {
     if (message.subject.0 == me.0) | (own.held == 0) {
         return EffectRecord::quiet(own);

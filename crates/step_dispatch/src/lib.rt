@@ -1,29 +1,29 @@
 // The step of a timer by its number, and of a delivered message by its type.
-ghost use Prim.Native.Nat.{ℕ, _≤_, _<_, _^_};
+ghost use Prim.Native.Nat.{ℕ, _<_, _^_};
 ghost use lib.ListN.{length};
-ghost use Rattle.model.specs.Structs.{tableOf, ownOf, messageOf, spareAt};
+ghost use Rattle.model.specs.Structs.{tableOf, ownOf, messageOf};
 ghost use Rattle.model.specs.Steps as steps;
-ghost use Rattle.leafset.specs.Table.{InTable};
-ghost use Rattle.records.specs.Effects.{OwnFits, Leaves, Delivered};
+ghost use Rattle.records.specs.Effects.{Leaves, Delivered};
+ghost use Rattle.records.specs.Lent.{Lent};
 use model::message::MessageRecord;
 use model::node::NodeRecord;
 use model::values::NodeNumber;
+use model::values::Sides;
 use model::values::Stamp;
 use records::effect::EffectRecord;
 use word_ring::MessageWord;
 
 // The step of timer k; above 4 no timer has one.
-pub fn timer(keys: &[u32], leaf: u32, me: NodeNumber, own: NodeRecord, k: u8) -> EffectRecord
-    requires table { ⌜ InTable (now keys) (me .0) (own .held) × OwnFits (length (now keys)) own × (leaf ≤ 8)
-        × ((z : ℕ) → spareAt own z ≤ 64) ⌝ }
+pub fn timer(keys: &[u32], sides: Sides, me: NodeNumber, own: NodeRecord, k: u8) -> EffectRecord
+    requires lent { ⌜ Lent (now keys) sides (me .0) own ⌝ }
     ensures effect { λ r. ⌜ ((time : ℕ) → Leaves (length (now (keys .entry))) (me .0) time r
-        (steps.timer (tableOf leaf (now (keys .entry))) (me .0) time (ownOf own) k)) ⌝ }
+        (steps.timer (tableOf sides (now (keys .entry))) (me .0) time (ownOf own) k)) ⌝ }
 {
     match k {
         0 => step_invite::timer0(own),
-        1 => step_invite::timer1(keys, leaf, me, own),
-        2 => step_spare::timer2(keys, leaf, me, own),
-        3 => step_replace::timer3(keys, leaf, me, own),
+        1 => step_invite::timer1(keys, sides, me, own),
+        2 => step_spare::timer2(keys, sides, me, own),
+        3 => step_replace::timer3(keys, sides, me, own),
         4 => step_deloopy::timer4(keys, me, own),
         _ => EffectRecord::quiet(own),
     }
@@ -32,31 +32,38 @@ pub fn timer(keys: &[u32], leaf: u32, me: NodeNumber, own: NodeRecord, k: u8) ->
 // The step of the message's type; nothing for a number that is no type.
 pub fn deliver(
     keys: &[u32],
-    leaf: u32,
+    sides: Sides,
     me: NodeNumber,
     time: Stamp,
     own: NodeRecord,
     message: MessageRecord,
 ) -> EffectRecord
-    requires table { ⌜ InTable (now keys) (me .0) (own .held) × OwnFits (length (now keys)) own × (leaf ≤ 8)
-        × (time .0 < 2 ^ 24) × Delivered (length (now keys)) message ⌝ }
+    requires lent { ⌜ Lent (now keys) sides (me .0) own ⌝ }
+    requires message { ⌜ (time .0 < 2 ^ 24) × Delivered (length (now keys)) message ⌝ }
     ensures effect { λ r. ⌜ Leaves (length (now (keys .entry))) (me .0) (time .0) r
-        (steps.deliver (tableOf leaf (now (keys .entry))) (me .0) (time .0) (ownOf own) (messageOf message)) ⌝ }
+        (steps.deliver (tableOf sides (now (keys .entry))) (me .0) (time .0) (ownOf own) (messageOf message)) ⌝ }
 {
     let tag = message.tag;
     match tag {
         MessageWord::PING_CONTACT => step_contact::on_ping_contact(me, own, message),
         MessageWord::PONG_CONTACT => step_contact::on_pong_contact(time, own, message),
-        MessageWord::PING_ASK_INV => step_invite::on_ping_ask_inv(keys, leaf, me, own, message),
+        MessageWord::PING_ASK_INV => step_invite::on_ping_ask_inv(keys, sides, me, own, message),
         MessageWord::PONG_ASK_INV => step_invite::on_pong_ask_inv(own, message),
         MessageWord::PING_INVITE => step_invite::on_ping_invite(me, own, message),
-        MessageWord::PONG_INVITE => step_invite::on_pong_invite(keys, leaf, me, time, own, message),
-        MessageWord::PING_ASK_REPL => step_spare::on_ping_ask_repl(keys, leaf, me, own, message),
+        MessageWord::PONG_INVITE => step_invite::on_pong_invite(
+            keys,
+            sides,
+            me,
+            time,
+            own,
+            message,
+        ),
+        MessageWord::PING_ASK_REPL => step_spare::on_ping_ask_repl(keys, sides, me, own, message),
         MessageWord::PONG_ASK_REPL => step_spare::on_pong_ask_repl(own, message),
         MessageWord::PING_REPLACE => step_replace::on_ping_replace(me, time, own, message),
         MessageWord::PONG_REPLACE => step_replace::on_pong_replace(
             keys,
-            leaf,
+            sides,
             me,
             time,
             own,

@@ -4,13 +4,14 @@ ghost use lib.ListN.{length};
 ghost use Rattle.model.specs.Leafset.{Table, size};
 ghost use Rattle.model.specs.Structs.{tableOf, ownOf, messageOf};
 ghost use Rattle.model.specs.Steps as steps;
-ghost use Rattle.leafset.specs.Table.{InTable};
 ghost use Rattle.records.specs.Effects.{OwnFits, Leaves};
+ghost use Rattle.records.specs.Lent.{Lent};
 ghost use Rattle.sets.specs.Within.{Within};
 use leafset::leafset;
 use model::message::MessageRecord;
 use model::node::NodeRecord;
 use model::values::NodeNumber;
+use model::values::Sides;
 use model::values::Stamp;
 use records::effect::EffectRecord;
 use records::effect::Sends;
@@ -32,12 +33,12 @@ pub fn timer0(own: NodeRecord) -> EffectRecord
 
 // "type 5 to each candidate not held that is in my leafset of candidates and held together; then candidates are
 // emptied"
-pub fn timer1(keys: &[u32], leaf: u32, me: NodeNumber, own: NodeRecord) -> EffectRecord
-    requires table { ⌜ InTable (now keys) (me .0) (own .held) × OwnFits (length (now keys)) own × (leaf ≤ 8) ⌝ }
+pub fn timer1(keys: &[u32], sides: Sides, me: NodeNumber, own: NodeRecord) -> EffectRecord
+    requires lent { ⌜ Lent (now keys) sides (me .0) own ⌝ }
     ensures effect { λ r. ⌜ ((time : ℕ) → Leaves (length (now (keys .entry))) (me .0) time r
-        (steps.timer1 (tableOf leaf (now (keys .entry))) (me .0) time (ownOf own))) ⌝ }
+        (steps.timer1 (tableOf sides (now (keys .entry))) (me .0) time (ownOf own))) ⌝ }
 {
-    let near = leafset(keys, leaf, me, own.candidates | own.held);
+    let near = leafset(keys, sides, me, own.candidates | own.held);
     let to = sets::minus(own.candidates, own.held) & near;
     EffectRecord::sending(
         set_candidates(own, 0),
@@ -48,18 +49,18 @@ pub fn timer1(keys: &[u32], leaf: u32, me: NodeNumber, own: NodeRecord) -> Effec
 // "On 3: answer type 4 with view = leafset of the sender in my held set; sender becomes a candidate."
 pub fn on_ping_ask_inv(
     keys: &[u32],
-    leaf: u32,
+    sides: Sides,
     me: NodeNumber,
     own: NodeRecord,
     message: MessageRecord,
 ) -> EffectRecord
-    requires table { ⌜ InTable (now keys) (message .sender .0) (own .held) × OwnFits (length (now keys)) own
-        × (leaf ≤ 8) × (me .0 < 64) ⌝ }
+    requires lent { ⌜ Lent (now keys) sides (me .0) own ⌝ }
+    requires sender { ⌜ message .sender .0 < length (now keys) ⌝ }
     ensures effect { λ r. ⌜ ((time : ℕ)
         → Leaves (length (now (keys .entry))) (me .0) time r
-        (steps.onPingAskInv (tableOf leaf (now (keys .entry))) (me .0) time (ownOf own) (messageOf message))) ⌝ }
+        (steps.onPingAskInv (tableOf sides (now (keys .entry))) (me .0) time (ownOf own) (messageOf message))) ⌝ }
 {
-    let view = leafset(keys, leaf, message.sender, own.held);
+    let view = leafset(keys, sides, message.sender, own.held);
     let next = add_candidate(own, message.sender);
     EffectRecord::replying(
         next,
@@ -87,19 +88,19 @@ pub fn on_ping_invite(me: NodeNumber, own: NodeRecord, message: MessageRecord) -
 // "On 6: take the sender in if it lies in my leafset of held plus sender."
 pub fn on_pong_invite(
     keys: &[u32],
-    leaf: u32,
+    sides: Sides,
     me: NodeNumber,
     time: Stamp,
     own: NodeRecord,
     message: MessageRecord,
 ) -> EffectRecord
-    requires table { ⌜ InTable (now keys) (me .0) (own .held) × OwnFits (length (now keys)) own × (leaf ≤ 8)
-        × (time .0 < 2 ^ 24) × (message .sender .0 < length (now keys)) ⌝ }
+    requires lent { ⌜ Lent (now keys) sides (me .0) own ⌝ }
+    requires message { ⌜ (time .0 < 2 ^ 24) × (message .sender .0 < length (now keys)) ⌝ }
     ensures effect { λ r. ⌜ Leaves (length (now (keys .entry))) (me .0) (time .0) r
-        (steps.onPongInvite (tableOf leaf (now (keys .entry))) (me .0) (time .0) (ownOf own) (messageOf message)) ⌝ }
+        (steps.onPongInvite (tableOf sides (now (keys .entry))) (me .0) (time .0) (ownOf own) (messageOf message)) ⌝ }
 {
     let y = message.sender;
-    let near = leafset(keys, leaf, me, sets::with(own.held, y));
+    let near = leafset(keys, sides, me, sets::with(own.held, y));
     if !sets::has(near, y) {
         return EffectRecord::quiet(own);
     }

@@ -1,7 +1,7 @@
 // Document 01's step 4: timer 3, and message types 9 and 10.
 ghost use mathlib.Core.Path.{_≡_};
 ghost use mathlib.Core.Bool.{not, _&&_};
-ghost use Prim.Native.Nat.{ℕ, _≤_, _<_, _^_};
+ghost use Prim.Native.Nat.{ℕ, _<_, _^_};
 ghost use lib.Dec.{eqb, ltb};
 ghost use lib.ListN.{length};
 ghost use Rattle.model.specs.Sets.{ofBits, noneNode};
@@ -9,13 +9,14 @@ ghost use Rattle.model.specs.Leafset.{Table};
 ghost use Rattle.model.specs.Structs.{tableOf, ownOf, spareAt, RoomNode, messageOf, stampAt, RoomMessage};
 ghost use Rattle.model.specs.Choice.{if_then_else_};
 ghost use Rattle.model.specs.Steps as steps;
-ghost use Rattle.leafset.specs.Table.{InTable};
 ghost use Rattle.records.specs.Effects.{OwnFits, Leaves, Owns};
+ghost use Rattle.records.specs.Lent.{Lent};
 use leafset::leafset;
 use leafset::outside;
 use model::message::MessageRecord;
 use model::node::NodeRecord;
 use model::values::NodeNumber;
+use model::values::Sides;
 use model::values::Stamp;
 use records::effect::EffectRecord;
 use records::effect::Sends;
@@ -26,13 +27,12 @@ use records::own::set_commit;
 use word_ring::MessageWord;
 
 // "for each held z outside my leafset with a spare, type 9 to the spare, subject z, stamp now"
-pub fn timer3(keys: &[u32], leaf: u32, me: NodeNumber, own: NodeRecord) -> EffectRecord
-    requires table { ⌜ InTable (now keys) (me .0) (own .held) × OwnFits (length (now keys)) own × (leaf ≤ 8)
-        × ((z : ℕ) → spareAt own z ≤ 64) ⌝ }
+pub fn timer3(keys: &[u32], sides: Sides, me: NodeNumber, own: NodeRecord) -> EffectRecord
+    requires lent { ⌜ Lent (now keys) sides (me .0) own ⌝ }
     ensures effect { λ r. ⌜ ((time : ℕ) → Leaves (length (now (keys .entry))) (me .0) time r
-        (steps.timer3 (tableOf leaf (now (keys .entry))) (me .0) time (ownOf own))) ⌝ }
+        (steps.timer3 (tableOf sides (now (keys .entry))) (me .0) time (ownOf own))) ⌝ }
 {
-    let outside = outside(keys, leaf, me, own.held);
+    let outside = outside(keys, sides, me, own.held);
     EffectRecord::sending(own, Sends::ToSpares(spared(own, outside)))
 }
 
@@ -109,18 +109,19 @@ fn replaced(time: Stamp, own: NodeRecord, y: NodeNumber, z: NodeNumber, stamp: S
 // "On 10 from y: if z is held, outside my leafset, and its spare is y, .." replaced.
 pub fn on_pong_replace(
     keys: &[u32],
-    leaf: u32,
+    sides: Sides,
     me: NodeNumber,
     time: Stamp,
     own: NodeRecord,
     message: MessageRecord,
 ) -> EffectRecord
-    requires table { ⌜ InTable (now keys) (me .0) (own .held) × OwnFits (length (now keys)) own × (leaf ≤ 8)
-        × (time .0 < 2 ^ 24) × (message .sender .0 < length (now keys)) × (message .subject .0 < 64) ⌝ }
+    requires lent { ⌜ Lent (now keys) sides (me .0) own ⌝ }
+    requires message { ⌜ (time .0 < 2 ^ 24) × (message .sender .0 < length (now keys))
+        × (message .subject .0 < 64) ⌝ }
     ensures effect { λ r. ⌜ Leaves (length (now (keys .entry))) (me .0) (time .0) r
-        (steps.onPongReplace (tableOf leaf (now (keys .entry))) (me .0) (time .0) (ownOf own) (messageOf message)) ⌝ }
+        (steps.onPongReplace (tableOf sides (now (keys .entry))) (me .0) (time .0) (ownOf own) (messageOf message)) ⌝ }
 {
-    let outside = outside(keys, leaf, me, own.held);
+    let outside = outside(keys, sides, me, own.held);
     let at = message.subject.0 as usize;
     if !(sets::has(outside, message.subject) & (own.spare[at].0 == message.sender.0)) {
         return EffectRecord::quiet(own);

@@ -1,17 +1,18 @@
 // Document 01's step 3: timer 2, and message types 7 and 8.
-ghost use Prim.Native.Nat.{ℕ, _≤_, _<_};
+ghost use Prim.Native.Nat.{ℕ, _<_};
 ghost use lib.ListN.{length};
 ghost use Rattle.model.specs.Leafset.{Table};
 ghost use Rattle.model.specs.Structs.{tableOf, ownOf, RoomNode, messageOf, RoomMessage};
 ghost use Rattle.model.specs.Steps as steps;
-ghost use Rattle.leafset.specs.Table.{InTable};
 ghost use Rattle.records.specs.Effects.{OwnFits, Leaves};
+ghost use Rattle.records.specs.Lent.{Lent};
 use leafset::leafset;
 use leafset::outside;
 use leafset_choice::closest;
 use model::message::MessageRecord;
 use model::node::NodeRecord;
 use model::values::NodeNumber;
+use model::values::Sides;
 use records::effect::EffectRecord;
 use records::effect::Sends;
 use records::message::naming;
@@ -19,12 +20,12 @@ use records::own::set_spare;
 use word_ring::MessageWord;
 
 // "type 7 to each held stand outside my leafset of the held"
-pub fn timer2(keys: &[u32], leaf: u32, me: NodeNumber, own: NodeRecord) -> EffectRecord
-    requires table { ⌜ InTable (now keys) (me .0) (own .held) × OwnFits (length (now keys)) own × (leaf ≤ 8) ⌝ }
+pub fn timer2(keys: &[u32], sides: Sides, me: NodeNumber, own: NodeRecord) -> EffectRecord
+    requires lent { ⌜ Lent (now keys) sides (me .0) own ⌝ }
     ensures effect { λ r. ⌜ ((time : ℕ) → Leaves (length (now (keys .entry))) (me .0) time r
-        (steps.timer2 (tableOf leaf (now (keys .entry))) (me .0) time (ownOf own))) ⌝ }
+        (steps.timer2 (tableOf sides (now (keys .entry))) (me .0) time (ownOf own))) ⌝ }
 {
-    let outside = outside(keys, leaf, me, own.held);
+    let outside = outside(keys, sides, me, own.held);
     EffectRecord::sending(own, Sends::Each(MessageWord::PING_ASK_REPL, outside))
 }
 
@@ -32,18 +33,18 @@ pub fn timer2(keys: &[u32], leaf: u32, me: NodeNumber, own: NodeRecord) -> Effec
 // a than I am; .. else 64."
 pub fn on_ping_ask_repl(
     keys: &[u32],
-    leaf: u32,
+    sides: Sides,
     me: NodeNumber,
     own: NodeRecord,
     message: MessageRecord,
 ) -> EffectRecord
-    requires table { ⌜ InTable (now keys) (me .0) (own .held) × OwnFits (length (now keys)) own × (leaf ≤ 8)
-        × (message .sender .0 < length (now keys)) ⌝ }
+    requires lent { ⌜ Lent (now keys) sides (me .0) own ⌝ }
+    requires sender { ⌜ message .sender .0 < length (now keys) ⌝ }
     ensures effect { λ r. ⌜ ((time : ℕ)
         → Leaves (length (now (keys .entry))) (me .0) time r
-        (steps.onPingAskRepl (tableOf leaf (now (keys .entry))) (me .0) time (ownOf own) (messageOf message))) ⌝ }
+        (steps.onPingAskRepl (tableOf sides (now (keys .entry))) (me .0) time (ownOf own) (messageOf message))) ⌝ }
 {
-    let spare = closest(keys, leaf, me, own.held, message.sender);
+    let spare = closest(keys, sides, me, own.held, message.sender);
     EffectRecord::replying(
         own,
         naming(MessageWord::PONG_ASK_REPL, me, message.sender, spare),

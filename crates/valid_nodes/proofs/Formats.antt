@@ -11,7 +11,7 @@ use lib.Dec.{leb, eqb, lit<}
 use borrow.Author.Tests.{eqb-true, eq-eqb}
 use Rattle.model.specs.Choice.{every}
 use Rattle.model.specs.Fields.{bits, bit, flag}
-use Rattle.model.specs.Words.{headWord, keyWord, clockWord}
+use Rattle.model.specs.Words.{sidesOf, sidesFit, headWord, keyWord, clockWord}
 use Rattle.model.proofs.Laws.{same-test}
 use Rattle.valid_nodes.specs.Nodes.{headReads}
 
@@ -37,7 +37,7 @@ bit-flag low w = go (bits low 1 w) (mod-lt (w / 2 ^ low) (lit< tt))
 pub lowest : (k w : ℕ) → bits 0 k w ≡ w % 2 ^ k
 lowest k w = ap (λ (u : ℕ). u % 2 ^ k) (omega arith)
 
-pub head-format : (w : ℕ) → eqb w (headWord (bits 0 4 w) (bits 4 7 w) (bits 11 11 w)) ≡ eqb (w / 2 ^ 22) 64
+pub head-format : (w : ℕ) → eqb w (headWord (sidesOf w) (bits 4 7 w) (bits 11 11 w)) ≡ eqb (w / 2 ^ 22) 64
 unfolding headWord
 head-format w = of-kind 22 1 64 w (bits 11 11 w * 2 ^ 11 + bits 4 7 w * 2 ^ 4 + bits 0 4 w) parts refl
   where
@@ -70,15 +70,14 @@ pub xor-above : (low a b : ℕ) → eqb (bitXor a b / 2 ^ low) 0 ≡ eqb (a / 2 
 xor-above low a b = ap (λ (u : ℕ). eqb u 0) (xor-shr a b low) ∙ xor-test (a / 2 ^ low) (b / 2 ^ low)
 
 -- word 0, as the code joins its tests
-pub head-tests : (w : ℕ) → (eqb (w / 2 ^ 22) 64 && leb 1 (bits 0 4 w) && leb (bits 0 4 w) 8 && leb 1 (bits 4 7 w) && leb (bits 4 7 w) 64 && leb (bits 11 11 w) 1024) ≡ headReads w
+pub head-tests : (w : ℕ) → (eqb (w / 2 ^ 22) 64 && sidesFit (sidesOf w) && leb 1 (bits 4 7 w) && leb (bits 4 7 w) 64 && leb (bits 11 11 w) 1024) ≡ headReads w
 unfolding headReads
-head-tests w = regroup (eqb (w / 2 ^ 22) 64) (leb 1 (bits 0 4 w)) (leb (bits 0 4 w) 8) (leb 1 (bits 4 7 w)) (leb (bits 4 7 w) 64) (leb (bits 11 11 w) 1024) ∙ rw (head-format w)
+head-tests w = regroup (eqb (w / 2 ^ 22) 64) (sidesFit (sidesOf w)) (leb 1 (bits 4 7 w)) (leb (bits 4 7 w) 64) (leb (bits 11 11 w) 1024) ∙ rw (head-format w)
   where
-    regroup : (a b c d e f : Bool) → (a && b && c && d && e && f) ≡ every (a ∷ (b && c) ∷ (d && e) ∷ f ∷ [])
-    regroup false b c d e f = refl
-    regroup true false c d e f = refl
-    regroup true true false d e f = refl
-    regroup true true true false e f = refl
-    regroup true true true true false f = refl
-    regroup true true true true true false = refl
-    regroup true true true true true true = refl
+    regroup : (a b d e f : Bool) → (a && b && d && e && f) ≡ every (a ∷ b ∷ (d && e) ∷ f ∷ [])
+    regroup false b d e f = refl
+    regroup true false d e f = refl
+    regroup true true false e f = refl
+    regroup true true true false f = refl
+    regroup true true true true false = refl
+    regroup true true true true true = refl

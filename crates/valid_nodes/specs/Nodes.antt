@@ -6,7 +6,7 @@ use lib.Dec.{ltb, leb, eqb}
 use Rattle.model.specs.Choice.{every}
 use Rattle.model.specs.Sets.{all}
 use Rattle.model.specs.Fields.{bits, flag}
-use Rattle.model.specs.Words.{at, headWord, keyWord, clockWord, nodePlace, between}
+use Rattle.model.specs.Words.{sidesOf, sidesFit, at, headWord, keyWord, clockWord, nodePlace, between}
 
 -- the words from place a up to e are 0
 unfoldable pub clear : List ℕ → ℕ → ℕ → Bool
@@ -31,8 +31,8 @@ module _ (ws : List ℕ) where
 unfoldable pub headReads : ℕ → Bool
 headReads w =
     every
-    (eqb w (headWord (bits 0 4 w) (bits 4 7 w) (bits 11 11 w))
-    ∷ between 1 8 (bits 0 4 w)
+    (eqb w (headWord (sidesOf w) (bits 4 7 w) (bits 11 11 w))
+    ∷ sidesFit (sidesOf w)
     ∷ between 1 64 (bits 4 7 w)
     ∷ leb (bits 11 11 w) 1024
     ∷ [])

@@ -13,8 +13,8 @@ const MOST: u32 = limit::MESSAGES as u32;
 pub fn head_reads(w: u32) -> bool
     ensures value { λ r. ⌜ r ≡ headReads w ⌝ }
 {
-    let leaf = HeadWord(w).leaf();
+    let sides = HeadWord(w).sides();
     let n = HeadWord(w).nodes();
     let m = HeadWord(w).messages();
-    (w >> 22 == KIND) & (1 <= leaf) & (leaf <= limit::LEAF) & (1 <= n) & (n <= 64) & (m <= MOST)
+    (w >> 22 == KIND) & limit::sides_fit(sides) & (1 <= n) & (n <= 64) & (m <= MOST)
 }

@@ -15,7 +15,7 @@ use Rattle.model.specs.Leafset.{size, key}
 use Rattle.model.specs.Ring.{Message, messageAt, blank}
 use Rattle.model.specs.Fields.{bits, flag}
 use Rattle.model.specs.WellFormed.{Each, nil, cons}
-use Rattle.model.specs.Words.{at, headWord, keyWord, clockWord, pairWord, spareWord, nodePlace, pairPlace, messagePlace, between, inRange, keysDiffer, isPair, ofNode, ofPair, ofMessage, nodeWords, pairWords, messageWords, wordAt, ringLength, decodeTable, decodeOwn, decodeNode, decodeMessage, decode, pairFits, nodeFits, messageFits, ringFits, formatFits, readsAsRing}
+use Rattle.model.specs.Words.{sidesOf, sidesFit, at, headWord, keyWord, clockWord, pairWord, spareWord, nodePlace, pairPlace, messagePlace, between, inRange, keysDiffer, isPair, ofNode, ofPair, ofMessage, nodeWords, pairWords, messageWords, wordAt, ringLength, decodeTable, decodeOwn, decodeNode, decodeMessage, decode, pairFits, nodeFits, messageFits, ringFits, formatFits, readsAsRing}
 use Rattle.model.proofs.Laws.{between-low, between-high, and-left, and-right, and-in, implies-in, implies-out, not-in, not-out, decide, is-false, same-test, every-in, every-out, all-in, all-out, length-tabulate, getD-tabulate}
 use Rattle.model.proofs.Lists.{first, rest}
 use Rattle.model.proofs.Words.{node-at, pair-at, message-at, pair-low, pair-other, ReadsAsRing, reads-in, reads-out}
@@ -144,7 +144,7 @@ module _ (ws : List ℕ) where
       let l : ltb x (size (decodeTable ws)) ≡ true = lt-ltb x (size (decodeTable ws)) (rw (size-is ws) h) in
       rw (e, l, size-is ws)
 
-  head-word : wordAt (decode ws) 0 ≡ headWord (bits 0 4 (at ws 0)) (sizeOf ws) (countOf ws)
+  head-word : wordAt (decode ws) 0 ≡ headWord (sidesOf (at ws 0)) (sizeOf ws) (countOf ws)
   unfolding wordAt decode decodeTable
   head-word = rw (size-is ws, count-is)
 
@@ -175,7 +175,7 @@ module _ (ws : List ℕ) where
     unfolding ringFits decode
     tests = every-out _ (r .fits)
 
-    ranges : Each (λ b. b ≡ true) (between 1 8 (bits 0 4 (at ws 0)) ∷ between 1 64 (sizeOf ws) ∷ [])
+    ranges : Each (λ b. b ≡ true) (sidesFit (sidesOf (at ws 0)) ∷ between 1 64 (sizeOf ws) ∷ [])
     unfolding inRange decodeTable
     ranges = every-out _ (rw (size-is ws) at (first tests))
 
@@ -203,7 +203,7 @@ module _ (ws : List ℕ) where
     head-reads : headReads (at ws 0) ≡ true
     unfolding headReads
     head-reads =
-        every-in (cons (eq-eqb (at ws 0) (headWord (bits 0 4 (at ws 0)) (sizeOf ws) (countOf ws)) (place 0 (lit< tt) ∙ head-word))
+        every-in (cons (eq-eqb (at ws 0) (headWord (sidesOf (at ws 0)) (sizeOf ws) (countOf ws)) (place 0 (lit< tt) ∙ head-word))
         (cons (first ranges) (cons (first (rest ranges)) (cons (le-leb (countOf ws) 1024 count-high) nil))))
 
     nodes-read : nodesRead ws (sizeOf ws) ≡ true
@@ -307,8 +307,8 @@ module _ (ws : List ℕ) where
     regions = every-out _ r
 
     in-head : Each (λ b. b ≡ true)
-        (eqb (at ws 0) (headWord (bits 0 4 (at ws 0)) (sizeOf ws) (countOf ws))
-        ∷ between 1 8 (bits 0 4 (at ws 0))
+        (eqb (at ws 0) (headWord (sidesOf (at ws 0)) (sizeOf ws) (countOf ws))
+        ∷ sidesFit (sidesOf (at ws 0))
         ∷ between 1 64 (sizeOf ws)
         ∷ leb (countOf ws) 1024
         ∷ [])
@@ -490,7 +490,7 @@ regions-read ws long =
 pub head-ranges : (w : ℕ) → headReads w ≡ true → (1 ≤ bits 4 7 w) × (bits 4 7 w ≤ 64) × (bits 11 11 w ≤ 1024)
 unfolding headReads
 head-ranges w e =
-    let p = every-out (eqb w (headWord (bits 0 4 w) (bits 4 7 w) (bits 11 11 w)) ∷ between 1 8 (bits 0 4 w) ∷ between 1 64 (bits 4 7 w) ∷ leb (bits 11 11 w) 1024 ∷ []) e in
+    let p = every-out (eqb w (headWord (sidesOf w) (bits 4 7 w) (bits 11 11 w)) ∷ sidesFit (sidesOf w) ∷ between 1 64 (bits 4 7 w) ∷ leb (bits 11 11 w) 1024 ∷ []) e in
     (between-low 1 64 (bits 4 7 w) (first (rest (rest p))), between-high 1 64 (bits 4 7 w) (first (rest (rest p))), leb-true (bits 11 11 w) 1024 (first (rest (rest (rest p)))))
 
 module _ (ws : List ℕ) (long : length ws ≡ ringLength) where

@@ -6,9 +6,11 @@ pub mod place;
 ghost use mathlib.Core.Path.{_≡_};
 ghost use Prim.Native.Nat.{_^_, _<_, _≤_};
 ghost use Rattle.model.specs.Fields.{bits, bit, flag};
-ghost use Rattle.model.specs.Words.{headWord, keyWord, clockWord, pairWord, spareWord, messageWord, stampWord, viewWord};
+ghost use Rattle.model.specs.Structs.{RoomSides};
+ghost use Rattle.model.specs.Words.{sidesOf, headWord, keyWord, clockWord, pairWord, spareWord, messageWord, stampWord, viewWord};
 use model::values::Key;
 use model::values::NodeNumber;
+use model::values::Sides;
 use model::values::Stamp;
 
 // A mark as a bit.
@@ -31,17 +33,22 @@ impl HeadWord {
 
     pub const MESSAGES: u32 = 0x800;
 
-    pub fn new(leaf: u32, nodes: u32, messages: u32) -> HeadWord
-        requires bounds { ⌜ (leaf < 2 ^ 4) × (nodes < 2 ^ 7) × (messages < 2 ^ 11) ⌝ }
-        ensures value { λ r. ⌜ r .0 ≡ headWord leaf nodes messages ⌝ }
+    pub fn new(sides: Sides, nodes: u32, messages: u32) -> HeadWord
+        requires bounds { ⌜ RoomSides sides × (nodes < 2 ^ 7) × (messages < 2 ^ 11) ⌝ }
+        ensures value { λ r. ⌜ r .0 ≡ headWord sides nodes messages ⌝ }
     {
-        HeadWord(HeadWord::EMPTY + (messages * HeadWord::MESSAGES + nodes * HeadWord::NODES + leaf))
+        HeadWord(
+            HeadWord::EMPTY
+                + (messages * HeadWord::MESSAGES + nodes * HeadWord::NODES + sides.each),
+        )
     }
 
-    pub fn leaf(self) -> u32
-        ensures value { λ r. ⌜ r ≡ bits 0 4 (self .0) ⌝ }
+    pub fn sides(self) -> Sides
+        ensures value { λ r. ⌜ r ≡ sidesOf (self .0) ⌝ }
     {
-        self.0 % 0x10
+        Sides {
+            each: self.0 % 0x10,
+        }
     }
 
     pub fn nodes(self) -> u32

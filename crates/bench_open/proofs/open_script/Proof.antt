@@ -22,7 +22,7 @@ returns-2 : tie.Need-returns-2
 returns-2 c =
     let ws = c .before .before .before .before .before .before .before .before .before .args .script .now in
     let head = sym (c .before .before .before .before .before .before .head-fits .ensures) ∙ not-false _ (c .before .before .before .before .before .if1 .left) in
-    script-refused _ ws OpeningOutOfRange (refused-sizes ws head (sizes-read ws (c .before .before .before .leaf .ensures) (c .before .before .nodes .ensures) (c .before .sizes-fit .ensures) ∙ not-true _ (c .if2 .taken))) refl
+    script-refused _ ws OpeningOutOfRange (refused-sizes ws head (sizes-read ws (c .before .before .before .sides .ensures) (c .before .before .nodes .ensures) (c .before .sizes-fit .ensures) ∙ not-true _ (c .if2 .taken))) refl
 
 keys-fit-requires : tie.Need-keys-fit-requires
 keys-fit-requires c κs =
@@ -35,34 +35,34 @@ returns-3 : tie.Need-returns-3
 returns-3 c =
     let ws = c .before .before .before .before .before .before .before .before .before .before .before .args .script .now in
     let head = sym (c .before .before .before .before .before .before .before .before .head-fits .ensures) ∙ not-false _ (c .before .before .before .before .before .before .before .if1 .left) in
-    let sizes = sizes-read ws (c .before .before .before .before .before .leaf .ensures) (c .before .before .before .before .nodes .ensures) (c .before .before .before .sizes-fit .ensures) ∙ not-false _ (c .before .before .if2 .left) in
-    script-refused _ ws BadKey (refused-keys ws head sizes (keys-read ws (c .before .before .before .before .before .leaf .ensures) (c .before .before .before .before .nodes .ensures) (c .before .keys-fit .ensures) ∙ not-true _ (c .if3 .taken))) refl
+    let sizes = sizes-read ws (c .before .before .before .before .before .sides .ensures) (c .before .before .before .before .nodes .ensures) (c .before .before .before .sizes-fit .ensures) ∙ not-false _ (c .before .before .if2 .left) in
+    script-refused _ ws BadKey (refused-keys ws head sizes (keys-read ws (c .before .before .before .before .before .sides .ensures) (c .before .before .before .before .nodes .ensures) (c .before .keys-fit .ensures) ∙ not-true _ (c .if3 .taken))) refl
 
 keys-requires : tie.Need-keys-requires
 keys-requires c κs =
     let ws = c .before .before .before .before .before .before .before .before .before .before .before .args .script .now in
     let h = enough ws (sym (c .before .before .before .before .before .before .before .before .head-fits .ensures) ∙ not-false _ (c .before .before .before .before .before .before .before .if1 .left)) in
-    let sizes = sizes-read ws (c .before .before .before .before .before .leaf .ensures) (c .before .before .before .before .nodes .ensures) (c .before .before .before .sizes-fit .ensures) ∙ not-false _ (c .before .before .if2 .left) in
-    (rw (c .before .before .before .before .nodes .ensures) h, few ws (c .before .before .before .before .before .leaf .ensures) (c .before .before .before .before .nodes .ensures) sizes)
+    let sizes = sizes-read ws (c .before .before .before .before .before .sides .ensures) (c .before .before .before .before .nodes .ensures) (c .before .before .before .sizes-fit .ensures) ∙ not-false _ (c .before .before .if2 .left) in
+    (rw (c .before .before .before .before .nodes .ensures) h, few ws (c .before .before .before .before .before .sides .ensures) (c .before .before .before .before .nodes .ensures) sizes)
 
 array-share-prefix-keys : tie.Need-array-share-prefix-keys
 array-share-prefix-keys c =
     let ws = c .before .before .before .before .before .before .before .before .before .before .before .before .before .args .script .now in
-    let sizes = sizes-read ws (c .before .before .before .before .before .before .before .leaf .ensures) (c .before .before .before .before .before .before .nodes .ensures) (c .before .before .before .before .before .sizes-fit .ensures) ∙ not-false _ (c .before .before .before .before .if2 .left) in
-    let h = few ws (c .before .before .before .before .before .before .before .leaf .ensures) (c .before .before .before .before .before .before .nodes .ensures) sizes in
+    let sizes = sizes-read ws (c .before .before .before .before .before .before .before .sides .ensures) (c .before .before .before .before .before .before .nodes .ensures) (c .before .before .before .before .before .sizes-fit .ensures) ∙ not-false _ (c .before .before .before .before .if2 .left) in
+    let h = few ws (c .before .before .before .before .before .before .before .sides .ensures) (c .before .before .before .before .before .before .nodes .ensures) sizes in
     omega (arith, c .before .keys .ensures .0)
 
 slice-aggregate-open : tie.Need-slice-aggregate-open
 slice-aggregate-open c =
     let ws = c .before .before .before .before .before .before .before .before .before .before .before .before .before .before .args .script .now in
-    let sizes = sizes-read ws (c .before .before .before .before .before .before .before .before .leaf .ensures) (c .before .before .before .before .before .before .before .nodes .ensures) (c .before .before .before .before .before .before .sizes-fit .ensures) ∙ not-false _ (c .before .before .before .before .before .if2 .left) in
-    let h = few ws (c .before .before .before .before .before .before .before .before .leaf .ensures) (c .before .before .before .before .before .before .before .nodes .ensures) sizes in
+    let sizes = sizes-read ws (c .before .before .before .before .before .before .before .before .sides .ensures) (c .before .before .before .before .before .before .before .nodes .ensures) (c .before .before .before .before .before .before .sizes-fit .ensures) ∙ not-false _ (c .before .before .before .before .before .if2 .left) in
+    let h = few ws (c .before .before .before .before .before .before .before .before .sides .ensures) (c .before .before .before .before .before .before .before .nodes .ensures) sizes in
     sym (simp length-take (omega (arith, c .before .before .keys .ensures .0)))
 
 returns-4 : tie.Need-returns-4
 returns-4 c =
     let ws = c .before .before .before .before .before .before .before .before .before .before .before .before .before .before .before .before .before .args .script .now in
-    let le = c .before .before .before .before .before .before .before .before .before .before .before .leaf .ensures in
+    let le = c .before .before .before .before .before .before .before .before .before .before .before .sides .ensures in
     let me = c .before .before .before .before .before .before .before .before .before .before .nodes .ensures in
     let head = sym (c .before .before .before .before .before .before .before .before .before .before .before .before .before .before .head-fits .ensures) ∙ not-false _ (c .before .before .before .before .before .before .before .before .before .before .before .before .before .if1 .left) in
     let sizes = sizes-read ws le me (c .before .before .before .before .before .before .before .before .before .sizes-fit .ensures) ∙ not-false _ (c .before .before .before .before .before .before .before .before .if2 .left) in

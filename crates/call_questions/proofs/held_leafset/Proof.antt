@@ -3,8 +3,9 @@ use mathlib.Core.List.{List}
 use Prim.Native.Nat.{ℕ}
 use native.Mathlib.Omega.{arith}
 use lib.ListN.{length-take}
+use Rattle.ring_head.proofs.ReadRing.{table-sides-room}
 use Rattle.answers.proofs.Valid.{long, few}
-use Rattle.call_questions.proofs.Held.{leaf-high, held-in-table, held-leafset}
+use Rattle.call_questions.proofs.Held.{held-in-table, held-leafset}
 use Rattle.call_questions.proofs.held_leafset.Statement.{statement}
 use Rattle.call_questions.proofs.held_leafset.Tie as tie
 
@@ -17,8 +18,8 @@ keys-requires c κs =
     let e = c .nodes .ensures .0 in
     (long ws (c .before .before .pre .0), e, omega (arith, few ws (c .before .before .pre .0)))
 
-leaf-requires : tie.Need-leaf-requires
-leaf-requires c κs = long (c .before .before .before .args .words .now) (c .before .before .before .pre .0)
+sides-requires : tie.Need-sides-requires
+sides-requires c κs = long (c .before .before .before .args .words .now) (c .before .before .before .pre .0)
 
 load-requires : tie.Need-load-requires
 load-requires c κs =
@@ -37,13 +38,13 @@ leafset-requires c κs =
     let ws : List ℕ = c .before .before .before .before .before .before .args .words .now in
     let reads = c .before .before .before .before .before .before .pre .0 in (
       held-in-table ws reads (c .before .before .before .before .before .before .args .x .0) (c .before .before .before .keys .ensures .1) (c .before .load .ensures) (c .before .before .before .before .before .before .pre .1),
-      leaf-high ws reads (c .before .before .leaf .ensures),
+      rw (c .before .before .sides .ensures) (table-sides-room ws),
     )
 
 returns : tie.Need-returns
 returns c =
     held-leafset (c .before .before .before .before .before .before .before .args .words .now) (c .before .before .before .before .before .before .before .pre .0) (c .before .before .before .before .before .before .before .args .x .0) (c .before .before .before .before .keys .ensures .1) (c .before .before .load .ensures)
-    (c .before .before .before .leaf .ensures) (c .leafset .ensures)
+    (c .before .before .before .sides .ensures) (c .leafset .ensures)
 
 pub held-leafset-spec : {M : Type 1} → statement M
 held-leafset-spec =
@@ -51,7 +52,7 @@ held-leafset-spec =
     (tie.spec
     nodes-requires
     keys-requires
-    leaf-requires
+    sides-requires
     load-requires
     array-share-prefix-keys
     slice-aggregate-leafset

@@ -1,16 +1,15 @@
 use mathlib.Core.Path.{sym}
-use native.Mathlib.Omega.{arith}
 use Rattle.model.specs.Steps as steps
 use Rattle.model.specs.Structs.{ownOf, messageOf}
 use Rattle.records.specs.Effects.{Leaves}
-use Rattle.answers.proofs.Valid.{long, leaf-high}
-use Rattle.event_act.proofs.Lent.{keys-many, of-table, in-table, own-fits}
+use Rattle.answers.proofs.Valid.{long}
+use Rattle.event_act.proofs.Lent.{keys-many, of-table, lent}
 use borrow.Author.Needs.{needs}
 use Rattle.event_message.proofs.step.Statement.{statement}
 use Rattle.event_message.proofs.step.Tie as tie
 
-leaf-requires : tie.Need-leaf-requires
-leaf-requires c κs = long _ (c .before .pre .0)
+sides-requires : tie.Need-sides-requires
+sides-requires c κs = long _ (c .before .pre .0)
 
 keys-requires : tie.Need-keys-requires
 keys-requires c κs =
@@ -24,13 +23,8 @@ deliver-requires : tie.Need-deliver-requires
 deliver-requires c κs =
     let start = c .before .before .before .before in
     let is = start .pre .1 in
-    let keys = c .before .keys .ensures .1 in (
-      in-table is _ keys,
-      own-fits is _ keys,
-      omega (arith, c .before .before .leaf .ensures, leaf-high _ (start .pre .0)),
-      is .time-room,
-      rw (keys-many is _ keys) (start .pre .2),
-    )
+    let keys = c .before .keys .ensures .1 in
+    (lent is _ keys (c .before .before .sides .ensures), (is .time-room, rw (keys-many is _ keys) (start .pre .2)))
 
 returns : tie.Need-returns
 returns c =
@@ -38,10 +32,10 @@ returns c =
     let a = start .args in
     of-table (start .pre .1) _ (c .before .before .keys .ensures .1)
     (λ n t. Leaves n (a .message .receiver .0) (a .actor .time .0) (c .deliver .result) (steps.deliver t (a .message .receiver .0) (a .actor .time .0) (ownOf (a .actor .own)) (messageOf (a .message))))
-    (c .before .before .before .leaf .ensures) (c .deliver .ensures)
+    (c .before .before .before .sides .ensures) (c .deliver .ensures)
 
 pub step-spec : {M : Type 1} → statement M
 step-spec =
     tie.close
     (tie.spec
-    leaf-requires keys-requires (λ c. search needs) slice-aggregate-deliver deliver-requires returns)
+    sides-requires keys-requires (λ c. search needs) slice-aggregate-deliver deliver-requires returns)

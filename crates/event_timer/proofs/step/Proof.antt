@@ -1,16 +1,15 @@
 use mathlib.Core.Path.{sym}
-use native.Mathlib.Omega.{arith}
 use Rattle.model.specs.Steps as steps
 use Rattle.model.specs.Structs.{ownOf}
 use Rattle.records.specs.Effects.{Leaves}
-use Rattle.answers.proofs.Valid.{long, leaf-high}
-use Rattle.event_act.proofs.Lent.{keys-many, of-table, in-table, own-fits}
+use Rattle.answers.proofs.Valid.{long}
+use Rattle.event_act.proofs.Lent.{keys-many, of-table, lent}
 use borrow.Author.Needs.{needs}
 use Rattle.event_timer.proofs.step.Statement.{statement}
 use Rattle.event_timer.proofs.step.Tie as tie
 
-leaf-requires : tie.Need-leaf-requires
-leaf-requires c κs = long _ (c .before .pre .0)
+sides-requires : tie.Need-sides-requires
+sides-requires c κs = long _ (c .before .pre .0)
 
 keys-requires : tie.Need-keys-requires
 keys-requires c κs =
@@ -25,7 +24,7 @@ timer-requires c κs =
     let start = c .before .before .before .before in
     let is = start .pre .1 in
     let keys = c .before .keys .ensures .1 in
-    (in-table is _ keys, own-fits is _ keys, omega (arith, c .before .before .leaf .ensures, leaf-high _ (start .pre .0)), is .spare-high)
+    lent is _ keys (c .before .before .sides .ensures)
 
 returns : tie.Need-returns
 returns c =
@@ -33,10 +32,10 @@ returns c =
     let a = start .args in
     of-table (start .pre .1) _ (c .before .before .keys .ensures .1)
     (λ n t. Leaves n (a .x .0) (a .actor .time .0) (c .timer .result) (steps.timer t (a .x .0) (a .actor .time .0) (ownOf (a .actor .own)) (a .k)))
-    (c .before .before .before .leaf .ensures) (c .timer .ensures (a .actor .time .0))
+    (c .before .before .before .sides .ensures) (c .timer .ensures (a .actor .time .0))
 
 pub step-spec : {M : Type 1} → statement M
 step-spec =
     tie.close
     (tie.spec
-    leaf-requires keys-requires (λ c. search needs) slice-aggregate-timer timer-requires returns)
+    sides-requires keys-requires (λ c. search needs) slice-aggregate-timer timer-requires returns)

@@ -12,14 +12,14 @@ returns c =
     let w = c .before in
     let l = c .before .before in
     let s = c .before .before .before .before in
-    closest-nobody (s .args .leaf) (s .pre .0) _ _ _ (l .leafset .ensures) (w .without .ensures) (none-left (c .if1 .taken))
+    closest-nobody (s .args .sides) (s .pre .0) _ _ _ (l .leafset .ensures) (w .without .ensures) (none-left (c .if1 .taken))
 
 nearest-requires : tie.Need-nearest-requires
 nearest-requires c κs =
     let w = c .before .before .before in
     let l = w .before in
     let s = l .before .before in
-    others-low (s .args .leaf) (s .pre .0) _ _ _ (l .leafset .ensures) (w .without .ensures)
+    others-low (s .args .sides) (s .pre .0) _ _ _ (l .leafset .ensures) (w .without .ensures)
 
 shared-slice-read-t19 : tie.Need-shared-slice-read-t19
 shared-slice-read-t19 c =
@@ -27,7 +27,7 @@ shared-slice-read-t19 c =
     let l = w .before in
     let s = l .before .before in
     let f = first-bit (w .without .result) (search needs) (c .before .before .before .before .before .before .if1 .left) in
-    others-low (s .args .leaf) (s .pre .0) _ _ _ (l .leafset .ensures) (w .without .ensures) _ (found-least _ (f .member) (c .before .before .before .nearest .ensures) .member)
+    others-low (s .args .sides) (s .pre .0) _ _ _ (l .leafset .ensures) (w .without .ensures) _ (found-least _ (f .member) (c .before .before .before .nearest .ensures) .member)
 
 returns-2 : tie.Need-returns-2
 returns-2 c =
@@ -35,7 +35,7 @@ returns-2 c =
     let l = w .before in
     let s = l .before .before in
     let f = first-bit (w .without .result) (search needs) (c .before .before .before .before .before .before .before .before .before .before .if1 .left) in
-    closest-found (s .args .leaf) (s .pre .0) _ _ _ (l .leafset .ensures) (w .without .ensures)
+    closest-found (s .args .sides) (s .pre .0) _ _ _ (l .leafset .ensures) (w .without .ensures)
     (found-least _ (f .member) (c .before .before .before .before .before .before .before .nearest .ensures))
     (subst₂ (λ (m n : ℕ). m < n) (c .before .before .before .distance .ensures) (c .before .distance2 .ensures) (c .if2 .taken))
 
@@ -45,7 +45,7 @@ returns-3 c =
     let l = w .before in
     let s = l .before .before in
     let f = first-bit (w .without .result) (search needs) (c .before .before .before .before .before .before .before .before .before .before .if1 .left) in
-    closest-none (s .args .leaf) (s .pre .0) _ _ _ (l .leafset .ensures) (w .without .ensures)
+    closest-none (s .args .sides) (s .pre .0) _ _ _ (l .leafset .ensures) (w .without .ensures)
     (found-least _ (f .member) (c .before .before .before .before .before .before .before .nearest .ensures))
     (subst₂ (λ (m n : ℕ). m ≤ n) (c .before .distance2 .ensures) (c .before .before .before .distance .ensures) (c .if2 .left))
 

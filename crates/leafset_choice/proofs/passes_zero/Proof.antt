@@ -5,19 +5,19 @@ use Rattle.leafset_choice.proofs.passes_zero.Statement.{statement}
 use Rattle.leafset_choice.proofs.passes_zero.Tie as tie
 
 returns : tie.Need-returns
-returns c = λ leaf. passes-nobody leaf _ _ _ (none-left (c .if1 .taken))
+returns c = λ sides. passes-nobody sides _ _ _ (none-left (c .if1 .taken))
 
 shared-slice-read-t15 : tie.Need-shared-slice-read-t15
 shared-slice-read-t15 c =
     let s = c .before .before .before .before .before .before .before .before in
     let f = first-bit (s .args .held) (s .fits .held .fits) (c .before .before .before .before .before .before .if1 .left) in
-    rw (c .before .before .before .before .before .successor .ensures 0) (successor-low 0 _ _ _ (s .pre .within) _ (f .member))
+    rw (c .before .before .before .before .before .successor .ensures (record { each = 0 })) (successor-low (record { each = 0 }) _ _ _ (s .pre .within) _ (f .member))
 
 returns-2 : tie.Need-returns-2
 returns-2 c =
     let s = c .before .before .before .before .before .before .before .before .before in
     let f = first-bit (s .args .held) (s .fits .held .fits) (c .before .before .before .before .before .before .before .if1 .left) in
-    λ leaf. passes-found leaf _ _ _ (_, s .pre .within _ (f .member), f .member) _ _ _ (c .before .before .before .before .before .before .successor .ensures leaf) (c .before .before .clockwise .ensures) (c .clockwise2 .ensures)
+    λ sides. passes-found sides _ _ _ (_, s .pre .within _ (f .member), f .member) _ _ _ (c .before .before .before .before .before .before .successor .ensures sides) (c .before .before .clockwise .ensures) (c .clockwise2 .ensures)
 
 pub passes-zero-spec : {M : Type 1} → statement M
 passes-zero-spec =

@@ -4,7 +4,7 @@ use Rattle.leafset_choice.proofs.successor.Statement.{statement}
 use Rattle.leafset_choice.proofs.successor.Tie as tie
 
 returns : tie.Need-returns
-returns c = λ leaf. successor-found leaf _ _ _ (c .before .before .before .before .pre .within) (c .nearest .ensures)
+returns c = λ sides. successor-found sides _ _ _ (c .before .before .before .before .pre .within) (c .nearest .ensures)
 
 pub successor-spec : {M : Type 1} → statement M
 successor-spec = tie.close

@@ -14,17 +14,17 @@ write-nodes-requires c κs =
 write-pairs-requires : tie.Need-write-pairs-requires
 write-pairs-requires c κs =
     let p = c .before .before .before .before .before .before .before .before .before .before .before .before .pre in
-    (c .before .before .before .write-nodes .ensures 0 .long ∙ simp length-set (c .before .before .before .before .before .before .before .before .clear .ensures .long ∙ p .0), p .2)
+    (c .before .before .before .write-nodes .ensures (record { each = 0 }) .long ∙ simp length-set (c .before .before .before .before .before .before .before .before .clear .ensures .long ∙ p .0), p .2)
 
 same-length : tie.Need-same-length
-same-length c = c .before .before .write-pairs .ensures .long ∙ c .before .before .before .before .before .before .write-nodes .ensures 0 .long ∙ simp length-set (c .before .before .before .before .before .before .before .before .before .before .before .clear .ensures .long)
+same-length c = c .before .before .write-pairs .ensures .long ∙ c .before .before .before .before .before .before .write-nodes .ensures (record { each = 0 }) .long ∙ simp length-set (c .before .before .before .before .before .before .before .before .before .before .before .clear .ensures .long)
 
 returns : tie.Need-returns
 returns c =
     let s = c .before .before .before .before .before .before .before .before .before .before .before .before .before .before .before in
     let p = s .pre in
-    opened (tableOf (s .args .leaf) (s .args .keys .now)) (p .2) _ _ _ _ _ (p .0) (c .before .before .before .before .before .before .before .before .before .before .before .clear .ensures) (c .before .before .before .before .before .before .before .before .new .ensures)
-    (c .before .before .before .before .before .before .write-nodes .ensures (s .args .leaf)) (c .before .before .write-pairs .ensures)
+    opened (tableOf (s .args .sides) (s .args .keys .now)) (p .2) _ _ _ _ _ (p .0) (c .before .before .before .before .before .before .before .before .before .before .before .clear .ensures) (c .before .before .before .before .before .before .before .before .new .ensures)
+    (c .before .before .before .before .before .before .write-nodes .ensures (s .args .sides)) (c .before .before .write-pairs .ensures)
 
 pub write-spec : {M : Type 1} → statement M
 write-spec =

@@ -6,6 +6,7 @@ use borrow.Author.Needs.{needs}
 use Rattle.model.specs.Ring.{initial}
 use Rattle.model.specs.Words.{nodePlace, wordAt}
 use Rattle.model.specs.Structs.{tableOf}
+use Rattle.model.specs.declared.values.Sides.{Sides}
 use Rattle.ring_ranges.specs.Spans.{Patched}
 use Rattle.ring_ranges.proofs.Patches.{patched-none}
 use Rattle.ring_initial.proofs.Opening.{node-more}
@@ -13,13 +14,13 @@ use Rattle.ring_initial.proofs.write_nodes.Statement.{statement}
 use Rattle.ring_initial.proofs.write_nodes.Tie as tie
 
 abbrev Inv-loop : tie.InvT-loop
-Inv-loop words₀ keys clock s₀ s-end words s = (s ≤ length keys) × (length words ≡ 13441) × ((leaf : ℕ) → Patched words₀ words (nodePlace 0) (nodePlace s) (wordAt (initial (tableOf leaf keys))))
+Inv-loop words₀ keys clock s₀ s-end words s = (s ≤ length keys) × (length words ≡ 13441) × ((sides : Sides) → Patched words₀ words (nodePlace 0) (nodePlace s) (wordAt (initial (tableOf sides keys))))
 
 abbrev μ-loop : tie.MeasureT-loop
 μ-loop words₀ keys clock s₀ s-end words s = length keys - s
 
 loop-holds : tie.Need-loop-holds Inv-loop μ-loop
-loop-holds c = (search needs, search needs, λ leaf. patched-none _ _ _)
+loop-holds c = (search needs, search needs, λ sides. patched-none _ _ _)
 
 new-requires-2 : tie.Need-new-requires-2 Inv-loop μ-loop
 new-requires-2 c κs = c .before .before .before .before .before .before .pre .2 (c .before .before .loop .s)
@@ -33,7 +34,7 @@ loop-again c =
     let p = c .before .before .before .before .before .before .before .pre in (
       search needs,
       simp length-set (l .inv .1),
-      λ leaf. node-more (tableOf leaf (c .before .before .before .before .before .before .before .args .keys .now)) (p .1) _ _ _ (search needs) (p .0) (l .inv .2 leaf) _ _ (c .new2 .ensures) (c .before .before .before .before .new .ensures),
+      λ sides. node-more (tableOf sides (c .before .before .before .before .before .before .before .args .keys .now)) (p .1) _ _ _ (search needs) (p .0) (l .inv .2 sides) _ _ (c .new2 .ensures) (c .before .before .before .before .new .ensures),
     )
 
 returns : tie.Need-returns Inv-loop μ-loop

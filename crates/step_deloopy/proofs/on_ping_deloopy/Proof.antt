@@ -15,8 +15,8 @@ unfolding steps.onPingDeloopy
 returns c =
     let start = c .before .before .before .before .before .before in
     let a = start .args in
-    λ leaf time.
-    rw (sym (idle leaf (start .pre .0) (search needs) (eqb (a .message .subject .0) (a .me .0))) ∙ c .before .if1 .taken)
+    λ sides time.
+    rw (sym (idle (start .pre .0) (search needs) (eqb (a .message .subject .0) (a .me .0))) ∙ c .before .if1 .taken)
     (c .quiet .ensures _ _ _ _ (unchanged (start .pre .1)))
 
 returns-2 : tie.Need-returns-2
@@ -24,8 +24,8 @@ unfolding steps.onPingDeloopy
 returns-2 c =
     let start = c .before .before .before .before .before .before .before .before .before .before in
     let a = start .args in
-    λ leaf time.
-    rw (sym (idle leaf (start .pre .0) (search needs) (eqb (a .message .subject .0) (a .me .0))) ∙ c .before .before .before .before .before .if1 .left, sym (c .before .before .before .before .passes-zero .ensures leaf) ∙ c .before .before .before .if2 .taken)
+    λ sides time.
+    rw (sym (idle (start .pre .0) (search needs) (eqb (a .message .subject .0) (a .me .0))) ∙ c .before .before .before .before .before .if1 .left, sym (c .before .before .before .before .passes-zero .ensures sides) ∙ c .before .before .before .if2 .taken)
     (c .replying .ensures _ _ _ _ _ (c .before .before .add-candidate .ensures _ (start .pre .1) (start .pre .2)) (c .before .plain .ensures))
 
 naming-requires : tie.Need-naming-requires
@@ -33,8 +33,8 @@ naming-requires c κs =
     let start = c .before .before .before .before .before .before .before .before in
     let a = start .args in
     let q = start .pre .0 in
-    let low = some-successor 0 q (not-idle 0 q (search needs) (eqb (a .message .subject .0) (a .me .0)) (c .before .before .before .if1 .left)) in
-    (omega arith, omega (arith, q .node, q .few), omega (arith, low, q .few, c .successor .ensures 0), omega (arith, start .pre .2, q .node, q .few))
+    let low = some-successor (record { each = 0 }) q (not-idle q (search needs) (eqb (a .message .subject .0) (a .me .0)) (c .before .before .before .if1 .left)) in
+    (omega arith, omega (arith, q .node, q .few), omega (arith, low, q .few, c .successor .ensures (record { each = 0 })), omega (arith, start .pre .2, q .node, q .few))
 
 returns-3 : tie.Need-returns-3
 unfolding steps.onPingDeloopy
@@ -42,10 +42,10 @@ returns-3 c =
     let start = c .before .before .before .before .before .before .before .before .before .before in
     let a = start .args in
     let said = c .before .naming .ensures in
-    λ leaf time.
-    rw (sym (idle leaf (start .pre .0) (search needs) (eqb (a .message .subject .0) (a .me .0))) ∙ c .before .before .before .before .before .if1 .left, sym (c .before .before .before .before .passes-zero .ensures leaf) ∙ c .before .before .before .if2 .left)
+    λ sides time.
+    rw (sym (idle (start .pre .0) (search needs) (eqb (a .message .subject .0) (a .me .0))) ∙ c .before .before .before .before .before .if1 .left, sym (c .before .before .before .before .passes-zero .ensures sides) ∙ c .before .before .before .if2 .left)
     (c .replying2 .ensures _ _ _ _ _ (unchanged (start .pre .1))
-    (record { message = said .message ∙ ap (λ (y : ℕ). steps.naming 11 (a .me .0) y (a .message .subject .0)) (c .before .before .successor .ensures leaf); room = said .room }))
+    (record { message = said .message ∙ ap (λ (y : ℕ). steps.naming 11 (a .me .0) y (a .message .subject .0)) (c .before .before .successor .ensures sides); room = said .room }))
 
 pub on-ping-deloopy-spec : {M : Type 1} → statement M
 on-ping-deloopy-spec =

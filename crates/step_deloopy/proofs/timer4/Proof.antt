@@ -11,13 +11,13 @@ use Rattle.step_deloopy.proofs.timer4.Tie as tie
 
 returns : tie.Need-returns
 unfolding steps.timer4
-returns c = λ leaf time. rw (sym (c .before .before .passes-zero .ensures leaf) ∙ not-true _ (c .before .if1 .taken)) (c .quiet .ensures _ _ _ _ (unchanged (c .before .before .before .before .pre .1)))
+returns c = λ sides time. rw (sym (c .before .before .passes-zero .ensures sides) ∙ not-true _ (c .before .if1 .taken)) (c .quiet .ensures _ _ _ _ (unchanged (c .before .before .before .before .pre .1)))
 
 naming-requires : tie.Need-naming-requires
 naming-requires c κs =
     let q = c .before .before .before .before .pre .0 in
-    let low = some-successor 0 q (passes-some 0 q (sym (c .before .before .passes-zero .ensures 0) ∙ not-false _ (c .before .if1 .left))) in
-    (omega arith, omega (arith, q .node, q .few), omega (arith, low, q .few, c .successor .ensures 0), omega (arith, low, q .node, q .few, c .successor .ensures 0))
+    let low = some-successor (record { each = 0 }) q (passes-some (record { each = 0 }) q (sym (c .before .before .passes-zero .ensures (record { each = 0 })) ∙ not-false _ (c .before .if1 .left))) in
+    (omega arith, omega (arith, q .node, q .few), omega (arith, low, q .few, c .successor .ensures (record { each = 0 })), omega (arith, low, q .node, q .few, c .successor .ensures (record { each = 0 })))
 
 returns-2 : tie.Need-returns-2
 unfolding steps.timer4
@@ -25,10 +25,10 @@ returns-2 c =
     let start = c .before .before .before .before .before .before in
     let a = start .args in
     let said = c .before .naming .ensures in
-    λ leaf time.
-    rw (sym (c .before .before .before .before .passes-zero .ensures leaf) ∙ not-false _ (c .before .before .before .if1 .left))
+    λ sides time.
+    rw (sym (c .before .before .before .before .passes-zero .ensures sides) ∙ not-false _ (c .before .before .before .if1 .left))
     (c .replying .ensures _ _ _ _ _ (unchanged (start .pre .1))
-    (record { message = said .message ∙ ap (λ (y : ℕ). steps.naming 11 (a .me .0) y (a .me .0)) (c .before .before .successor .ensures leaf); room = said .room }))
+    (record { message = said .message ∙ ap (λ (y : ℕ). steps.naming 11 (a .me .0) y (a .me .0)) (c .before .before .successor .ensures sides); room = said .room }))
 
 pub timer4-spec : {M : Type 1} → statement M
 timer4-spec =

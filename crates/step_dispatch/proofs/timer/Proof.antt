@@ -9,7 +9,7 @@ use Rattle.step_dispatch.proofs.timer.Statement.{statement}
 use Rattle.step_dispatch.proofs.timer.Tie as tie
 
 returns : tie.Need-returns
-returns c = λ time. by-number _ _ _ _ _ (Leaves _ _ _ _) 0 (search needs) (c .timer0 .ensures _ _ time (c .before .before .before .pre .0 .few) (c .before .before .before .pre .1))
+returns c = λ time. by-number _ _ _ _ _ (Leaves _ _ _ _) 0 (search needs) (c .timer0 .ensures _ _ time (c .before .before .before .pre .table .few) (c .before .before .before .pre .own-fits))
 
 returns-2 : tie.Need-returns-2
 returns-2 c = λ time. by-number _ _ _ _ _ (Leaves _ _ _ _) 1 (search needs) (c .timer1 .ensures time)
@@ -29,7 +29,7 @@ returns-6 c =
     λ time.
     by-no-number _ _ _ _ _ (Leaves _ _ _ _)
     (above _ (others .0 .0 .0 .0 .1) (others .0 .0 .0 .1) (others .0 .0 .1) (others .0 .1) (others .1))
-    (c .quiet .ensures _ _ _ _ (unchanged (c .before .before .before .pre .1)))
+    (c .quiet .ensures _ _ _ _ (unchanged (c .before .before .before .pre .own-fits)))
   where
     above : (k : ℕ) → (k ≡ 0 → ⊥) → (k ≡ 1 → ⊥) → (k ≡ 2 → ⊥) → (k ≡ 3 → ⊥) → (k ≡ 4 → ⊥) → 5 ≤ k
     above k a b c d e = omega arith

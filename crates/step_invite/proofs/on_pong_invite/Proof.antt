@@ -11,23 +11,23 @@ leafset-requires : tie.Need-leafset-requires
 leafset-requires c κs =
     let start = c .before .before .before in
     let a = start .args in
-    (with-table (a .leaf) (start .pre .0) (a .message .sender .0) _ (c .with .ensures) (start .pre .4), start .pre .2)
+    (with-table (a .sides) (start .pre .0 .table) (a .message .sender .0) _ (c .with .ensures) (start .pre .1 .1), start .pre .0 .sides-room)
 
 returns : tie.Need-returns
 unfolding steps.onPongInvite
 returns c =
     let start = c .before .before .before .before .before .before .before in
     let a = start .args in
-    rw (sym (near-test (a .leaf) (start .pre .0) (a .message .sender .0) _ (c .before .before .before .before .with .ensures) (start .pre .4) _ (c .before .before .before .leafset .ensures)) ∙ sym (c .before .before .has .ensures) ∙ not-true _ (c .before .if1 .taken))
-    (c .quiet .ensures _ _ _ _ (unchanged (start .pre .1)))
+    rw (sym (near-test (a .sides) (start .pre .0 .table) (a .message .sender .0) _ (c .before .before .before .before .with .ensures) (start .pre .1 .1) _ (c .before .before .before .leafset .ensures)) ∙ sym (c .before .before .has .ensures) ∙ not-true _ (c .before .if1 .taken))
+    (c .quiet .ensures _ _ _ _ (unchanged (start .pre .0 .own-fits)))
 
 returns-2 : tie.Need-returns-2
 unfolding steps.onPongInvite
 returns-2 c =
     let start = c .before .before .before .before .before .before .before .before in
     let a = start .args in
-    rw (sym (near-test (a .leaf) (start .pre .0) (a .message .sender .0) _ (c .before .before .before .before .before .with .ensures) (start .pre .4) _ (c .before .before .before .before .leafset .ensures)) ∙ sym (c .before .before .before .has .ensures) ∙ not-false _ (c .before .before .if1 .left))
-    (c .quiet2 .ensures _ _ _ _ (c .before .hold .ensures _ (start .pre .1) (start .pre .4)))
+    rw (sym (near-test (a .sides) (start .pre .0 .table) (a .message .sender .0) _ (c .before .before .before .before .before .with .ensures) (start .pre .1 .1) _ (c .before .before .before .before .leafset .ensures)) ∙ sym (c .before .before .before .has .ensures) ∙ not-false _ (c .before .before .if1 .left))
+    (c .quiet2 .ensures _ _ _ _ (c .before .hold .ensures _ (start .pre .0 .own-fits) (start .pre .1 .1)))
 
 pub on-pong-invite-spec : {M : Type 1} → statement M
 on-pong-invite-spec =

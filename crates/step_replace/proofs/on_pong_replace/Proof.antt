@@ -25,21 +25,21 @@ unfolding steps.onPongReplace
 returns c =
     let start = c .before .before .before .before .before .before .before in
     let a = start .args in
-    rw (sym (replace-test (a .t5) _ (a .message .sender .0) (a .message .subject .0) _ _ (start .pre .1 .room) (start .pre .5) (c .before .before .before .has .ensures) (c .before .before .before .before .before .outside .ensures)) ∙ not-true _ (c .before .if1 .taken))
-    (c .quiet .ensures _ _ _ _ (unchanged (start .pre .1)))
+    rw (sym (replace-test (a .t5) _ (a .message .sender .0) (a .message .subject .0) _ _ (start .pre .0 .own-fits .room) (start .pre .1 .2) (c .before .before .before .has .ensures) (c .before .before .before .before .before .outside .ensures)) ∙ not-true _ (c .before .if1 .taken))
+    (c .quiet .ensures _ _ _ _ (unchanged (start .pre .0 .own-fits)))
 
 replaced-requires : tie.Need-replaced-requires
 replaced-requires c κs =
     let start = c .before .before .before .before .before .before in
-    (start .pre .3, omega (arith, start .pre .4), start .pre .5, wider (start .pre .1) (start .pre .0 .few))
+    (start .pre .1 .0, omega (arith, start .pre .1 .1), start .pre .1 .2, wider (start .pre .0 .own-fits) (start .pre .0 .table .few))
 
 returns-2 : tie.Need-returns-2
 unfolding steps.onPongReplace
 returns-2 c =
     let start = c .before .before .before .before .before .before .before .before in
     let a = start .args in
-    rw (sym (replace-test (a .t5) _ (a .message .sender .0) (a .message .subject .0) _ _ (start .pre .1 .room) (start .pre .5) (c .before .before .before .before .has .ensures) (c .before .before .before .before .before .before .outside .ensures)) ∙ not-false _ (c .before .before .if1 .left))
-    (c .quiet2 .ensures _ _ _ _ (c .before .replaced .ensures _ (start .pre .1) (start .pre .4)))
+    rw (sym (replace-test (a .t5) _ (a .message .sender .0) (a .message .subject .0) _ _ (start .pre .0 .own-fits .room) (start .pre .1 .2) (c .before .before .before .before .has .ensures) (c .before .before .before .before .before .before .outside .ensures)) ∙ not-false _ (c .before .before .if1 .left))
+    (c .quiet2 .ensures _ _ _ _ (c .before .replaced .ensures _ (start .pre .0 .own-fits) (start .pre .1 .1)))
 
 pub on-pong-replace-spec : {M : Type 1} → statement M
 on-pong-replace-spec =

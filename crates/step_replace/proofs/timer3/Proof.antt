@@ -19,18 +19,18 @@ unfolding steps.timer3
 returns c =
     let start = c .before .before .before .before in
     let a = start .args in
-    let q = start .pre .0 in
+    let q = start .pre .table in
     let outside = c .before .before .outside .ensures in
     let spared = c .before .spared .ensures in
     let some = ofBits (c .before .before .outside .result) in
     let low = within-part _ _ some _ (within-part _ _ (ofBits (a .own .held)) _ (q .within) outside) (fun-ext spared) in
     λ time.
-    c .sending .ensures _ _ time _ _ (unchanged (start .pre .1))
+    c .sending .ensures _ _ time _ _ (unchanged (start .pre .own-fits))
     (requested (a .me .0) time (a .own) _ _ (q .few) low
     (fun-ext (λ z. spared z ∙ ap (λ (S : Set). S z && not (eqb (spareAt (a .own) z) 64)) outside))
     (λ z e.
     let one = eqb-false (spareAt (a .own) z) 64 (not-out (eqb (spareAt (a .own) z) 64) (and-right (some z) (not (eqb (spareAt (a .own) z) 64)) (sym (spared z) ∙ e))) in
-    omega (arith, start .pre .3 z)))
+    omega (arith, start .pre .spare-high z)))
 
 pub timer3-spec : {M : Type 1} → statement M
 timer3-spec = tie.close (tie.spec (λ c κs. search needs) (λ c κs. search needs) (λ c κs. search needs) returns)

@@ -15,7 +15,7 @@ use denote.Ref.{now}
 naming-requires : tie.Need-naming-requires
 naming-requires c κs =
     let a = c .before .before .args in
-    let room : closest (tableOf (a .leaf) (now (a .keys))) (a .me .0) (ofBits (a .own .held)) (a .message .sender .0) < 2 ^ 7 = closest-room (a .leaf) (now (a .keys)) (a .me .0) (ofBits (a .own .held)) (a .message .sender .0) (c .before .before .pre .0 .few) in
+    let room : closest (tableOf (a .sides) (now (a .keys))) (a .me .0) (ofBits (a .own .held)) (a .message .sender .0) < 2 ^ 7 = closest-room (a .sides) (now (a .keys)) (a .me .0) (ofBits (a .own .held)) (a .message .sender .0) (c .before .before .pre .0 .table .few) in
     (omega arith, omega arith, omega arith, omega (arith, c .closest .ensures))
 
 returns : tie.Need-returns
@@ -24,7 +24,7 @@ returns c =
     let start = c .before .before .before .before in
     let a = start .args in
     let said = c .before .naming .ensures in
-    λ time. c .replying .ensures _ _ _ _ _ (unchanged (start .pre .1))
+    λ time. c .replying .ensures _ _ _ _ _ (unchanged (start .pre .0 .own-fits))
     (record { message = said .message ∙ ap (steps.naming 8 (a .me .0) (a .message .sender .0)) (c .before .before .closest .ensures); room = said .room })
 
 pub on-ping-ask-repl-spec : {M : Type 1} → statement M

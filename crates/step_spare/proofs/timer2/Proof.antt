@@ -15,8 +15,8 @@ returns c =
     let a = start .args in
     let outside = c .before .outside .ensures in
     λ time.
-    c .sending .ensures _ _ time _ _ (unchanged (start .pre .1))
-    (calls (a .me .0) time _ _ _ (start .pre .0 .few) (within-part _ _ (ofBits (a .own .held)) _ (start .pre .0 .within) outside) outside 7 (lit< tt))
+    c .sending .ensures _ _ time _ _ (unchanged (start .pre .own-fits))
+    (calls (a .me .0) time _ _ _ (start .pre .table .few) (within-part _ _ (ofBits (a .own .held)) _ (start .pre .table .within) outside) outside 7 (lit< tt))
 
 pub timer2-spec : {M : Type 1} → statement M
 timer2-spec = tie.close (tie.spec (λ c κs. search needs) (λ c κs. search needs) returns)
