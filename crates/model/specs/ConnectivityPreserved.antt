@@ -57,6 +57,10 @@ module _ (start words : List ℕ) where
   abbrev pub wordsAt : ℕ → List ℕ
   wordsAt i = playBufferAll start (take i words)
 
+  -- "its ring is the one that this paper's rules for events .. give for the words so far", from r, the ring of the start
+  abbrev pub ringAt : Ring → ℕ → Ring
+  ringAt r i = playAll r (take i words)
+
   -- "Running, held and travelling are read from that ring."
   abbrev pub readAt : ℕ → Ring
   readAt i = decode (wordsAt i)
@@ -81,49 +85,41 @@ module _ (start words : List ℕ) where
   abbrev pub uncovered : ℕ → ℕ → List ℕ
   uncovered point later = members later (λ i. leb point i && isUncovered i)
 
-  -- r is the ring of the start
-  module _ (r : Ring) where
-    -- "its ring is the one that this paper's rules for events .. give for the words so far"
-    abbrev pub ringAt : ℕ → Ring
-    ringAt i = playAll r (take i words)
-
-    pub record Unbroken : Type 0 where
-      -- "every lent word after it, equal what those rules give"
-      pub words-follow : (i : ℕ) → i ≤ length words → wordsAt i ≡ encode (ringAt i)
-      pub ring-follows : (i : ℕ) → i ≤ length words → readAt i ≡ ringAt i
-      -- "The answer of each call .. equal what those rules give"
-      pub answers-follow :
-          (i : ℕ) → i < length words
-          → answerAt i ≡ playWord (ringAt i) (getD words i 0) .answer
-      -- Take any point at which no replacement acknowledgement is in flight. Suppose that after it no on and no off is accepted, and
-      -- that each notice accepted after it names a node that is off. Then any two nodes connected at that point are connected at
-      -- every later point of the list.
-      pub connection-kept :
-          (point : ℕ) → point ≤ length words
-          → NoAcknowledgement (readAt point)
-          → ((k : ℕ) → point ≤ k → k < length words → AcceptedIsHarmless k)
-          → (a b : ℕ) → Connected (readAt point) a b
-          → (later : ℕ) → point ≤ later → later ≤ length words
-          → Connected (readAt later) a b
-      -- More than demand 3: take such a point, and two points from it on, an earlier and a later one. Suppose the same of what is
-      -- accepted between the point and the later one. Then any two nodes connected at the earlier one are connected at the later
-      -- one, although acknowledgements may be in flight at the earlier one, and the two may have become connected only after the point.
-      pub connection-kept-later :
-          (point : ℕ) → NoAcknowledgement (readAt point)
-          → (earlier later : ℕ) → point ≤ earlier → earlier ≤ later → later ≤ length words
-          → ((k : ℕ) → point ≤ k → k < later → AcceptedIsHarmless k)
-          → (a b : ℕ) → Connected (readAt earlier) a b
-          → Connected (readAt later) a b
-      -- For checking a log: where two nodes are connected at the earlier one and not at the later one, such as the next, some word
-      -- between the point and the later one is accepted and not harmless: the list of these is not empty. The two need not both run
-      -- at the later one, since switching off is such a word.
-      pub parting-is-uncovered :
-          (point : ℕ) → NoAcknowledgement (readAt point)
-          → (earlier later : ℕ) → point ≤ earlier → earlier ≤ later → later ≤ length words
-          → (a b : ℕ) → Connected (readAt earlier) a b → ¬ Connected (readAt later) a b
-          → 0 < length (uncovered point later)
-      -- the list has only such words
-      pub uncovered-are : (point later : ℕ) → Each (λ i. (point ≤ i) × (i < later) × Uncovered i) (uncovered point later)
+  pub record Unbroken (r : Ring) : Type 0 where
+    -- "every lent word after it, equal what those rules give"
+    pub words-follow : (i : ℕ) → i ≤ length words → wordsAt i ≡ encode (ringAt r i)
+    pub ring-follows : (i : ℕ) → i ≤ length words → readAt i ≡ ringAt r i
+    -- "The answer of each call .. equal what those rules give"
+    pub answers-follow : (i : ℕ) → i < length words → answerAt i ≡ playWord (ringAt r i) (getD words i 0) .answer
+    -- Take any point at which no replacement acknowledgement is in flight. Suppose that after it no on and no off is accepted, and
+    -- that each notice accepted after it names a node that is off. Then any two nodes connected at that point are connected at
+    -- every later point of the list.
+    pub connection-kept :
+        (point : ℕ) → point ≤ length words
+        → NoAcknowledgement (readAt point)
+        → ((k : ℕ) → point ≤ k → k < length words → AcceptedIsHarmless k)
+        → (a b : ℕ) → Connected (readAt point) a b
+        → (later : ℕ) → point ≤ later → later ≤ length words
+        → Connected (readAt later) a b
+    -- More than demand 3: take such a point, and two points from it on, an earlier and a later one. Suppose the same of what is
+    -- accepted between the point and the later one. Then any two nodes connected at the earlier one are connected at the later
+    -- one, although acknowledgements may be in flight at the earlier one, and the two may have become connected only after the point.
+    pub connection-kept-later :
+        (point : ℕ) → NoAcknowledgement (readAt point)
+        → (earlier later : ℕ) → point ≤ earlier → earlier ≤ later → later ≤ length words
+        → ((k : ℕ) → point ≤ k → k < later → AcceptedIsHarmless k)
+        → (a b : ℕ) → Connected (readAt earlier) a b
+        → Connected (readAt later) a b
+    -- For checking a log: where two nodes are connected at the earlier one and not at the later one, such as the next, some word
+    -- between the point and the later one is accepted and not harmless: the list of these is not empty. The two need not both run
+    -- at the later one, since switching off is such a word.
+    pub parting-is-uncovered :
+        (point : ℕ) → NoAcknowledgement (readAt point)
+        → (earlier later : ℕ) → point ≤ earlier → earlier ≤ later → later ≤ length words
+        → (a b : ℕ) → Connected (readAt earlier) a b → ¬ Connected (readAt later) a b
+        → 0 < length (uncovered point later)
+    -- the list has only such words
+    pub uncovered-are : (point later : ℕ) → Each (λ i. (point ≤ i) × (i < later) × Uncovered i) (uncovered point later)
 
 -- from every ring that was reached, and for any list of words, those that are no event included
 abbrev pub ConnectivityPreserved : Type 0
