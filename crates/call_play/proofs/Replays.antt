@@ -1,5 +1,5 @@
 -- A script played word by word, and a replay.
-use mathlib.Core.Path.{_≡_, refl, sym, ap, ap₂, _∙_}
+use mathlib.Core.Path.{_≡_, refl, sym, ap, ap₂, _∙_, subst}
 use mathlib.Core.Bool.{true, false}
 use mathlib.Core.List.{List, [], _∷_}
 use Prim.Native.Nat.{ℕ, zero, suc, _+_, _<_}
@@ -12,15 +12,16 @@ use lib.Seq.{take-length, getD-set-same, getD-set-other}
 use Rattle.model.specs.Leafset.{Table}
 use Rattle.model.specs.Answers.{numberOf, firstOf, isAccepted}
 use Rattle.model.specs.Words.{readsAsRing}
-use Rattle.model.specs.Buffer.{wrongLength, notARing, Written, openBuffer, playBuffer, playBufferAll}
+use Rattle.model.specs.Buffer.{ringRefusals, Written, openBuffer, playBuffer, playBufferAll}
 use Rattle.model.specs.Questions.{groupsAnswer}
+use Rattle.model.specs.ConnectivityPreserved.{wordsAt, answerAt}
 use Rattle.model.specs.declared.answer.Answer.{Answer}
 use Rattle.model.proofs.Laws.{clash}
-use Rattle.model.proofs.Theorems.{opening-reads, playing-reads, refused-opening, connectivity-preserved}
+use Rattle.model.proofs.Theorems.{opening-reads, playing-reads, refused-opening, connectivity-preserved, opening-preserves}
 use Rattle.answers.specs.Applied.{written}
 use Rattle.answers.proofs.Answered.{refuses, accepts}
 use Rattle.call_refusals.proofs.Refused.{groups-reads}
-use Rattle.call_play.specs.Replay.{replayBuffer, Replayed, PlayedAll, PlayedUpTo}
+use Rattle.call_play.specs.Replay.{AnswersPlaced, replayBuffer, Replayed, PlayedAll, PlayedUpTo}
 
 -- the words at the next point
 next : (ws script : List ℕ) (k : ℕ) → k < length script → playBufferAll ws (take (suc k) script) ≡ playBuffer (playBufferAll ws (take k script)) (getD script k 0) .words
@@ -33,33 +34,47 @@ next ws (w ∷ script) (suc k) h = next (playBuffer ws w .words) script k (le-of
 pub none-played : (ws script answers : List ℕ) → readsAsRing ws ≡ true → PlayedUpTo 0 ws script answers ws answers
 unfolding playBufferAll
 none-played ws script answers e =
-    record { words = refl; still-reads = e; answer-at-place = λ k h. absurd (not-suc-le-zero h); other-places-kept = λ k h. refl; as-many-places = refl }
+    record {
+      words = refl;
+      still-reads = e;
+      places = record { answer-at-place = λ k h. absurd (not-suc-le-zero h); other-places-kept = λ k h. refl; as-many-places = refl };
+    }
+
+-- one more answer
+more-placed :
+    {n a : ℕ} {ws script answers answers' : List ℕ} → AnswersPlaced n ws script answers answers'
+    → a ≡ answerAt ws script n
+    → AnswersPlaced (n + 1) ws script answers (set answers' n a)
+more-placed {n} {a} {answers' = v} p e =
+    record {
+      answer-at-place = λ k l m.
+          elim (ℕ-discrete k n) [
+            | yes s ↦ rw s (getD-set-same v n a 0 (omega (arith, p .as-many-places)) ∙ e)
+            | no d ↦ getD-set-other v n k a 0 d ∙ p .answer-at-place k (omega arith) m
+          ];
+      other-places-kept = λ k l. getD-set-other v n k a 0 (λ s. omega arith) ∙ p .other-places-kept k (omega arith);
+      as-many-places = length-set v n a ∙ p .as-many-places;
+    }
 
 -- one more word, answered a
 pub one-more :
-    (a : Answer) {i : ℕ} {ws script answers u v ws' : List ℕ} → PlayedUpTo i ws script answers u v → i < length script
-    → written a ws' ≡ playBuffer u (getD script i 0)
-    → PlayedUpTo (i + 1) ws script answers ws' (set v i (numberOf a))
-one-more a {i} {ws} {script} {answers} {u} {v} {ws'} p h e =
+    (a : Answer) {n : ℕ} {ws script answers u v ws' : List ℕ} → PlayedUpTo n ws script answers u v → n < length script
+    → written a ws' ≡ playBuffer u (getD script n 0)
+    → PlayedUpTo (n + 1) ws script answers ws' (set v n (numberOf a))
+one-more a {n} {ws} {script} {u = u} {ws' = ws'} p h e =
     record {
-      words = ap (λ (q : Written). q .words) given ∙ sym (next ws script i h) ∙ rw add-one;
-      still-reads = ap (λ (q : Written). readsAsRing (q .words)) e ∙ playing-reads u (getD script i 0) (p .still-reads);
-      answer-at-place = λ k l m.
-          elim (ℕ-discrete k i) [
-            | yes s ↦ rw s (getD-set-same v i (numberOf a) 0 (omega (arith, p .as-many-places)) ∙ ap (λ (q : Written). q .answer) given)
-            | no d ↦ getD-set-other v i k (numberOf a) 0 d ∙ p .answer-at-place k (omega arith) m
-          ];
-      other-places-kept = λ k l. getD-set-other v i k (numberOf a) 0 (λ s. omega arith) ∙ p .other-places-kept k (omega arith);
-      as-many-places = length-set v i (numberOf a) ∙ p .as-many-places;
+      words = ap (λ (q : Written). q .words) given ∙ sym (next ws script n h) ∙ rw add-one;
+      still-reads = ap (λ (q : Written). readsAsRing (q .words)) e ∙ playing-reads u (getD script n 0) (p .still-reads);
+      places = more-placed (p .places) (ap (λ (q : Written). q .answer) given);
     }
   where
-    given : written a ws' ≡ playBuffer (playBufferAll ws (take i script)) (getD script i 0)
-    given = e ∙ ap (λ (l : List ℕ). playBuffer l (getD script i 0)) (p .words)
+    given : written a ws' ≡ playBuffer (wordsAt ws script n) (getD script n 0)
+    given = e ∙ ap (λ (l : List ℕ). playBuffer l (getD script n 0)) (p .words)
 
 -- ---- a script on a ring that is there, by the answer of its words
 
 module _ (ws : List ℕ) (r : Answer) (asked : numberOf r ≡ groupsAnswer ws) where
-  of-buffer : numberOf r ≡ firstOf (wrongLength ws ∷ notARing ws ∷ [])
+  of-buffer : numberOf r ≡ firstOf (ringRefusals ws)
   unfolding groupsAnswer
   of-buffer = asked
 
@@ -68,11 +83,10 @@ module _ (ws : List ℕ) (r : Answer) (asked : numberOf r ≡ groupsAnswer ws) w
       record {
         answer = of-buffer;
         words = λ a. clash (ap isAccepted a) n;
-        answer-at-place = λ a. clash (ap isAccepted a) n;
-        other-places-kept = λ i h. refl;
-        as-many-places = refl;
         refused-keeps-words = λ f. refl;
+        places = λ a. clash (ap isAccepted a) n;
         refused-keeps-places = λ f. refl;
+        connectivity-preserved = λ ρ reached. connectivity-preserved ws ρ reached script;
       }
 
   module _ (ok : numberOf r ≡ 0) where
@@ -84,11 +98,10 @@ module _ (ws : List ℕ) (r : Answer) (asked : numberOf r ≡ groupsAnswer ws) w
         record {
           answer = of-buffer;
           words = λ a. p .words ∙ ap (playBufferAll ws) (take-length script);
-          answer-at-place = λ a. p .answer-at-place;
-          other-places-kept = p .other-places-kept;
-          as-many-places = p .as-many-places;
           refused-keeps-words = λ n. clash (ap isAccepted ok) n;
+          places = λ a. p .places;
           refused-keeps-places = λ n. clash (ap isAccepted ok) n;
+          connectivity-preserved = λ ρ reached. connectivity-preserved ws ρ reached script;
         }
 
 -- ---- a replay, by the answer of its opening
@@ -103,9 +116,7 @@ module _ (old : List ℕ) (t : Table) (r : Answer) {u : List ℕ} (opened : writ
       let refused = ap isAccepted (sym answered) ∙ n in
       record {
         answer-and-words = rw (ap (λ (q : Written). q .words) opened ∙ refused-opening old t refused) (refuses old _ r _ refused answered);
-        answer-at-place = λ a. clash (ap isAccepted a) n;
-        other-places-kept = λ i h. refl;
-        as-many-places = refl;
+        places = λ a. clash (ap isAccepted a) n;
         refused-keeps-places = λ f. refl;
         connectivity-preserved = λ a. clash (ap isAccepted a) n;
       }
@@ -122,11 +133,9 @@ module _ (old : List ℕ) (t : Table) (r : Answer) {u : List ℕ} (opened : writ
     replayed {script} {answers} {ws'} {answers'} p =
         record {
           answer-and-words = accepts old ws' _ r _ accepted-opening answered (p .words ∙ ap₂ playBufferAll opened-words (take-length script));
-          answer-at-place = λ a i h l. p .answer-at-place i h l ∙ ap (λ (ws : List ℕ). playBuffer (playBufferAll ws (take i script)) (getD script i 0) .answer) opened-words;
-          other-places-kept = p .other-places-kept;
-          as-many-places = p .as-many-places;
+          places = λ a. subst (λ (ws : List ℕ). AnswersPlaced (length script) ws script answers answers') opened-words (p .places);
           refused-keeps-places = λ n. clash (ap isAccepted ok) n;
-          connectivity-preserved = λ a. connectivity-preserved old t accepted-opening script;
+          connectivity-preserved = λ a. opening-preserves old t accepted-opening script;
         }
       where
         opened-words : u ≡ openBuffer old t .words

@@ -8,7 +8,8 @@ use Rattle.model.specs.Answers.{firstOf, isAccepted}
 use Rattle.model.specs.Words.{decodeNode, decode, readsAsRing}
 use Rattle.model.specs.WellFormed.{Each, nil, cons}
 use Rattle.model.specs.Play.{nodeOff}
-use Rattle.model.specs.Questions.{connectionAnswer, groupsRefusals, groupsAnswer}
+use Rattle.model.specs.Buffer.{ringRefusals}
+use Rattle.model.specs.Questions.{connectionAnswer, groupsAnswer}
 use Rattle.model.proofs.Laws.{not-out-false}
 use Rattle.model.proofs.Lists.{first, rest}
 use Rattle.model.proofs.Answers.{none-applies, stays, passes}
@@ -18,9 +19,9 @@ module _ (ws : List ℕ) where
   -- ---- refusals 1 and 6 come first
 
   module _ (a : groupsAnswer ws ≡ 0) where
-    none-of-groups : Each (λ q. q .applies ≡ false) (groupsRefusals ws)
+    none-of-groups : Each (λ q. q .applies ≡ false) (ringRefusals ws)
     unfolding groupsAnswer
-    none-of-groups = none-applies (groupsRefusals ws) (cons refl (cons refl nil)) a
+    none-of-groups = none-applies (ringRefusals ws) (cons refl (cons refl nil)) a
 
     pub groups-reads : readsAsRing ws ≡ true
     groups-reads = not-out-false (readsAsRing ws) (first (rest none-of-groups))
@@ -46,8 +47,8 @@ module _ (ws : List ℕ) where
 
     pub refused-words : {a : ℕ} → a ≡ groupsAnswer ws → isAccepted (groupsAnswer ws) ≡ false → a ≡ connectionAnswer ws x y
     unfolding groupsAnswer connectionAnswer
-    refused-words e n = e ∙ sym (stays (groupsRefusals ws) (nodesRefusals (decode ws) x y) n)
+    refused-words e n = e ∙ sym (stays (ringRefusals ws) (nodesRefusals (decode ws) x y) n)
 
     pub after-words : {a : ℕ} → groupsAnswer ws ≡ 0 → a ≡ firstOf (nodesRefusals (decode ws) x y) → a ≡ connectionAnswer ws x y
     unfolding groupsAnswer connectionAnswer
-    after-words g e = e ∙ sym (passes (groupsRefusals ws) (nodesRefusals (decode ws) x y) (none-of-groups g))
+    after-words g e = e ∙ sym (passes (ringRefusals ws) (nodesRefusals (decode ws) x y) (none-of-groups g))

@@ -2,7 +2,7 @@
 use mathlib.Core.Path.{_≡_, sym, _∙_}
 use mathlib.Core.Logic.{_⊎_, inl, inr, ⊎-elim}
 use mathlib.Core.Bool.{true, false}
-use mathlib.Core.List.{List, _∷_}
+use mathlib.Core.List.{List, _∷_, _++_}
 use Prim.Native.Nat.{ℕ, _≤_}
 use native.Mathlib.Nat.{le-refl}
 use native.Mathlib.Omega.{arith}
@@ -10,7 +10,7 @@ use lib.Dec.{ltb}
 use borrow.Author.Tests.{ltb-false}
 use Rattle.model.specs.Answers.{Refusal, firstOf, isAccepted}
 use Rattle.model.specs.Words.{decode, readsAsRing}
-use Rattle.model.specs.Buffer.{wrongLength, notARing}
+use Rattle.model.specs.Buffer.{notARing, ringRefusals}
 use Rattle.model.specs.Play.{noNode}
 use Rattle.model.specs.Questions.{leafsetAnswer, leafsetOf, connectionAnswer, connectionOf}
 use Rattle.model.proofs.Laws.{decide, is-false}
@@ -27,7 +27,7 @@ cut f x far = decide (ltb x 64) (λ e. rw e) (λ e. rw e (far (ltb-false x 64 e)
 module _ (ws : List ℕ) where
   -- refusals 1 and 6 are the same for all: the others are compared on words that read as a ring
   same-words : (qs rs : List Refusal) → (readsAsRing ws ≡ true → firstOf qs ≡ firstOf rs)
-      → firstOf (wrongLength ws ∷ notARing ws ∷ qs) ≡ firstOf (wrongLength ws ∷ notARing ws ∷ rs)
+      → firstOf (ringRefusals ws ++ qs) ≡ firstOf (ringRefusals ws ++ rs)
   same-words qs rs same =
       later _ _ _
       (decide (readsAsRing ws) (λ t. later (notARing ws) qs rs (same t)) (λ f. here _ qs (no-ring ws f) ∙ sym (here _ rs (no-ring ws f))))

@@ -12,15 +12,14 @@ use lib.ListN.{length, getD, take}
 use lib.Dec.{leb}
 use borrow.Author.Tests.{leb-true, le-leb}
 use Rattle.model.specs.Sets.{Set, some}
-use Rattle.model.specs.Leafset.{Table}
-use Rattle.model.specs.Ring.{Ring, initial, isRunning}
+use Rattle.model.specs.Ring.{Ring, isRunning}
 use Rattle.model.specs.WellFormed.{WellFormed, Each}
 use Rattle.model.specs.Answers.{isAccepted}
 use Rattle.model.specs.Events.{eventOf}
-use Rattle.model.specs.Words.{encode, decode}
+use Rattle.model.specs.Words.{encode, decode, readsAsRing}
 use Rattle.model.specs.Play.{after, playAnswer, playWord, playAll}
-use Rattle.model.specs.Buffer.{Written, openBuffer, playBuffer, playBufferAll}
-use Rattle.model.specs.ConnectivityPreserved.{NoAcknowledgement, Harmless, isHarmless, wordsAt, ringAt, readAt, AcceptedIsHarmless, Uncovered, isUncovered, uncovered, Unbroken, ConnectivityPreserved}
+use Rattle.model.specs.Buffer.{Written, playBuffer, playBufferAll}
+use Rattle.model.specs.ConnectivityPreserved.{NoAcknowledgement, Harmless, isHarmless, Reached, opened, played, wordsAt, readAt, answerAt, ringAt, AcceptedIsHarmless, Uncovered, isUncovered, uncovered, Unbroken, ConnectivityPreserved}
 use Rattle.model.specs.Connection.{Connected}
 use Rattle.model.specs.declared.event.Event.{Event}
 use Rattle.model.specs.declared.event.Event.the-variants.{On, Off, Notice, Contact, Timer, Deliver, Lose}
@@ -29,8 +28,9 @@ use Rattle.model.proofs.Lists.{each-imp}
 use Rattle.model.proofs.Choices.{Member, members-are, some-members}
 use Rattle.model.proofs.Answers.{accepted-is}
 use Rattle.model.proofs.RoundTrip.{round-trip}
-use Rattle.model.proofs.WellFormedPlay.{list-well}
-use Rattle.model.proofs.Follows.{follows, list-follows, opened-well, opened-words}
+use Rattle.model.proofs.Fits.{encoded-reads}
+use Rattle.model.proofs.WellFormedPlay.{word-well}
+use Rattle.model.proofs.Follows.{follows, opened-well, opened-words}
 use Rattle.model.proofs.Cut.{Step, Steps, stay, more, at-point, intact-steps, never-parted}
 use Rattle.model.proofs.Acting.{Requests, event-step, event-requests, initial-requests, unchanged}
 
@@ -62,6 +62,37 @@ module _ (r : Ring) (well : WellFormed r) (q : Requests r) (w : ℕ) where
       (λ a. event-step r well q (eventOf w) (harmless (accepted-is (playAnswer r w) a)))
       (λ a. unchanged r)
 
+-- ---- a ring that was reached
+
+-- the lent words are those of the ring, it is well-formed, and its requests are not ahead
+record Invariant (ws : List ℕ) (r : Ring) : Type 0 where
+  encoded : ws ≡ encode r
+  well : WellFormed r
+  requests : Requests r
+
+-- a word keeps it
+word-invariant : {ws : List ℕ} {r : Ring} → Invariant ws r → (w : ℕ) → Invariant (playBuffer ws w .words) (playWord r w .ring)
+word-invariant {r = r} i w =
+    record {
+      encoded = ap (λ (l : List ℕ). playBuffer l w .words) (i .encoded) ∙ ap (λ (q : Written). q .words) (follows r (i .well) w);
+      well = word-well r w (i .well);
+      requests = requests-word r (i .well) (i .requests) w;
+    }
+
+-- it holds of every ring that was reached
+invariant : {ws : List ℕ} {r : Ring} → Reached ws r → Invariant ws r
+invariant (opened old t ok) = record { encoded = opened-words old t ok; well = opened-well old t ok; requests = initial-requests t }
+invariant (played p w) = word-invariant (invariant p) w
+
+pub reached-reads : {ws : List ℕ} {r : Ring} → Reached ws r → readsAsRing ws ≡ true
+reached-reads {r = r} reached = ap readsAsRing (invariant reached .encoded) ∙ encoded-reads r (invariant reached .well)
+
+-- a list leaves a ring that was reached
+pub list-reaches : {ws : List ℕ} {r : Ring} → Reached ws r → (words : List ℕ) → Reached (playBufferAll ws words) (playAll r words)
+unfolding playAll playBufferAll
+list-reaches reached [] = reached
+list-reaches reached (w ∷ words) = list-reaches (played reached w) words
+
 -- ---- the points of a list
 
 -- the ring of the next point
@@ -71,17 +102,12 @@ next r [] k h = absurd (not-suc-le-zero h)
 next r (w ∷ words) zero h = refl
 next r (w ∷ words) (suc k) h = next (playWord r w .ring) words k (le-of-suc-le-suc h)
 
-module _ (old : List ℕ) (t : Table) (ok : openBuffer old t .answer ≡ 0) (words : List ℕ) where
+module _ (start : List ℕ) (r : Ring) (reached : Reached start r) (words : List ℕ) where
   abbrev ring : ℕ → Ring
-  ring = ringAt old t words
+  ring = ringAt start words r
 
-  well-at : (k : ℕ) → WellFormed (ring k)
-  well-at k = list-well (initial t) (take k words) (opened-well old t ok)
-
-  requests-at : (k : ℕ) → k ≤ length words → Requests (ring k)
-  unfolding playAll
-  requests-at zero h = initial-requests t
-  requests-at (suc k) h = rw (next (initial t) words k h) (requests-word (ring k) (well-at k) (requests-at k (omega arith)) (getD words k 0))
+  invariant-at : (i : ℕ) → Invariant (wordsAt start words i) (ring i)
+  invariant-at i = invariant (list-reaches reached (take i words))
 
   -- every word between two points is a step, where what is accepted is harmless
   steps-at :
@@ -94,55 +120,52 @@ module _ (old : List ℕ) (t : Table) (ok : openBuffer old t .answer ≡ 0) (wor
         | yes e ↦ rw e stay
         | no n ↦
             (let from : point ≤ k = omega arith in
-            rw (next (initial t) words k l)
+            rw (next r words k l)
             (more (steps-at point k from (omega arith) (λ j f h. harmless j f (omega arith)))
-            (step-word (ring k) (well-at k) (requests-at k (omega arith)) (getD words k 0) (harmless k from (omega arith)))))
+            (step-word (ring k) (invariant-at k .well) (invariant-at k .requests) (getD words k 0) (harmless k from (omega arith)))))
       ]
 
   -- ---- the lent words at the points
 
-  words-follow : (i : ℕ) → wordsAt old t words i ≡ encode (ring i)
-  words-follow i = ap (λ (ws : List ℕ). playBufferAll ws (take i words)) (opened-words old t ok) ∙ list-follows (initial t) (opened-well old t ok) (take i words)
+  ring-follows : (i : ℕ) → readAt start words i ≡ ring i
+  ring-follows i = ap decode (invariant-at i .encoded) ∙ round-trip (ring i) (invariant-at i .well)
 
-  ring-follows : (i : ℕ) → readAt old t words i ≡ ring i
-  ring-follows i = ap decode (words-follow i) ∙ round-trip (ring i) (well-at i)
+  answers-follow : (i : ℕ) → answerAt start words i ≡ playWord (ring i) (getD words i 0) .answer
+  answers-follow i =
+      ap (λ (ws : List ℕ). playBuffer ws (getD words i 0) .answer) (invariant-at i .encoded)
+      ∙ ap (λ (q : Written). q .answer) (follows (ring i) (invariant-at i .well) (getD words i 0))
 
-  answers-follow : (i w : ℕ) → playBuffer (wordsAt old t words i) w .answer ≡ playWord (ring i) w .answer
-  answers-follow i w =
-      ap (λ (ws : List ℕ). playBuffer ws w .answer) (words-follow i)
-      ∙ ap (λ (q : Written). q .answer) (follows (ring i) (well-at i) w)
-
-  harmless-at : (k : ℕ) → AcceptedIsHarmless old t words k → HarmlessWord (ring k) (getD words k 0)
-  harmless-at k h accepted = rw (ring-follows k) at (h (answers-follow k (getD words k 0) ∙ accepted))
+  harmless-at : (k : ℕ) → AcceptedIsHarmless start words k → HarmlessWord (ring k) (getD words k 0)
+  harmless-at k h accepted = rw (ring-follows k) at (h (answers-follow k ∙ accepted))
 
   -- ---- two points from one on at which no acknowledgement is in flight
 
   abbrev accepted : ℕ → Bool
-  accepted i = isAccepted (playBuffer (wordsAt old t words i) (getD words i 0) .answer)
+  accepted i = isAccepted (answerAt start words i)
 
   abbrev harmless : ℕ → Bool
-  harmless i = isHarmless (readAt old t words i) (eventOf (getD words i 0))
+  harmless i = isHarmless (readAt start words i) (eventOf (getD words i 0))
 
-  decides : (i : ℕ) → (harmless i ≡ true) ↔ Harmless (readAt old t words i) (eventOf (getD words i 0))
-  decides i = harmless-decides (readAt old t words i) (eventOf (getD words i 0))
+  decides : (i : ℕ) → (harmless i ≡ true) ↔ Harmless (readAt start words i) (eventOf (getD words i 0))
+  decides i = harmless-decides (readAt start words i) (eventOf (getD words i 0))
 
   abbrev listed : ℕ → Set
-  listed point i = leb point i && isUncovered old t words i
+  listed point i = leb point i && isUncovered start words i
 
   module _
       (point : ℕ)
-      (none : NoAcknowledgement (readAt old t words point))
+      (none : NoAcknowledgement (readAt start words point))
       (earlier later : ℕ)
       (from : point ≤ earlier)
       (on : earlier ≤ later)
       (within : later ≤ length words)
     where
       kept-later :
-          ((k : ℕ) → point ≤ k → k < later → AcceptedIsHarmless old t words k)
-          → (a b : ℕ) → Connected (readAt old t words earlier) a b → Connected (readAt old t words later) a b
+          ((k : ℕ) → point ≤ k → k < later → AcceptedIsHarmless start words k)
+          → (a b : ℕ) → Connected (readAt start words earlier) a b → Connected (readAt start words later) a b
       kept-later covered a b path =
           rw (ring-follows later)
-          (never-parted (λ y h. well-at later .node-well y .running-low h)
+          (never-parted (λ y h. invariant-at later .well .node-well y .running-low h)
           (intact-steps
           (steps-at point earlier from (omega arith) (λ k f l. harmless-at k (covered k f (omega arith))))
           (at-point (rw (ring-follows point) at none)))
@@ -151,8 +174,8 @@ module _ (old : List ℕ) (t : Table) (ok : openBuffer old t .answer ≡ 0) (wor
 
       -- if nothing were listed, all would be harmless
       parting :
-          (a b : ℕ) → Connected (readAt old t words earlier) a b → ¬ Connected (readAt old t words later) a b
-          → 0 < length (uncovered old t words point later)
+          (a b : ℕ) → Connected (readAt start words earlier) a b → ¬ Connected (readAt start words later) a b
+          → 0 < length (uncovered start words point later)
       parting a b path parted =
           decide (some later (listed point))
           (λ s. let p = some-out later (listed point) s in some-members later (listed point) (p .0) (record { below = p .1; within = p .2 }))
@@ -161,13 +184,13 @@ module _ (old : List ℕ) (t : Table) (ok : openBuffer old t .answer ≡ 0) (wor
           (λ h. clash (some-in later (listed point) k l (and-in (le-leb point k f) (and-in (ap isAccepted ok) (not-in h)))) s))
           a b path)))
 
-  uncovered-are : (point later : ℕ) → Each (λ i. (point ≤ i) × (i < later) × Uncovered old t words i) (uncovered old t words point later)
+  uncovered-are : (point later : ℕ) → Each (λ i. (point ≤ i) × (i < later) × Uncovered start words i) (uncovered start words point later)
   uncovered-are point later = each-imp are (members-are later (listed point))
     where
-      are : (i : ℕ) → Member later (listed point) i → (point ≤ i) × (i < later) × Uncovered old t words i
+      are : (i : ℕ) → Member later (listed point) i → (point ≤ i) × (i < later) × Uncovered start words i
       are i m =
-          let u = and-right (leb point i) (isUncovered old t words i) (m .within) in (
-            leb-true point i (and-left (leb point i) (isUncovered old t words i) (m .within)),
+          let u = and-right (leb point i) (isUncovered start words i) (m .within) in (
+            leb-true point i (and-left (leb point i) (isUncovered start words i) (m .within)),
             m .below,
             (
               accepted-is _ (and-left (accepted i) (not (harmless i)) u),
@@ -175,12 +198,12 @@ module _ (old : List ℕ) (t : Table) (ok : openBuffer old t .answer ≡ 0) (wor
             ),
           )
 
-  unbroken : Unbroken old t words
+  unbroken : Unbroken start words r
   unbroken =
       record {
-        words-follow = λ i h. words-follow i;
+        words-follow = λ i h. invariant-at i .encoded;
         ring-follows = λ i h. ring-follows i;
-        answers-follow = λ i h. answers-follow i (getD words i 0);
+        answers-follow = λ i h. answers-follow i;
         connection-kept = λ point in-list none harmless a b path later after-point within.
             kept-later point none point later (le-refl point) after-point within (λ k from l. harmless k from (omega arith)) a b path;
         connection-kept-later = kept-later;
@@ -189,4 +212,4 @@ module _ (old : List ℕ) (t : Table) (ok : openBuffer old t .answer ≡ 0) (wor
       }
 
 pub connectivity-preserved : ConnectivityPreserved
-connectivity-preserved old t ok words = unbroken old t ok words
+connectivity-preserved start r reached words = unbroken start r reached words

@@ -1,8 +1,8 @@
--- A buffer that holds the words of a well-formed ring follows the ring, call by call and over whole lists.
+-- A buffer that holds the words of a well-formed ring follows the ring, call by call.
 use mathlib.Core.Path.{_≡_, refl, ap, _∙_}
 use Prim.Native.Nat.{ℕ}
 use mathlib.Core.Bool.{Bool, true, false}
-use mathlib.Core.List.{List, [], _∷_}
+use mathlib.Core.List.{List}
 use lib.ListN.{length}
 use borrow.Author.Tests.{eq-eqb}
 use Rattle.model.specs.Choice.{if_then_else_}
@@ -12,8 +12,8 @@ use Rattle.model.specs.WellFormed.{WellFormed}
 use Rattle.model.specs.Answers.{firstOf, isAccepted}
 use Rattle.model.specs.Events.{eventOf}
 use Rattle.model.specs.Words.{ringLength, encode, decode, readsAsRing}
-use Rattle.model.specs.Play.{Played, after, playAnswer, playWord, playAll}
-use Rattle.model.specs.Buffer.{Written, openAnswer, openBuffer, bufferAnswer, playBuffer, playBufferAll}
+use Rattle.model.specs.Play.{Played, after, playAnswer, playWord}
+use Rattle.model.specs.Buffer.{Written, openAnswer, openBuffer, bufferAnswer, playBuffer}
 use Rattle.model.proofs.Words.{decoded-back, reads-out}
 use Rattle.model.proofs.RoundTrip.{round-trip}
 use Rattle.model.proofs.Decoded.{reads-well}
@@ -33,7 +33,6 @@ module _ (r : Ring) (g : WellFormed r) (w : ℕ) where
   answer-follows : bufferAnswer (encode r) w ≡ playAnswer r w
   answer-follows = reads-answer (encode r) w (encoded-reads r g) ∙ ap (λ (ρ : Ring). playAnswer ρ w) (round-trip r g)
 
-  -- one word
   pub follows : playBuffer (encode r) w ≡ written (playWord r w)
   unfolding playBuffer playWord
   follows = rw (answer-follows, round-trip r g) (go (isAccepted (playAnswer r w)))
@@ -42,13 +41,6 @@ module _ (r : Ring) (g : WellFormed r) (w : ℕ) where
           ≡ written (record { answer = playAnswer r w; ring = if b then after r (eventOf w) else r })
       go true = refl
       go false = refl
-
--- a list of words
-pub list-follows : (r : Ring) → WellFormed r → (words : List ℕ) → playBufferAll (encode r) words ≡ encode (playAll r words)
-unfolding playAll playBufferAll
-list-follows r g [] = refl
-list-follows r g (w ∷ words) =
-    ap (λ (q : Written). playBufferAll (q .words) words) (follows r g w) ∙ list-follows (playWord r w .ring) (word-well r w g) words
 
 -- ---- opening
 

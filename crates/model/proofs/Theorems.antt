@@ -13,12 +13,12 @@ use Rattle.model.specs.WellFormed.{WellFormedTable, WellFormed}
 use Rattle.model.specs.Words.{encode, decode, readsAsRing}
 use Rattle.model.specs.Answers.{isAccepted}
 use Rattle.model.specs.Events.{wordOf, eventOf, eventRefusals, eventAnswer, writeEvent, wordRefusals, wordAnswer, readEvent, readingOf}
-use Rattle.model.specs.Play.{stateRefusals}
-use Rattle.model.specs.Buffer.{openRefusals, openAnswer, openBuffer, playRefusals, bufferAnswer, playBuffer}
-use Rattle.model.specs.Questions.{leafsetRefusals, leafsetAnswer, leafsetOf, connectionRefusals, connectionAnswer, groupsRefusals, groupsAnswer}
+use Rattle.model.specs.Play.{stateRefusals, playAll}
+use Rattle.model.specs.Buffer.{ringRefusals, openRefusals, openAnswer, openBuffer, playRefusals, bufferAnswer, playBuffer, playBufferAll}
+use Rattle.model.specs.Questions.{leafsetRefusals, leafsetAnswer, leafsetOf, connectionRefusals, connectionAnswer, groupsAnswer}
 use Rattle.model.specs.Bench.{scriptRefusals, scriptAnswer}
 use Rattle.model.specs.Connection.{Connected, connected, groups, CountsGroups}
-use Rattle.model.specs.ConnectivityPreserved.{ConnectivityPreserved}
+use Rattle.model.specs.ConnectivityPreserved.{Reached, opened, Unbroken, ConnectivityPreserved}
 use Rattle.model.specs.declared.event.Event.{Event}
 use Rattle.model.specs.declared.event.Event.the-variants.{On, Off, Notice, Contact, Timer, Deliver, Lose}
 use Rattle.model.specs.declared.event.Reading.the-variants.{Read}
@@ -72,9 +72,9 @@ pub lowest-at-connection : (ws : List ℕ) (a b : ℕ) → LowestOf (connectionR
 unfolding connectionAnswer
 lowest-at-connection ws a b = lowest-given 0 (connectionRefusals ws a b) refl
 
-pub lowest-at-groups : (ws : List ℕ) → LowestOf (groupsRefusals ws) (groupsAnswer ws)
+pub lowest-at-groups : (ws : List ℕ) → LowestOf (ringRefusals ws) (groupsAnswer ws)
 unfolding groupsAnswer
-lowest-at-groups ws = lowest-given 0 (groupsRefusals ws) refl
+lowest-at-groups ws = lowest-given 0 (ringRefusals ws) refl
 
 pub lowest-at-script : (ws : List ℕ) → LowestOf (scriptRefusals ws) (scriptAnswer ws)
 unfolding scriptAnswer
@@ -174,6 +174,20 @@ groups-are-classes r g = grouped.counts-groups r (λ x h. g .node-well x .runnin
 pub no-groups : (r : Ring) → WellFormed r → (groups r ≡ 0) ↔ ((x : ℕ) → isRunning r x ≡ false)
 no-groups r g = grouped.none-run r (λ x h. g .node-well x .running-low h)
 
--- demand 3
+-- words that were reached read as a ring
+pub reached-reads : (start : List ℕ) (r : Ring) → Reached start r → readsAsRing start ≡ true
+reached-reads start r p = preserved.reached-reads p
+
+-- a list leaves a ring that was reached, so that another may go on from it
+pub list-reaches : (start : List ℕ) (r : Ring) → Reached start r → (words : List ℕ) → Reached (playBufferAll start words) (playAll r words)
+list-reaches start r p words = preserved.list-reaches p words
+
+-- demand 3, from every ring that was reached
 pub connectivity-preserved : ConnectivityPreserved
 connectivity-preserved = preserved.connectivity-preserved
+
+-- demand 3 in document 01's words: a list "starts from the ring that an accepted opening writes, for any L and keys"
+pub opening-preserves :
+    (old : List ℕ) (t : Table) → openBuffer old t .answer ≡ 0
+    → (words : List ℕ) → Unbroken (openBuffer old t .words) words (initial t)
+opening-preserves old t a words = connectivity-preserved (openBuffer old t .words) (initial t) (opened old t a) words

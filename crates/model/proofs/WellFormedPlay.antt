@@ -16,7 +16,7 @@ use Rattle.model.specs.Answers.{Refusal, firstOf, isAccepted}
 use Rattle.model.specs.Events.{eventOf, sameNode, wordRefusals}
 use Rattle.model.specs.Words.{between, sidesFit, inRange, keysDiffer}
 use Rattle.model.specs.Buffer.{wrongLength, openingRefusals, openAnswer}
-use Rattle.model.specs.Play.{setNode, removeMessage, act, after, refusals, leftRefusals, stateRefusals, playAnswer, playWord, playAll}
+use Rattle.model.specs.Play.{setNode, removeMessage, act, after, refusals, leftRefusals, stateRefusals, playAnswer, playWord}
 use Rattle.model.specs.declared.event.Event.{Event}
 use Rattle.model.specs.declared.event.Event.the-variants.{On, Off, Notice, Contact, Timer, Deliver, Lose}
 use Rattle.model.proofs.Fits.{sides-out}
@@ -174,12 +174,6 @@ word-well r w g =
     if-law WellFormed (isAccepted (playAnswer r w)) (after r (eventOf w)) r
     (λ a. let p : AcceptedWord r w = accepted-word r w a in event-well r (eventOf w) g (p .event .well .differ) (p .passed))
     (λ a. g)
-
--- and every list of words
-pub list-well : (r : Ring) (ws : List ℕ) → WellFormed r → WellFormed (playAll r ws)
-unfolding playAll
-list-well r [] g = g
-list-well r (w ∷ ws) g = list-well (playWord r w .ring) ws (word-well r w g)
 
 -- ---- the initial ring of a table that opens
 

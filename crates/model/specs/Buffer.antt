@@ -21,6 +21,10 @@ wrongLength ws = record { number = 1; applies = not (eqb (length ws) ringLength)
 abbrev pub notARing : List ℕ → Refusal
 notARing ws = record { number = 6; applies = not (readsAsRing ws) }
 
+-- of a lent ring alone: 1; 6
+abbrev pub ringRefusals : List ℕ → List Refusal
+ringRefusals ws = wrongLength ws ∷ notARing ws ∷ []
+
 -- "2. Opening: n or L out of range."
 abbrev pub outOfRange : Table → Refusal
 outOfRange t = record { number = 2; applies = not (inRange t) }

@@ -44,45 +44,53 @@ isHarmless r (Timer x k) = true
 isHarmless r (Deliver i) = true
 isHarmless r (Lose i) = true
 
--- "It starts from the ring that an accepted opening writes, for any L and keys. Each word is played on what the one before left, a
--- refused one changing nothing": a list of words, on a buffer opened over any old words
-module _ (old : List ℕ) (t : Table) (words : List ℕ) where
+-- A list starts from a ring that was reached: lent words, with the ring that the rules give for them.
+pub data Reached : List ℕ → Ring → Type 0 where
+  -- "It starts from the ring that an accepted opening writes, for any L and keys", over any old words
+  opened : (old : List ℕ) (t : Table) → openBuffer old t .answer ≡ 0 → Reached (openBuffer old t .words) (initial t)
+  -- "Each word is played on what the one before left, a refused one changing nothing, and nobody else writes the ring meanwhile."
+  played : {ws : List ℕ} {r : Ring} → Reached ws r → (w : ℕ) → Reached (playBuffer ws w .words) (playWord r w .ring)
+
+-- a list of words, played on the lent words `start`
+module _ (start words : List ℕ) where
   -- "A point is the start or the moment after one of the words": the lent words after the first i words
   abbrev pub wordsAt : ℕ → List ℕ
-  wordsAt i = playBufferAll (openBuffer old t .words) (take i words)
+  wordsAt i = playBufferAll start (take i words)
 
-  -- "its ring is the one that this paper's rules for events .. give for the words so far"
-  abbrev pub ringAt : ℕ → Ring
-  ringAt i = playAll (initial t) (take i words)
+  -- "its ring is the one that this paper's rules for events .. give for the words so far", from r, the ring of the start
+  abbrev pub ringAt : Ring → ℕ → Ring
+  ringAt r i = playAll r (take i words)
 
   -- "Running, held and travelling are read from that ring."
   abbrev pub readAt : ℕ → Ring
   readAt i = decode (wordsAt i)
 
+  -- "The answer of each call": of that which plays word i
+  abbrev pub answerAt : ℕ → ℕ
+  answerAt i = playBuffer (wordsAt i) (getD words i 0) .answer
+
   -- word i, if it is accepted, is the word of a harmless event
   abbrev pub AcceptedIsHarmless : ℕ → Type 0
-  AcceptedIsHarmless i = playBuffer (wordsAt i) (getD words i 0) .answer ≡ 0 → Harmless (readAt i) (eventOf (getD words i 0))
+  AcceptedIsHarmless i = answerAt i ≡ 0 → Harmless (readAt i) (eventOf (getD words i 0))
 
   -- word i is accepted, and is not the word of a harmless event
   abbrev pub Uncovered : ℕ → Type 0
-  Uncovered i = (playBuffer (wordsAt i) (getD words i 0) .answer ≡ 0) × ¬ Harmless (readAt i) (eventOf (getD words i 0))
+  Uncovered i = (answerAt i ≡ 0) × ¬ Harmless (readAt i) (eventOf (getD words i 0))
 
   -- a test for it
   abbrev pub isUncovered : ℕ → Bool
-  isUncovered i = isAccepted (playBuffer (wordsAt i) (getD words i 0) .answer) && not (isHarmless (readAt i) (eventOf (getD words i 0)))
+  isUncovered i = isAccepted (answerAt i) && not (isHarmless (readAt i) (eventOf (getD words i 0)))
 
   -- the places of all such words between two points, in rising order, computed: the first word of the list has place 0
   abbrev pub uncovered : ℕ → ℕ → List ℕ
   uncovered point later = members later (λ i. leb point i && isUncovered i)
 
-  pub record Unbroken : Type 0 where
+  pub record Unbroken (r : Ring) : Type 0 where
     -- "every lent word after it, equal what those rules give"
-    pub words-follow : (i : ℕ) → i ≤ length words → wordsAt i ≡ encode (ringAt i)
-    pub ring-follows : (i : ℕ) → i ≤ length words → readAt i ≡ ringAt i
+    pub words-follow : (i : ℕ) → i ≤ length words → wordsAt i ≡ encode (ringAt r i)
+    pub ring-follows : (i : ℕ) → i ≤ length words → readAt i ≡ ringAt r i
     -- "The answer of each call .. equal what those rules give"
-    pub answers-follow :
-        (i : ℕ) → i < length words
-        → playBuffer (wordsAt i) (getD words i 0) .answer ≡ playWord (ringAt i) (getD words i 0) .answer
+    pub answers-follow : (i : ℕ) → i < length words → answerAt i ≡ playWord (ringAt r i) (getD words i 0) .answer
     -- Take any point at which no replacement acknowledgement is in flight. Suppose that after it no on and no off is accepted, and
     -- that each notice accepted after it names a node that is off. Then any two nodes connected at that point are connected at
     -- every later point of the list.
@@ -113,6 +121,6 @@ module _ (old : List ℕ) (t : Table) (words : List ℕ) where
     -- the list has only such words
     pub uncovered-are : (point later : ℕ) → Each (λ i. (point ≤ i) × (i < later) × Uncovered i) (uncovered point later)
 
--- for any old words, any L and keys whose opening is accepted, and any list of words, those that are no event included
+-- from every ring that was reached, and for any list of words, those that are no event included
 abbrev pub ConnectivityPreserved : Type 0
-ConnectivityPreserved = (old : List ℕ) (t : Table) → openBuffer old t .answer ≡ 0 → (words : List ℕ) → Unbroken old t words
+ConnectivityPreserved = (start : List ℕ) (r : Ring) → Reached start r → (words : List ℕ) → Unbroken start words r

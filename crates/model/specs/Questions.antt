@@ -1,20 +1,20 @@
 -- The questions about a lent buffer: a node's leafset, whether two nodes are connected, and the number of groups.
 use Prim.Native.Nat.{ℕ}
 use mathlib.Core.Bool.{Bool, false}
-use mathlib.Core.List.{List, [], _∷_}
+use mathlib.Core.List.{List, [], _∷_, _++_}
 use Rattle.model.specs.Choice.{if_then_else_}
 use Rattle.model.specs.Sets.{toBits}
 use Rattle.model.specs.Leafset.{leafset}
 use Rattle.model.specs.Ring.{holds}
 use Rattle.model.specs.Answers.{Refusal, firstOf, isAccepted}
 use Rattle.model.specs.Words.{decode}
-use Rattle.model.specs.Buffer.{wrongLength, notARing}
+use Rattle.model.specs.Buffer.{ringRefusals}
 use Rattle.model.specs.Play.{noNode, nodeOff}
 use Rattle.model.specs.Connection.{connected, groups}
 
 -- "about one stand's leafset in its held set": refusals 1, 6, 7 and "8. .. or a question about one"
 abbrev pub leafsetRefusals : List ℕ → ℕ → List Refusal
-leafsetRefusals ws x = wrongLength ws ∷ notARing ws ∷ noNode (decode ws) x ∷ nodeOff (decode ws) x ∷ []
+leafsetRefusals ws x = ringRefusals ws ++ noNode (decode ws) x ∷ nodeOff (decode ws) x ∷ []
 
 unfoldable pub leafsetAnswer : List ℕ → ℕ → ℕ
 leafsetAnswer ws x = firstOf (leafsetRefusals ws x)
@@ -26,7 +26,7 @@ leafsetOf ws x = if isAccepted (leafsetAnswer ws x) then toBits 64 (leafset (dec
 -- "about two stands, which may be the same one"
 abbrev pub connectionRefusals : List ℕ → ℕ → ℕ → List Refusal
 connectionRefusals ws a b =
-    wrongLength ws ∷ notARing ws ∷ noNode (decode ws) a ∷ noNode (decode ws) b ∷ nodeOff (decode ws) a ∷ nodeOff (decode ws) b ∷ []
+    ringRefusals ws ++ noNode (decode ws) a ∷ noNode (decode ws) b ∷ nodeOff (decode ws) a ∷ nodeOff (decode ws) b ∷ []
 
 unfoldable pub connectionAnswer : List ℕ → ℕ → ℕ → ℕ
 connectionAnswer ws a b = firstOf (connectionRefusals ws a b)
@@ -35,13 +35,10 @@ connectionAnswer ws a b = firstOf (connectionRefusals ws a b)
 unfoldable pub connectionOf : List ℕ → ℕ → ℕ → Bool
 connectionOf ws a b = if isAccepted (connectionAnswer ws a b) then connected (decode ws) a b else false
 
--- "the number of connected groups of running stands": refusals 1 and 6
-abbrev pub groupsRefusals : List ℕ → List Refusal
-groupsRefusals ws = wrongLength ws ∷ notARing ws ∷ []
-
+-- about the ring as a whole: refusals 1 and 6
 unfoldable pub groupsAnswer : List ℕ → ℕ
-groupsAnswer ws = firstOf (groupsRefusals ws)
+groupsAnswer ws = firstOf (ringRefusals ws)
 
--- 0 where refused
+-- "the number of connected groups of running stands"; 0 where refused
 unfoldable pub groupsOf : List ℕ → ℕ
 groupsOf ws = if isAccepted (groupsAnswer ws) then groups (decode ws) else 0

@@ -28,7 +28,7 @@ same-length : tie.Need-same-length Inv-loop μ-loop
 same-length c = long _ (c .before .loop .inv .1 .still-reads) ∙ sym (long _ (c .before .before .before .before .before .pre))
 
 same-length-2 : tie.Need-same-length-2 Inv-loop μ-loop
-same-length-2 c = c .before .loop .inv .1 .as-many-places
+same-length-2 c = c .before .loop .inv .1 .places .as-many-places
 
 returns : tie.Need-returns Inv-loop μ-loop
 returns c =
