@@ -1,7 +1,7 @@
 -- The words of a ring, place by place: what writing a node, and writing the messages, leaves.
 use mathlib.Core.Path.{_≡_, refl, sym, ap, _∙_}
 use mathlib.Core.Logic.{_≢_}
-use mathlib.Core.Bool.{Bool, true, false, _&&_}
+use mathlib.Core.Bool.{Bool, true, false, _&&_, and-false}
 use mathlib.Core.List.{List}
 use Prim.Native.Nat.{ℕ, _+_, _<_, _≤_}
 use native.Mathlib.Omega.{arith}
@@ -38,19 +38,15 @@ head-at ρ = refl
 
 -- ---- what is a pair, and what is none
 
-and-no : (a : Bool) → (a && false) ≡ false
-and-no true = refl
-and-no false = refl
-
 module _ (t : Table) (x z : ℕ) where
   pub pair-yes : x < size t → z < size t → z ≢ x → isPair t x z ≡ true
   pair-yes hx hz d = pair-in t x z hx (record { low = hz; differs = d })
 
   pub pair-high : size t ≤ z → isPair t x z ≡ false
-  pair-high h = rw (le-ltb z (size t) h, and-no (ltb x (size t)))
+  pair-high h = rw (le-ltb z (size t) h, and-false (ltb x (size t)))
 
   pub pair-same : z ≡ x → isPair t x z ≡ false
-  pair-same e = rw (eq-eqb x z (sym e), and-no (ltb x (size t) && ltb z (size t)))
+  pair-same e = rw (eq-eqb x z (sym e), and-false (ltb x (size t) && ltb z (size t)))
 
 -- ---- a node written: its own places anew, the others kept
 
