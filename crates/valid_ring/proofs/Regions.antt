@@ -1,5 +1,5 @@
 -- Words read as a ring exactly where each of their regions does.
-use mathlib.Core.Path.{_≡_, refl, sym, ap, _∙_}
+use mathlib.Core.Path.{_≡_, sym, ap, _∙_}
 use Prim.Native.Nat.{ℕ, zero, suc, _+_, _≤_, _<_}
 use native.Mathlib.Omega.{arith}
 use native.Mathlib.Nat.{add-zero}
@@ -22,7 +22,8 @@ use Rattle.model.proofs.Words.{node-at, pair-at, message-at, every-place, pair-
 use Rattle.valid_messages.specs.Messages.{messageReads, messagesRead}
 use Rattle.valid_nodes.specs.Nodes.{clear, sizeOf, countOf, keyAt, clockAt, headReads, nodeReads, nodesRead}
 use Rattle.valid_pairs.specs.Pairs.{linkAt, spareAt, linkReads, spareReads, pairReads, rowReads, pairsRead}
-use Rattle.valid_ring.specs.Regions.{regionsRead}
+use Rattle.valid_ring.specs.Regions.{regionTests, regionsRead}
+use Rattle.valid_messages.proofs.MessageTests.{joined-every}
 use Rattle.valid_nodes.proofs.Gather.{clear-in, clear-out}
 use Rattle.valid_nodes.proofs.NodeTests.{size-is, key-is}
 
@@ -255,15 +256,9 @@ module _ (ws : List ℕ) where
   -- ---- from the regions to the whole
 
   module _ (r : regionsRead ws ≡ true) where
-    regions : Each (λ b. b ≡ true)
-        (headReads (at ws 0)
-        ∷ nodesRead ws (sizeOf ws)
-        ∷ keysDiffer (decodeTable ws)
-        ∷ pairsRead ws (sizeOf ws)
-        ∷ messagesRead ws (decodeTable ws) (countOf ws)
-        ∷ [])
+    regions : Each (λ b. b ≡ true) (regionTests ws)
     unfolding regionsRead
-    regions = every-out _ r
+    regions = every-out (regionTests ws) r
 
     in-head : Each (λ b. b ≡ true)
         (eqb (at ws 0) (headWord (bits 0 4 (at ws 0)) (sizeOf ws) (countOf ws))
@@ -460,11 +455,4 @@ module _ (ws : List ℕ) (long : length ws ≡ ringLength) where
   pub after-head : headReads (at ws 0) ≡ true
       → (nodesRead ws (sizeOf ws) && keysDiffer (decodeTable ws) && pairsRead ws (sizeOf ws) && messagesRead ws (decodeTable ws) (countOf ws)) ≡ readsAsRing ws
   unfolding regionsRead
-  after-head e = rw (regions-read ws long, e) (regroup (nodesRead ws (sizeOf ws)) (keysDiffer (decodeTable ws)) (pairsRead ws (sizeOf ws)) (messagesRead ws (decodeTable ws) (countOf ws)))
-    where
-      regroup : (a b c d : Bool) → (a && b && c && d) ≡ every (a ∷ b ∷ c ∷ d ∷ [])
-      regroup false b c d = refl
-      regroup true false c d = refl
-      regroup true true false d = refl
-      regroup true true true false = refl
-      regroup true true true true = refl
+  after-head e = rw (regions-read ws long, e) (joined-every (nodesRead ws (sizeOf ws)) (keysDiffer (decodeTable ws) ∷ pairsRead ws (sizeOf ws) ∷ messagesRead ws (decodeTable ws) (countOf ws) ∷ []))
