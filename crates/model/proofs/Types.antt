@@ -9,7 +9,7 @@ use lib.ListN.{List·getD-eq-default}
 use lib.Dec.{eqb}
 use borrow.Author.Tests.{eqb-true}
 use Rattle.model.specs.Sets.{Set, toBits, ofBits}
-use Rattle.model.specs.Types.{Uses, nothingUsed, usedByType, types, usesOf, usesView, usesSubject, namesSpare, usesStamp, pongAskInv, pongAskRepl, pingReplace, pongReplace, pingDeloopy}
+use Rattle.model.specs.Types.{Uses, nothingUsed, usedByType, types, usesOf, usesView, usesSubject, namesSpare, usesStamp}
 use Rattle.model.specs.Words.{between, isType}
 use Rattle.model.proofs.Laws.{clash, between-high}
 use Rattle.model.proofs.Bits.{bits-back}
@@ -36,18 +36,18 @@ column used S none e low k = ap (λ (R : Set). R k) (sym (bits-back 16 (λ k. us
 -- subject, only type 8 may have 64 there"
 pub record TypesUse : Type 0 where
   pub number : types ≡ 12
-  pub view : (k : ℕ) → usesView k ≡ eqb k pongAskInv
-  pub subject : (k : ℕ) → usesSubject k ≡ between pongAskRepl pingDeloopy k
-  pub stamp : (k : ℕ) → usesStamp k ≡ between pingReplace pongReplace k
-  pub spare : (k : ℕ) → namesSpare k ≡ eqb k pongAskRepl
+  pub view : (k : ℕ) → usesView k ≡ eqb k 4
+  pub subject : (k : ℕ) → usesSubject k ≡ between 8 11 k
+  pub stamp : (k : ℕ) → usesStamp k ≡ between 9 10 k
+  pub spare : (k : ℕ) → namesSpare k ≡ eqb k 8
 
 pub types-use : TypesUse
 unfolding usedByType toBits
 types-use =
     record {
       number = refl;
-      view = column (λ u. u .view) (λ k. eqb k pongAskInv) refl refl (λ k e. omega (arith, eqb-true k pongAskInv e));
-      subject = column (λ u. u .subject) (between pongAskRepl pingDeloopy) refl refl (λ k e. omega (arith, between-high pongAskRepl pingDeloopy k e));
-      stamp = column (λ u. u .stamp) (between pingReplace pongReplace) refl refl (λ k e. omega (arith, between-high pingReplace pongReplace k e));
-      spare = column (λ u. u .spare) (λ k. eqb k pongAskRepl) refl refl (λ k e. omega (arith, eqb-true k pongAskRepl e));
+      view = column (λ u. u .view) (λ k. eqb k 4) refl refl (λ k e. omega (arith, eqb-true k 4 e));
+      subject = column (λ u. u .subject) (between 8 11) refl refl (λ k e. omega (arith, between-high 8 11 k e));
+      stamp = column (λ u. u .stamp) (between 9 10) refl refl (λ k e. omega (arith, between-high 9 10 k e));
+      spare = column (λ u. u .spare) (λ k. eqb k 8) refl refl (λ k e. omega (arith, eqb-true k 8 e));
     }

@@ -10,7 +10,7 @@ use borrow.Author.Tests.{eq-eqb, ne-eqb, eqb-true, eqb-false}
 use Rattle.model.specs.Sets.{Set, empty, with, union, members, some}
 use Rattle.model.specs.Leafset.{Table, size, leafset, closest, successor, passesZero}
 use Rattle.model.specs.Ring.{Own, Message, cleared}
-use Rattle.model.specs.Types.{Uses, nothingUsed, subjectUsed, usedByType, usesOf, usesSubject, namesSpare, usesStamp, pingContact, pongContact, pingAskInv, pongAskInv, pingInvite, pongInvite, pingAskRepl, pongAskRepl, pingReplace, pongReplace, pingDeloopy, pongDeloopy}
+use Rattle.model.specs.Types.{Uses, nothingUsed, viewUsed, subjectUsed, spareUsed, subjectAndStampUsed, usedByType, usesOf, usesSubject, namesSpare, pingContact, pongContact, pingAskInv, pongAskInv, pingInvite, pongInvite, pingAskRepl, pongAskRepl, pingReplace, pongReplace, pingDeloopy, pongDeloopy}
 use Rattle.model.specs.Words.{isType}
 use Rattle.model.specs.Steps.{Effect, stamped, naming, plain, viewing, setCandidates, setCommit, setSpare, addCandidates, addCandidate, hold, release, contact, notice, timer0, timer1, timer2, timer3, timer4, timer, onPingContact, onPongContact, onPingAskInv, onPongAskInv, onPingInvite, onPongInvite, onPingAskRepl, onPongAskRepl, onPingReplace, onPongReplace, onPingDeloopy, onPongDeloopy, deliver}
 use Rattle.model.proofs.Laws.{clash, and-left, and-right, and-in, or-right, or-case, or-none-left, or-none-right, not-in, not-out, not-out-false, is-false, if-law, put-law}
@@ -135,57 +135,55 @@ release-held : (z y : ℕ) (o : Own) → (y ≡ z → ⊥) → o .held y ≡ tru
 unfolding release
 release-held z y o d h = and-in h (not-in (ne-eqb y z d))
 
--- ---- messages
+-- ---- messages: a law for each row of the table of types
 
 module _ (n k x y : ℕ) (known : isType k ≡ true) (hx : x < n) (hy : Other n x y) where
-  stamped-well : (z time : ℕ)
-      → (usesSubject k ≡ false → z ≡ 64) → (usesSubject k ≡ true → namesSpare k ≡ false → z < n) → (namesSpare k ≡ true → Spare n y x z)
-      → (usesStamp k ≡ false → time ≡ 0) → time ≤ 16777215
-      → WellFormedMessage n (stamped k x y z time)
-  stamped-well z time a b c d e =
+  message-well : (used : Uses) → usesOf k ≡ used → (z time : ℕ) (S : Set)
+      → (used .subject ≡ false → z ≡ 64) → (used .subject ≡ true → used .spare ≡ false → z < n) → (used .spare ≡ true → Spare n y x z)
+      → (used .stamp ≡ false → time ≡ 0) → time ≤ 16777215
+      → ((v : ℕ) → S v ≡ true → used .view ≡ true) → ((v : ℕ) → S v ≡ true → Other n y v)
+      → WellFormedMessage n (record { type = k; sender = x; receiver = y; subject = z; stamp = time; view = S })
+  message-well used u z time S a b c d e f g =
+      let subject : used .subject ≡ usesSubject k = ap (λ (v : Uses). v .subject) (sym u) in
+      let is-spare : used .spare ≡ namesSpare k = ap (λ (v : Uses). v .spare) (sym u) in
       record {
         type-known = known;
         sender-low = hx;
         receiver-low = hy .low;
         ends-differ = λ i. hy .differs (sym i);
-        subject-none = a;
-        subject-low = b;
-        subject-spare = c;
-        stamp-none = d;
+        subject-none = λ i. a (subject ∙ i);
+        subject-low = λ i j. b (subject ∙ i) (is-spare ∙ j);
+        subject-spare = λ i. c (is-spare ∙ i);
+        stamp-none = λ i. d (ap (λ (v : Uses). v .stamp) (sym u) ∙ i);
         stamp-high = e;
-        view-type = λ v i. clash i refl;
-        view-other = λ v i. clash i refl;
+        view-type = λ v i. ap (λ (v : Uses). v .view) u ∙ f v i;
+        view-other = g;
       }
 
-  -- of a type that uses nothing
   plain-well : usesOf k ≡ nothingUsed → WellFormedMessage n (plain k x y)
-  plain-well u = stamped-well 64 0 (λ e. refl) (λ e d. clash e (ap (λ (v : Uses). v .subject) u)) (λ e. clash e (ap (λ (v : Uses). v .spare) u)) (λ e. refl) (omega arith)
+  plain-well u =
+      message-well nothingUsed u 64 0 empty (λ e. refl) (λ e d. clash e refl) (λ e. clash e refl) (λ e. refl) (omega arith)
+      (λ v i. clash i refl) (λ v i. clash i refl)
 
-  -- of a type that uses the subject, which is no spare
+  viewing-well : (S : Set) → usesOf k ≡ viewUsed → ((z : ℕ) → S z ≡ true → Other n y z) → WellFormedMessage n (viewing k x y S)
+  viewing-well S u f =
+      message-well viewUsed u 64 0 S (λ e. refl) (λ e d. clash e refl) (λ e. clash e refl) (λ e. refl) (omega arith)
+      (λ v i. refl) f
+
   naming-well : (z : ℕ) → usesOf k ≡ subjectUsed → z < n → WellFormedMessage n (naming k x y z)
-  naming-well z u h = stamped-well z 0 (λ e. clash (ap (λ (v : Uses). v .subject) u) e) (λ e f. h) (λ e. clash e (ap (λ (v : Uses). v .spare) u)) (λ e. refl) (omega arith)
+  naming-well z u h =
+      message-well subjectUsed u z 0 empty (λ e. clash refl e) (λ e d. h) (λ e. clash e refl) (λ e. refl) (omega arith)
+      (λ v i. clash i refl) (λ v i. clash i refl)
 
-offer-well : (n x y z : ℕ) → x < n → Other n x y → Spare n y x z → WellFormedMessage n (naming pongAskRepl x y z)
-unfolding usedByType
-offer-well n x y z hx hy s =
-    stamped-well n pongAskRepl x y refl hx hy z 0 (λ e. clash refl e) (λ e d. clash refl d) (λ e. s) (λ e. refl) (omega arith)
+  offering-well : (z : ℕ) → usesOf k ≡ spareUsed → Spare n y x z → WellFormedMessage n (naming k x y z)
+  offering-well z u s =
+      message-well spareUsed u z 0 empty (λ e. clash refl e) (λ e d. clash refl d) (λ e. s) (λ e. refl) (omega arith)
+      (λ v i. clash i refl) (λ v i. clash i refl)
 
-view-well : (n x y : ℕ) (S : Set) → x < n → Other n x y → ((z : ℕ) → S z ≡ true → Other n y z) → WellFormedMessage n (viewing pongAskInv x y S)
-unfolding usedByType
-view-well n x y S hx hy f =
-    record {
-      type-known = refl;
-      sender-low = hx;
-      receiver-low = hy .low;
-      ends-differ = λ i. hy .differs (sym i);
-      subject-none = λ e. refl;
-      subject-low = λ e d. clash e refl;
-      subject-spare = λ e. clash e refl;
-      stamp-none = λ e. refl;
-      stamp-high = omega arith;
-      view-type = λ v i. refl;
-      view-other = f;
-    }
+  stamped-well : (z time : ℕ) → usesOf k ≡ subjectAndStampUsed → z < n → time ≤ 16777215 → WellFormedMessage n (stamped k x y z time)
+  stamped-well z time u h l =
+      message-well subjectAndStampUsed u z time empty (λ e. clash refl e) (λ e d. h) (λ e. clash e refl) (λ e. clash refl e) l
+      (λ v i. clash i refl) (λ v i. clash i refl)
 
 -- ---- what a step leaves
 
@@ -257,8 +255,7 @@ module _ (t : Table) (gt : WellFormedTable t) (now : ℕ) (positive : 0 < now) (
               (λ z e.
               let h : o .held z ≡ true = outside-held z (and-left (o .held z && not (leafset t me (o .held) z)) (not (eqb (o .spare z) 64)) e) in
               let s : Other (size t) me (o .spare z) = real-spare (not-out (eqb (o .spare z) 64) (and-right (o .held z && not (leafset t me (o .held) z)) (not (eqb (o .spare z) 64)) e)) (g .spare-other z) in
-              stamped-well (size t) pingReplace me (o .spare z) refl low s z now
-              (λ i. clash refl i) (λ i d. g .held-other z h .low) (λ i. clash i refl) (λ i. clash refl i) high);
+              stamped-well (size t) pingReplace me (o .spare z) refl low s z now refl (g .held-other z h .low) high);
         }
 
     -- the successor of a node that holds somebody
@@ -317,12 +314,12 @@ module _ (t : Table) (gt : WellFormedTable t) (now : ℕ) (positive : 0 < now) (
     on-pong-contact-well = record { own-well = hold-well (size t) me now o g a from positive; sent-well = nil }
 
     on-ping-ask-inv-well : Good (onPingAskInv t me now o m)
-    unfolding onPingAskInv
+    unfolding onPingAskInv usedByType
     on-ping-ask-inv-well =
         record {
           own-well = add-candidate-well (size t) me now o g a from;
           sent-well = cons
-              (view-well (size t) me a (leafset t a (o .held)) low from
+              (viewing-well (size t) pongAskInv me a refl low from (leafset t a (o .held)) refl
               (λ z e. record { low = g .held-other z (leafset-within t a (o .held) z e) .low; differs = leafset-other t a (o .held) z e }))
               nil;
         }
@@ -343,11 +340,11 @@ module _ (t : Table) (gt : WellFormedTable t) (now : ℕ) (positive : 0 < now) (
         (λ e. quiet-well)
 
     on-ping-ask-repl-well : Good (onPingAskRepl t me now o m)
-    unfolding onPingAskRepl
+    unfolding onPingAskRepl usedByType
     on-ping-ask-repl-well =
         record {
           own-well = g;
-          sent-well = cons (offer-well (size t) me a (closest t me (o .held) a) low from (closest-spare t me (o .held) a)) nil;
+          sent-well = cons (offering-well (size t) pongAskRepl me a refl low from (closest t me (o .held) a) refl (closest-spare t me (o .held) a)) nil;
         }
 
     on-pong-ask-repl-well : m .type ≡ pongAskRepl → Good (onPongAskRepl t me now o m)
@@ -364,8 +361,7 @@ module _ (t : Table) (gt : WellFormedTable t) (now : ℕ) (positive : 0 < now) (
         (λ e. record {
           own-well = commit-well (size t) me now o g (m .subject) now e positive (le-refl now);
           sent-well = cons
-              (stamped-well (size t) pongReplace me a refl low from (m .subject) (m .stamp)
-              (λ i. clash refl i) (λ i d. g .held-other (m .subject) e .low) (λ i. clash i refl) (λ i. clash refl i) (gm .stamp-high))
+              (stamped-well (size t) pongReplace me a refl low from (m .subject) (m .stamp) refl (g .held-other (m .subject) e .low) (gm .stamp-high))
               nil;
         })
         (λ e. quiet-well)
