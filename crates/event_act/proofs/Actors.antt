@@ -15,6 +15,7 @@ use Rattle.model.specs.declared.node.NodeRecord.{NodeRecord}
 use Rattle.model.proofs.Answers.{none-applies}
 use Rattle.model.proofs.Decoded.{reads-well}
 use Rattle.model.proofs.Lists.{first, rest}
+use Rattle.model.proofs.RoundTrip.{spare-high}
 use Rattle.ring_pairs.specs.Loaded.{LoadedNode}
 use Rattle.records.specs.Effects.{OwnFits}
 use Rattle.records.proofs.WellFormed as protocol
@@ -51,4 +52,4 @@ module _ (ws : List ℕ) (x : ℕ) (reads : readsAsRing ws ≡ true) (q : NodeRe
   loaded-fits = protocol.own-fits q (few ws reads) (clock-high ws reads x) (loaded .room .commit-long) (loaded .room .spare-long) well
 
   pub loaded-spare : (z : ℕ) → spareAt q z ≤ 64
-  loaded-spare z = protocol.spare-high (few ws reads) (well .spare-other z)
+  loaded-spare z = spare-high (few ws reads) (well .spare-other z)

@@ -14,7 +14,8 @@ use Rattle.model.specs.Sets.{Set, with, put, members, some, noneNode}
 use Rattle.model.specs.Leafset.{Table, size, leafset, passesZero}
 use Rattle.model.specs.Ring.{Ring, Own, Node, Message, blank, isRunning, holds, messageAt, initial}
 use Rattle.model.specs.WellFormed.{Spare, none, spare, WellFormedMessage, WellFormed, Each, nil, cons}
-use Rattle.model.specs.Steps.{pingReplace, pongReplace, Effect, stamped, plain, setCandidates, setCommit, hold, release, invited, outside, contact, notice, timer0, timer1, timer2, timer3, timer4, timer, onPingContact, onPongContact, onPingAskInv, onPongAskInv, onPingInvite, onPongInvite, onPingAskRepl, onPongAskRepl, onPingReplace, onPongReplace, onPingDeloopy, onPongDeloopy, deliver}
+use Rattle.model.specs.Types.{pingReplace, pongReplace}
+use Rattle.model.specs.Steps.{Effect, stamped, plain, setCandidates, setCommit, hold, release, invited, outside, contact, notice, timer0, timer1, timer2, timer3, timer4, timer, onPingContact, onPongContact, onPingAskInv, onPongAskInv, onPingInvite, onPongInvite, onPingAskRepl, onPongAskRepl, onPingReplace, onPongReplace, onPingDeloopy, onPongDeloopy, deliver}
 use Rattle.model.specs.Play.{setNode, setMessages, removeMessage, act, after}
 use Rattle.model.specs.ConnectivityPreserved.{Harmless}
 use Rattle.model.specs.declared.event.Event.{Event}

@@ -1,19 +1,20 @@
 -- What words that read as a ring decode to is a well-formed ring.
-use mathlib.Core.Path.{_≡_, sym, ap, subst}
+use mathlib.Core.Path.{_≡_, sym, subst}
 use Prim.Native.Nat.{ℕ, _+_, _*_, _^_, _≤_, _<_}
 use native.Mathlib.Omega.{arith}
 use mathlib.Core.Bool.{Bool, true, false, not, _&&_, _||_}
 use mathlib.Core.List.{List, [], _∷_}
 use lib.ListN.{length, getD}
 use lib.Dec.{ltb, leb, eqb}
-use borrow.Author.Tests.{le-ltb, ltb-true, leb-true, eqb-true, eqb-false, eq-eqb}
+use borrow.Author.Tests.{le-ltb, ltb-true, leb-true, eqb-true, eqb-false}
 use Rattle.model.specs.Choice.{if_then_else_, _⇒_, every}
 use Rattle.model.specs.Sets.{all}
 use Rattle.model.specs.Leafset.{Table, size, key}
 use Rattle.model.specs.Ring.{Own, Node, Message, blank, messageAt}
 use Rattle.model.specs.Fields.{bits}
 use Rattle.model.specs.WellFormed.{WellFormedTable, Spare, none, spare, WellFormedOwn, WellFormedNode, WellFormedMessage, WellFormed, Each}
-use Rattle.model.specs.Words.{isPair, nodePlace, messagePlace, decodeTable, decodeOwn, decodeNode, decodeMessage, decode, between, sidesFit, inRange, keysDiffer, nodeOrNone, pairFits, nodeFits, usesView, usesSubject, usesStamp, subjectFits, viewFits, messageFits, ringFits, readsAsRing}
+use Rattle.model.specs.Types.{usesView, usesSubject, namesSpare, usesStamp}
+use Rattle.model.specs.Words.{isPair, nodePlace, messagePlace, decodeTable, decodeOwn, decodeNode, decodeMessage, decode, between, sidesFit, inRange, keysDiffer, nodeOrNone, pairFits, nodeFits, subjectFits, messageTests, messageFits, ringFits, readsAsRing}
 use Rattle.model.proofs.Fits.{sides-out}
 use Rattle.model.proofs.Laws.{clash, and-left, and-right, or-case, or-left, or-right, implies-out, not-out, not-in, between-low, between-high, every-out, then-out, else-out, decide, is-false, if-law, all-out, length-tabulate, getD-tabulate}
 use Rattle.model.proofs.Lists.{first, rest, each-of}
@@ -56,27 +57,23 @@ pair-facts t s x z p =
 message-facts : (t : Table) (m : Message) → messageFits t m ≡ true → m .stamp ≤ 16777215 → ((y : ℕ) → m .view y ≡ true → y < 64) → WellFormedMessage (size t) m
 unfolding messageFits
 message-facts t m p stamp view =
-    let q = every-out
-    (between 1 12 (m .type) ∷ ltb (m .sender) (size t) ∷ ltb (m .receiver) (size t) ∷ not (eqb (m .sender) (m .receiver)) ∷ subjectFits t m
-    ∷ (eqb (m .type) 8 ⇒ not (eqb (m .subject) (m .sender)) && not (eqb (m .subject) (m .receiver)))
-    ∷ (usesStamp (m .type) || eqb (m .stamp) 0) ∷ viewFits t m ∷ []) p in
+    let q = every-out (messageTests t m) p in
     let seen : (y : ℕ) → m .view y ≡ true → Each (λ b. b ≡ true) (named y) =
     λ y e. every-out (named y) (implies-out (m .view y) (every (named y)) (all-out 64 (λ v. m .view v ⇒ every (named v)) (first (rest (rest (rest (rest (rest (rest (rest q)))))))) y (view y e)) e) in
     record {
-      type-low = between-low 1 12 (m .type) (first q);
-      type-high = between-high 1 12 (m .type) (first q);
+      type-known = first q;
       sender-low = ltb-true (m .sender) (size t) (first (rest q));
       receiver-low = ltb-true (m .receiver) (size t) (first (rest (rest q)));
       ends-differ = eqb-false (m .sender) (m .receiver) (not-out (eqb (m .sender) (m .receiver)) (first (rest (rest (rest q)))));
       subject-none = λ e. eqb-true (m .subject) 64 (else-out (usesSubject (m .type)) used (eqb (m .subject) 64) (first (rest (rest (rest (rest q))))) e);
-      subject-low = λ e d. or-case (ltb (m .subject) (size t)) (eqb (m .type) 8 && eqb (m .subject) 64) (then-out (usesSubject (m .type)) used (eqb (m .subject) 64) (first (rest (rest (rest (rest q))))) e)
+      subject-low = λ e d. or-case (ltb (m .subject) (size t)) (namesSpare (m .type) && eqb (m .subject) 64) (then-out (usesSubject (m .type)) used (eqb (m .subject) 64) (first (rest (rest (rest (rest q))))) e)
           (λ h. ltb-true (m .subject) (size t) h)
-          (λ h. absurd (d (eqb-true (m .type) 8 (and-left (eqb (m .type) 8) (eqb (m .subject) 64) h))));
-      subject-spare = λ e. eight e (first (rest (rest (rest (rest q)))))
-          (implies-out (eqb (m .type) 8) (not (eqb (m .subject) (m .sender)) && not (eqb (m .subject) (m .receiver))) (first (rest (rest (rest (rest (rest q)))))) (eq-eqb (m .type) 8 e));
+          (λ h. clash (and-left (namesSpare (m .type)) (eqb (m .subject) 64) h) d);
+      subject-spare = λ e. of-spare (first (rest (rest (rest (rest q)))))
+          (implies-out (namesSpare (m .type)) (not (eqb (m .subject) (m .sender)) && not (eqb (m .subject) (m .receiver))) (first (rest (rest (rest (rest (rest q)))))) e);
       stamp-none = λ e. or-case (usesStamp (m .type)) (eqb (m .stamp) 0) (first (rest (rest (rest (rest (rest (rest q))))))) (λ h. clash h e) (λ h. eqb-true (m .stamp) 0 h);
       stamp-high = stamp;
-      view-type = λ y e. eqb-true (m .type) 4 (first (seen y e));
+      view-type = λ y e. first (seen y e);
       view-other = λ y e. record {
         low = ltb-true y (size t) (first (rest (seen y e)));
         differs = eqb-false y (m .receiver) (not-out (eqb y (m .receiver)) (first (rest (rest (seen y e)))));
@@ -87,16 +84,21 @@ message-facts t m p stamp view =
     named y = usesView (m .type) ∷ ltb y (size t) ∷ not (eqb y (m .receiver)) ∷ []
 
     used : Bool
-    used = ltb (m .subject) (size t) || (eqb (m .type) 8 && eqb (m .subject) 64)
+    used = ltb (m .subject) (size t) || (namesSpare (m .type) && eqb (m .subject) 64)
 
-    eight : m .type ≡ 8 → subjectFits t m ≡ true → (not (eqb (m .subject) (m .sender)) && not (eqb (m .subject) (m .receiver))) ≡ true
+    node-or-none : subjectFits t m ≡ true → nodeOrNone t (m .subject) ≡ true
+    node-or-none f =
+        decide (usesSubject (m .type))
+        (λ u. or-case (ltb (m .subject) (size t)) (namesSpare (m .type) && eqb (m .subject) 64)
+        (then-out (usesSubject (m .type)) used (eqb (m .subject) 64) f u)
+        (or-left (eqb (m .subject) 64))
+        (λ h. or-right (ltb (m .subject) (size t)) (and-right (namesSpare (m .type)) (eqb (m .subject) 64) h)))
+        (λ u. or-right (ltb (m .subject) (size t)) (else-out (usesSubject (m .type)) used (eqb (m .subject) 64) f u))
+
+    of-spare : subjectFits t m ≡ true → (not (eqb (m .subject) (m .sender)) && not (eqb (m .subject) (m .receiver))) ≡ true
         → Spare (size t) (m .receiver) (m .sender) (m .subject)
-    eight e f d =
-        is-spare t (m .receiver) (m .sender) (m .subject)
-        (or-case (ltb (m .subject) (size t)) (eqb (m .type) 8 && eqb (m .subject) 64)
-        (then-out (usesSubject (m .type)) used (eqb (m .subject) 64) f (ap usesSubject e))
-        (λ h. or-left (eqb (m .subject) 64) h)
-        (λ h. or-right (ltb (m .subject) (size t)) (and-right (eqb (m .type) 8) (eqb (m .subject) 64) h)))
+    of-spare f d =
+        is-spare t (m .receiver) (m .sender) (m .subject) (node-or-none f)
         (not-out (eqb (m .subject) (m .receiver)) (and-right (not (eqb (m .subject) (m .sender))) (not (eqb (m .subject) (m .receiver))) d))
         (not-out (eqb (m .subject) (m .sender)) (and-left (not (eqb (m .subject) (m .sender))) (not (eqb (m .subject) (m .receiver))) d))
 

@@ -9,6 +9,7 @@ use borrow.Author.Tests.{leb-true}
 use Rattle.model.specs.Choice.{if_then_else_}
 use Rattle.model.specs.Sets.{all, empty, put, ofBits, noneNode}
 use Rattle.model.specs.Leafset.{Table, key}
+use Rattle.model.specs.Types.{usedByType}
 use Rattle.model.specs.Ring.{Own, Node, Message, Ring, cleared}
 use Rattle.model.specs.Steps.{setCommit, setSpare}
 use Rattle.model.specs.Words.{keysDiffer}
@@ -63,17 +64,16 @@ off-well x =
     }
 
 message-well : WellFormedMessage 5 acknowledgement
-unfolding acknowledgement
+unfolding acknowledgement usedByType
 message-well =
     record {
-      type-low = omega arith;
-      type-high = omega arith;
+      type-known = refl;
       sender-low = omega arith;
       receiver-low = omega arith;
       ends-differ = λ e. omega arith;
       subject-none = λ e. clash refl e;
       subject-low = λ e d. omega arith;
-      subject-spare = λ e. absurd (omega arith);
+      subject-spare = λ e. clash e refl;
       stamp-none = λ e. clash refl e;
       stamp-high = omega arith;
       view-type = λ y e. clash e refl;

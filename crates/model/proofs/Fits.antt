@@ -2,18 +2,18 @@
 use mathlib.Core.Path.{_≡_, refl, sym, ap, _∙_}
 use Prim.Native.Nat.{ℕ, _≤_, _<_}
 use native.Mathlib.Omega.{arith}
-use native.Mathlib.Decide.{ℕ-discrete}
 use mathlib.Core.Bool.{Bool, true, false, not, _&&_, _||_}
 use mathlib.Core.List.{[], _∷_}
 use lib.ListN.{length}
 use lib.Dec.{ltb, eqb}
-use borrow.Author.Tests.{lt-ltb, le-leb, eq-eqb, ne-eqb, eqb-true}
+use borrow.Author.Tests.{lt-ltb, le-leb, eq-eqb, ne-eqb}
 use Rattle.model.specs.Choice.{_⇒_, every}
 use Rattle.model.specs.Sets.{all}
 use Rattle.model.specs.Leafset.{Table, size}
 use Rattle.model.specs.Ring.{Node, Message, Ring, blank, messageAt}
 use Rattle.model.specs.WellFormed.{WellFormedSides, WellFormedTable, Spare, none, spare, WellFormedOwn, WellFormedNode, WellFormedMessage, WellFormed, nil, cons}
-use Rattle.model.specs.Words.{isPair, encode, decode, sidesFit, inRange, nodeOrNone, pairFits, nodeFits, usesView, usesSubject, usesStamp, subjectFits, viewFits, messageFits, ringFits, readsAsRing}
+use Rattle.model.specs.Types.{usesView, usesSubject, namesSpare, usesStamp}
+use Rattle.model.specs.Words.{isPair, encode, decode, sidesFit, inRange, nodeOrNone, pairFits, nodeFits, subjectFits, viewFits, messageFits, ringFits, readsAsRing}
 use Rattle.model.specs.declared.values.Sides.{Sides}
 use Rattle.model.proofs.Laws.{and-in, or-left, or-right, implies-in, not-in, not-out, between-in, between-low, between-high, every-in, if-law, decide, all-in}
 use Rattle.model.proofs.Lists.{each-at}
@@ -77,24 +77,22 @@ module _ (t : Table) (gt : WellFormedTable t) where
   module _ (m : Message) (g : WellFormedMessage (size t) m) where
     subject-fits : subjectFits t m ≡ true
     subject-fits =
-        if-law (λ (b : Bool). b ≡ true) (usesSubject (m .type)) (ltb (m .subject) (size t) || (eqb (m .type) 8 && eqb (m .subject) 64)) (eqb (m .subject) 64)
+        if-law (λ (b : Bool). b ≡ true) (usesSubject (m .type)) (ltb (m .subject) (size t) || (namesSpare (m .type) && eqb (m .subject) 64)) (eqb (m .subject) 64)
         used
         (λ e. eq-eqb (m .subject) 64 (g .subject-none e))
       where
-        of-eight : m .type ≡ 8 → {y : ℕ} → Spare (size t) (m .receiver) (m .sender) y → (ltb y (size t) || (eqb (m .type) 8 && eqb y 64)) ≡ true
-        of-eight e none = or-right (ltb 64 (size t)) (and-in (eq-eqb (m .type) 8 e) (eq-eqb 64 64 refl))
-        of-eight e {y = y} (spare o d) = or-left (eqb (m .type) 8 && eqb y 64) (lt-ltb y (size t) (o .low))
+        of-spare : namesSpare (m .type) ≡ true → {y : ℕ} → Spare (size t) (m .receiver) (m .sender) y → (ltb y (size t) || (namesSpare (m .type) && eqb y 64)) ≡ true
+        of-spare e none = or-right (ltb 64 (size t)) (and-in e (eq-eqb 64 64 refl))
+        of-spare e {y = y} (spare o d) = or-left (namesSpare (m .type) && eqb y 64) (lt-ltb y (size t) (o .low))
 
-        used : usesSubject (m .type) ≡ true → (ltb (m .subject) (size t) || (eqb (m .type) 8 && eqb (m .subject) 64)) ≡ true
+        used : usesSubject (m .type) ≡ true → (ltb (m .subject) (size t) || (namesSpare (m .type) && eqb (m .subject) 64)) ≡ true
         used e =
-            elim (ℕ-discrete (m .type) 8) [
-              | yes i ↦ of-eight i (g .subject-spare i)
-              | no d ↦ or-left (eqb (m .type) 8 && eqb (m .subject) 64) (lt-ltb (m .subject) (size t) (g .subject-low e d))
-            ]
+            decide (namesSpare (m .type)) (λ i. of-spare i (g .subject-spare i))
+            (λ d. or-left (namesSpare (m .type) && eqb (m .subject) 64) (lt-ltb (m .subject) (size t) (g .subject-low e d)))
 
-    spare-fits : eqb (m .type) 8 ≡ true → (not (eqb (m .subject) (m .sender)) && not (eqb (m .subject) (m .receiver))) ≡ true
+    spare-fits : namesSpare (m .type) ≡ true → (not (eqb (m .subject) (m .sender)) && not (eqb (m .subject) (m .receiver))) ≡ true
     spare-fits e =
-        let a : Apart (m .receiver) (m .sender) (m .subject) = apart (gt .size-high) (g .receiver-low) (g .sender-low) (g .subject-spare (eqb-true (m .type) 8 e)) in
+        let a : Apart (m .receiver) (m .sender) (m .subject) = apart (gt .size-high) (g .receiver-low) (g .sender-low) (g .subject-spare e) in
         and-in (not-in (a .not-z)) (not-in (a .not-x))
 
     view-fits : viewFits t m ≡ true
@@ -102,7 +100,7 @@ module _ (t : Table) (gt : WellFormedTable t) where
         all-in 64 (λ y. m .view y ⇒ every (usesView (m .type) ∷ ltb y (size t) ∷ not (eqb y (m .receiver)) ∷ []))
         (λ y h. implies-in (m .view y) (every (usesView (m .type) ∷ ltb y (size t) ∷ not (eqb y (m .receiver)) ∷ []))
         (λ e. every-in
-        (cons (eq-eqb (m .type) 4 (g .view-type y e))
+        (cons (g .view-type y e)
         (cons (lt-ltb y (size t) (g .view-other y e .low))
         (cons (not-in (ne-eqb y (m .receiver) (g .view-other y e .differs))) nil)))))
 
@@ -110,12 +108,12 @@ module _ (t : Table) (gt : WellFormedTable t) where
     unfolding messageFits
     message-fits =
         every-in
-        (cons (between-in 1 12 (m .type) (g .type-low) (g .type-high))
+        (cons (g .type-known)
         (cons (lt-ltb (m .sender) (size t) (g .sender-low))
         (cons (lt-ltb (m .receiver) (size t) (g .receiver-low))
         (cons (not-in (ne-eqb (m .sender) (m .receiver) (g .ends-differ)))
         (cons subject-fits
-        (cons (implies-in (eqb (m .type) 8) (not (eqb (m .subject) (m .sender)) && not (eqb (m .subject) (m .receiver))) spare-fits)
+        (cons (implies-in (namesSpare (m .type)) (not (eqb (m .subject) (m .sender)) && not (eqb (m .subject) (m .receiver))) spare-fits)
         (cons
         (decide (usesStamp (m .type)) (λ e. or-left (eqb (m .stamp) 0) e) (λ e. or-right (usesStamp (m .type)) (eq-eqb (m .stamp) 0 (g .stamp-none e))))
         (cons view-fits nil))))))))

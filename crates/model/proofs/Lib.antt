@@ -5,6 +5,7 @@ pub mod Fields
 pub mod Answers
 pub mod Events
 pub mod Cases
+pub mod Types
 pub mod Words
 pub mod RoundTrip
 pub mod Fits

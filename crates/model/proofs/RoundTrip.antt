@@ -3,7 +3,7 @@ use mathlib.Core.Path.{_≡_, refl, sym, ap, ap₂, _∙_}
 use Prim.Native.Nat.{ℕ, _+_, _*_, _/_, _%_, _^_, _≤_, _<_}
 use native.Mathlib.Nat.{add-zero, mod-lt, mod-eq-of-lt, div-add-mod'}
 use native.Mathlib.Omega.{arith}
-use native.Mathlib.Decide.{decLt, ℕ-discrete}
+use native.Mathlib.Decide.{decLt}
 use mathlib.Core.Bool.{Bool, true, false, _&&_}
 use mathlib.Core.List.{List}
 use lib.ListN.{length, getD}
@@ -14,29 +14,27 @@ use Rattle.model.specs.Sets.{tabulate, toBits, ofBits}
 use Rattle.model.specs.Leafset.{size, key}
 use Rattle.model.specs.Ring.{Ring, Message, blank, messageAt}
 use Rattle.model.specs.Fields.{bits, bit}
-use Rattle.model.specs.Words.{isPair, usesSubject, headWord, keyWord, clockWord, pairWord, spareWord, messageWord, stampWord, viewWord, nodeWords, pairWords, messageWords, nodePlace, pairPlace, messagePlace, wordAt, encode, decodeTable, decodeOwn, decodeNode, decodeMessage, decode}
+use Rattle.model.specs.Types.{usesSubject, namesSpare}
+use Rattle.model.specs.Words.{isPair, headWord, keyWord, clockWord, pairWord, spareWord, messageWord, stampWord, viewWord, nodeWords, pairWords, messageWords, nodePlace, pairPlace, messagePlace, wordAt, encode, decodeTable, decodeOwn, decodeNode, decodeMessage, decode}
 use Rattle.model.specs.WellFormed.{WellFormedTable, Spare, none, spare, WellFormedNode, WellFormedMessage, WellFormed}
 use Rattle.model.proofs.Fields.{field}
 use Rattle.model.proofs.Words.{encode-at, node-at, pair-at, message-at, pair-in, pair-low, pair-other}
 use Rattle.model.proofs.Laws.{clash, decide, is-false, tabulate-cong, tabulate-getD}
+use Rattle.model.proofs.Types.{type-room}
 use Rattle.model.proofs.Bits.{bit<, is-bit, toBits<, bits-back}
 use Rattle.model.proofs.Lists.{each-at}
 
 -- 64 is the highest spare and the highest subject
 
-spare-high : {n x z y : ℕ} → n ≤ 64 → Spare n x z y → y ≤ 64
+pub spare-high : {n x z y : ℕ} → n ≤ 64 → Spare n x z y → y ≤ 64
 spare-high h none = omega arith
 spare-high h (spare o d) = let l = o .low in omega arith
 
-subject-high : (n : ℕ) (m : Message) → n ≤ 64 → WellFormedMessage n m → m .subject ≤ 64
+pub subject-high : (n : ℕ) (m : Message) → n ≤ 64 → WellFormedMessage n m → m .subject ≤ 64
 subject-high n m h g = go (usesSubject (m .type)) refl
   where
     go : (b : Bool) → usesSubject (m .type) ≡ b → m .subject ≤ 64
-    go true e =
-        elim (ℕ-discrete (m .type) 8) [
-          | yes i ↦ spare-high h (g .subject-spare i)
-          | no d ↦ let l = g .subject-low e d in omega arith
-        ]
+    go true e = decide (namesSpare (m .type)) (λ i. spare-high h (g .subject-spare i)) (λ d. let l = g .subject-low e d in omega arith)
     go false e = let i = g .subject-none e in omega arith
 
 -- a number below 2 ^ 64, from its three parts
@@ -249,23 +247,23 @@ module _ (r : Ring) (g : WellFormed r) where
     type-back : bits 0 4 (getD ws (messagePlace k) 0) ≡ messageAt r k .type
     type-back =
         field 0 4 (6 * 2 ^ 24 + messageAt r k .subject * 2 ^ 12 + messageAt r k .receiver * 2 ^ 6 + messageAt r k .sender) (messageAt r k .type) 0
-        (first-of-message ∙ omega arith) (lit< tt) (omega (arith, well .type-high))
+        (first-of-message ∙ omega arith) (lit< tt) (omega (arith, type-room (messageAt r k .type) (well .type-known)))
 
     sender-back : bits 4 6 (getD ws (messagePlace k) 0) ≡ messageAt r k .sender
     sender-back =
         field 4 6 (6 * 2 ^ 18 + messageAt r k .subject * 2 ^ 6 + messageAt r k .receiver) (messageAt r k .sender) (messageAt r k .type)
-        (first-of-message ∙ omega arith) (omega (arith, well .type-high)) (omega (arith, well .sender-low, gt .size-high))
+        (first-of-message ∙ omega arith) (omega (arith, type-room (messageAt r k .type) (well .type-known))) (omega (arith, well .sender-low, gt .size-high))
 
     receiver-back : bits 10 6 (getD ws (messagePlace k) 0) ≡ messageAt r k .receiver
     receiver-back =
         field 10 6 (6 * 2 ^ 12 + messageAt r k .subject) (messageAt r k .receiver) (messageAt r k .sender * 2 ^ 4 + messageAt r k .type)
-        (first-of-message ∙ omega arith) (omega (arith, well .type-high, well .sender-low, gt .size-high)) (omega (arith, well .receiver-low, gt .size-high))
+        (first-of-message ∙ omega arith) (omega (arith, type-room (messageAt r k .type) (well .type-known), well .sender-low, gt .size-high)) (omega (arith, well .receiver-low, gt .size-high))
 
     subject-back : bits 16 7 (getD ws (messagePlace k) 0) ≡ messageAt r k .subject
     subject-back =
         field 16 7 (6 * 2 ^ 5) (messageAt r k .subject) (messageAt r k .receiver * 2 ^ 10 + messageAt r k .sender * 2 ^ 4 + messageAt r k .type)
         (first-of-message ∙ omega arith)
-        (omega (arith, well .type-high, well .sender-low, well .receiver-low, gt .size-high))
+        (omega (arith, type-room (messageAt r k .type) (well .type-known), well .sender-low, well .receiver-low, gt .size-high))
         (omega (arith, subject-high (size (r .table)) (messageAt r k) (gt .size-high) well))
 
     stamp-back : bits 0 24 (getD ws (messagePlace k + 1) 0) ≡ messageAt r k .stamp

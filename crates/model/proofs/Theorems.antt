@@ -27,6 +27,8 @@ use Rattle.model.proofs.Events as events
 use Rattle.model.proofs.LeafsetSize.{TwoSides}
 use Rattle.model.proofs.LeafsetSize as size-of
 use Rattle.model.proofs.Questions as questions
+use Rattle.model.proofs.Types.{TypesUse}
+use Rattle.model.proofs.Types as typed
 use Rattle.model.proofs.Words as words
 use Rattle.model.proofs.RoundTrip as trip
 use Rattle.model.proofs.Fits as fits
@@ -113,6 +115,10 @@ pub leafset-size :
 leafset-size t g x h S enough = size-of.leafset-size t g x h S enough
 
 -- ---- the ring's words
+
+-- what each message type uses, as document 01 says it
+pub types-use : TypesUse
+types-use = typed.types-use
 
 -- words that read as a ring are the encoding of what they decode to, which is well-formed
 pub reads-back : (ws : List ℕ) → readsAsRing ws ≡ true → ws ≡ encode (decode ws)

@@ -10,7 +10,8 @@ use borrow.Author.Tests.{eq-eqb, ne-eqb, eqb-true, eqb-false}
 use Rattle.model.specs.Sets.{Set, empty, with, union, members, some}
 use Rattle.model.specs.Leafset.{Table, size, leafset, closest, successor, passesZero}
 use Rattle.model.specs.Ring.{Own, Message, cleared}
-use Rattle.model.specs.Words.{usesSubject, usesStamp}
+use Rattle.model.specs.Types.{Uses, nothingUsed, viewUsed, subjectUsed, spareUsed, subjectAndStampUsed, usedByType, usesOf, usesSubject, namesSpare, pingContact, pongContact, pingAskInv, pongAskInv, pingInvite, pongInvite, pingAskRepl, pongAskRepl, pingReplace, pongReplace, pingDeloopy, pongDeloopy}
+use Rattle.model.specs.Words.{isType}
 use Rattle.model.specs.Steps.{Effect, stamped, naming, plain, viewing, setCandidates, setCommit, setSpare, addCandidates, addCandidate, hold, release, contact, notice, timer0, timer1, timer2, timer3, timer4, timer, onPingContact, onPongContact, onPingAskInv, onPongAskInv, onPingInvite, onPongInvite, onPingAskRepl, onPongAskRepl, onPingReplace, onPongReplace, onPingDeloopy, onPongDeloopy, deliver}
 use Rattle.model.proofs.Laws.{clash, and-left, and-right, and-in, or-right, or-case, or-none-left, or-none-right, not-in, not-out, not-out-false, is-false, if-law, put-law}
 use Rattle.model.specs.WellFormed.{WellFormedTable, Other, Spare, none, spare, WellFormedOwn, WellFormedMessage, Each, nil, cons}
@@ -134,59 +135,55 @@ release-held : (z y : ℕ) (o : Own) → (y ≡ z → ⊥) → o .held y ≡ tru
 unfolding release
 release-held z y o d h = and-in h (not-in (ne-eqb y z d))
 
--- ---- messages
+-- ---- messages: a law for each row of the table of types
 
-module _ (n k x y : ℕ) (low : 1 ≤ k) (high : k ≤ 12) (hx : x < n) (hy : Other n x y) where
-  stamped-well : (z time : ℕ)
-      → (usesSubject k ≡ false → z ≡ 64) → (usesSubject k ≡ true → (k ≡ 8 → ⊥) → z < n) → (k ≡ 8 → Spare n y x z)
-      → (usesStamp k ≡ false → time ≡ 0) → time ≤ 16777215
-      → WellFormedMessage n (stamped k x y z time)
-  stamped-well z time a b c d e =
+module _ (n k x y : ℕ) (known : isType k ≡ true) (hx : x < n) (hy : Other n x y) where
+  message-well : (used : Uses) → usesOf k ≡ used → (z time : ℕ) (S : Set)
+      → (used .subject ≡ false → z ≡ 64) → (used .subject ≡ true → used .spare ≡ false → z < n) → (used .spare ≡ true → Spare n y x z)
+      → (used .stamp ≡ false → time ≡ 0) → time ≤ 16777215
+      → ((v : ℕ) → S v ≡ true → used .view ≡ true) → ((v : ℕ) → S v ≡ true → Other n y v)
+      → WellFormedMessage n (record { type = k; sender = x; receiver = y; subject = z; stamp = time; view = S })
+  message-well used u z time S a b c d e f g =
+      let subject : used .subject ≡ usesSubject k = ap (λ (v : Uses). v .subject) (sym u) in
+      let is-spare : used .spare ≡ namesSpare k = ap (λ (v : Uses). v .spare) (sym u) in
       record {
-        type-low = low;
-        type-high = high;
+        type-known = known;
         sender-low = hx;
         receiver-low = hy .low;
         ends-differ = λ i. hy .differs (sym i);
-        subject-none = a;
-        subject-low = b;
-        subject-spare = c;
-        stamp-none = d;
+        subject-none = λ i. a (subject ∙ i);
+        subject-low = λ i j. b (subject ∙ i) (is-spare ∙ j);
+        subject-spare = λ i. c (is-spare ∙ i);
+        stamp-none = λ i. d (ap (λ (v : Uses). v .stamp) (sym u) ∙ i);
         stamp-high = e;
-        view-type = λ v i. clash i refl;
-        view-other = λ v i. clash i refl;
+        view-type = λ v i. ap (λ (v : Uses). v .view) u ∙ f v i;
+        view-other = g;
       }
 
-  -- of a type that uses no subject
-  plain-well : usesSubject k ≡ false → WellFormedMessage n (plain k x y)
-  plain-well u = stamped-well 64 0 (λ e. refl) (λ e d. clash e u) (λ e. clash (ap usesSubject e) u) (λ e. refl) (omega arith)
+  plain-well : usesOf k ≡ nothingUsed → WellFormedMessage n (plain k x y)
+  plain-well u =
+      message-well nothingUsed u 64 0 empty (λ e. refl) (λ e d. clash e refl) (λ e. clash e refl) (λ e. refl) (omega arith)
+      (λ v i. clash i refl) (λ v i. clash i refl)
 
-  -- of a type other than 8 that uses the subject
-  naming-well : (z : ℕ) → usesSubject k ≡ true → (k ≡ 8 → ⊥) → z < n → WellFormedMessage n (naming k x y z)
-  naming-well z u d h = stamped-well z 0 (λ e. clash u e) (λ e f. h) (λ e. absurd (d e)) (λ e. refl) (omega arith)
+  viewing-well : (S : Set) → usesOf k ≡ viewUsed → ((z : ℕ) → S z ≡ true → Other n y z) → WellFormedMessage n (viewing k x y S)
+  viewing-well S u f =
+      message-well viewUsed u 64 0 S (λ e. refl) (λ e d. clash e refl) (λ e. clash e refl) (λ e. refl) (omega arith)
+      (λ v i. refl) f
 
--- type 8
-offer-well : (n x y z : ℕ) → x < n → Other n x y → Spare n y x z → WellFormedMessage n (naming 8 x y z)
-offer-well n x y z hx hy s =
-    stamped-well n 8 x y (omega arith) (omega arith) hx hy z 0 (λ e. clash refl e) (λ e d. absurd (d refl)) (λ e. s) (λ e. refl) (omega arith)
+  naming-well : (z : ℕ) → usesOf k ≡ subjectUsed → z < n → WellFormedMessage n (naming k x y z)
+  naming-well z u h =
+      message-well subjectUsed u z 0 empty (λ e. clash refl e) (λ e d. h) (λ e. clash e refl) (λ e. refl) (omega arith)
+      (λ v i. clash i refl) (λ v i. clash i refl)
 
--- type 4
-view-well : (n x y : ℕ) (S : Set) → x < n → Other n x y → ((z : ℕ) → S z ≡ true → Other n y z) → WellFormedMessage n (viewing 4 x y S)
-view-well n x y S hx hy f =
-    record {
-      type-low = omega arith;
-      type-high = omega arith;
-      sender-low = hx;
-      receiver-low = hy .low;
-      ends-differ = λ i. hy .differs (sym i);
-      subject-none = λ e. refl;
-      subject-low = λ e d. clash e refl;
-      subject-spare = λ e. absurd (omega arith);
-      stamp-none = λ e. refl;
-      stamp-high = omega arith;
-      view-type = λ v i. refl;
-      view-other = f;
-    }
+  offering-well : (z : ℕ) → usesOf k ≡ spareUsed → Spare n y x z → WellFormedMessage n (naming k x y z)
+  offering-well z u s =
+      message-well spareUsed u z 0 empty (λ e. clash refl e) (λ e d. clash refl d) (λ e. s) (λ e. refl) (omega arith)
+      (λ v i. clash i refl) (λ v i. clash i refl)
+
+  stamped-well : (z time : ℕ) → usesOf k ≡ subjectAndStampUsed → z < n → time ≤ 16777215 → WellFormedMessage n (stamped k x y z time)
+  stamped-well z time u h l =
+      message-well subjectAndStampUsed u z time empty (λ e. clash refl e) (λ e d. h) (λ e. clash e refl) (λ e. clash refl e) l
+      (λ v i. clash i refl) (λ v i. clash i refl)
 
 -- ---- what a step leaves
 
@@ -207,8 +204,8 @@ module _ (t : Table) (gt : WellFormedTable t) (now : ℕ) (positive : 0 < now) (
     outside-held z e = and-left (o .held z) (not (leafset t me (o .held) z)) e
 
     pub contact-well : (y : ℕ) → Other (size t) me y → WellFormedEffect (size t) me now (contact t me now o y)
-    unfolding contact
-    contact-well y h = record { own-well = g; sent-well = cons (plain-well (size t) 1 me y (omega arith) (omega arith) low h refl) nil }
+    unfolding contact usedByType
+    contact-well y h = record { own-well = g; sent-well = cons (plain-well (size t) pingContact me y refl low h refl) nil }
 
     pub notice-well : (z : ℕ) → WellFormedEffect (size t) me now (notice t me now o z)
     unfolding notice
@@ -218,30 +215,30 @@ module _ (t : Table) (gt : WellFormedTable t) (now : ℕ) (positive : 0 < now) (
         (λ e. nothing-well)
 
     timer0-well : WellFormedEffect (size t) me now (timer0 t me now o)
-    unfolding timer0
+    unfolding timer0 usedByType
     timer0-well =
         record {
           own-well = g;
-          sent-well = each-sent (size t) (o .held) (λ y. plain 3 me y) (λ y e. plain-well (size t) 3 me y (omega arith) (omega arith) low (g .held-other y e) refl);
+          sent-well = each-sent (size t) (o .held) (λ y. plain pingAskInv me y) (λ y e. plain-well (size t) pingAskInv me y refl low (g .held-other y e) refl);
         }
 
     timer1-well : WellFormedEffect (size t) me now (timer1 t me now o)
-    unfolding timer1
+    unfolding timer1 usedByType
     timer1-well =
         record {
           own-well = candidates-well (size t) me now o g empty (λ z e. clash e refl);
-          sent-well = each-sent (size t) _ (λ y. plain 5 me y)
-              (λ y e. plain-well (size t) 5 me y (omega arith) (omega arith) low
+          sent-well = each-sent (size t) _ (λ y. plain pingInvite me y)
+              (λ y e. plain-well (size t) pingInvite me y refl low
               (g .candidate-other y (and-left (o .candidates y) (not (o .held y)) (and-left (o .candidates y && not (o .held y)) _ e))) refl);
         }
 
     timer2-well : WellFormedEffect (size t) me now (timer2 t me now o)
-    unfolding timer2
+    unfolding timer2 usedByType
     timer2-well =
         record {
           own-well = g;
-          sent-well = each-sent (size t) (λ z. o .held z && not (leafset t me (o .held) z)) (λ y. plain 7 me y)
-              (λ y e. plain-well (size t) 7 me y (omega arith) (omega arith) low (g .held-other y (outside-held y e)) refl);
+          sent-well = each-sent (size t) (λ z. o .held z && not (leafset t me (o .held) z)) (λ y. plain pingAskRepl me y)
+              (λ y e. plain-well (size t) pingAskRepl me y refl low (g .held-other y (outside-held y e)) refl);
         }
 
     -- a spare that is not 64 is a node
@@ -250,16 +247,15 @@ module _ (t : Table) (gt : WellFormedTable t) (now : ℕ) (positive : 0 < now) (
     real-spare d (spare h k) = h
 
     timer3-well : WellFormedEffect (size t) me now (timer3 t me now o)
-    unfolding timer3
+    unfolding timer3 usedByType
     timer3-well =
         record {
           own-well = g;
-          sent-well = each-sent (size t) (λ z. o .held z && not (leafset t me (o .held) z) && not (eqb (o .spare z) 64)) (λ z. stamped 9 me (o .spare z) z now)
+          sent-well = each-sent (size t) (λ z. o .held z && not (leafset t me (o .held) z) && not (eqb (o .spare z) 64)) (λ z. stamped pingReplace me (o .spare z) z now)
               (λ z e.
               let h : o .held z ≡ true = outside-held z (and-left (o .held z && not (leafset t me (o .held) z)) (not (eqb (o .spare z) 64)) e) in
               let s : Other (size t) me (o .spare z) = real-spare (not-out (eqb (o .spare z) 64) (and-right (o .held z && not (leafset t me (o .held) z)) (not (eqb (o .spare z) 64)) e)) (g .spare-other z) in
-              stamped-well (size t) 9 me (o .spare z) (omega arith) (omega arith) low s z now
-              (λ i. clash refl i) (λ i d. g .held-other z h .low) (λ i. absurd (omega arith)) (λ i. clash refl i) high);
+              stamped-well (size t) pingReplace me (o .spare z) refl low s z now refl (g .held-other z h .low) high);
         }
 
     -- the successor of a node that holds somebody
@@ -267,13 +263,13 @@ module _ (t : Table) (gt : WellFormedTable t) (now : ℕ) (positive : 0 < now) (
     successor-other e = g .held-other (successor t me (o .held)) (successor-held t me (o .held) e)
 
     timer4-well : WellFormedEffect (size t) me now (timer4 t me now o)
-    unfolding timer4 passesZero
+    unfolding timer4 passesZero usedByType
     timer4-well =
         if-law (WellFormedEffect (size t) me now) (passesZero t me (o .held)) _ _
         (λ e. record {
           own-well = g;
-          sent-well = cons (naming-well (size t) 11 me (successor t me (o .held)) (omega arith) (omega arith) low
-              (successor-other (and-left (some (size t) (o .held)) _ e)) me refl (λ i. omega arith) low) nil;
+          sent-well = cons (naming-well (size t) pingDeloopy me (successor t me (o .held)) refl low
+              (successor-other (and-left (some (size t) (o .held)) _ e)) me refl low) nil;
         })
         (λ e. nothing-well)
 
@@ -305,25 +301,25 @@ module _ (t : Table) (gt : WellFormedTable t) (now : ℕ) (positive : 0 < now) (
     quiet-well : Good (record { own = o; sent = [] })
     quiet-well = nothing-well (m .receiver) low g
 
-    -- an answer to the sender that uses no subject
-    answer-well : (k : ℕ) → 1 ≤ k → k ≤ 12 → usesSubject k ≡ false → Each (WellFormedMessage (size t)) (plain k me a ∷ [])
-    answer-well k p q u = cons (plain-well (size t) k me a p q low from u) nil
+    -- an answer to the sender that uses nothing
+    answer-well : (k : ℕ) → isType k ≡ true → usesOf k ≡ nothingUsed → Each (WellFormedMessage (size t)) (plain k me a ∷ [])
+    answer-well k p u = cons (plain-well (size t) k me a p low from u) nil
 
     on-ping-contact-well : Good (onPingContact t me now o m)
-    unfolding onPingContact
-    on-ping-contact-well = record { own-well = g; sent-well = answer-well 2 (omega arith) (omega arith) refl }
+    unfolding onPingContact usedByType
+    on-ping-contact-well = record { own-well = g; sent-well = answer-well pongContact refl refl }
 
     on-pong-contact-well : Good (onPongContact t me now o m)
     unfolding onPongContact
     on-pong-contact-well = record { own-well = hold-well (size t) me now o g a from positive; sent-well = nil }
 
     on-ping-ask-inv-well : Good (onPingAskInv t me now o m)
-    unfolding onPingAskInv
+    unfolding onPingAskInv usedByType
     on-ping-ask-inv-well =
         record {
           own-well = add-candidate-well (size t) me now o g a from;
           sent-well = cons
-              (view-well (size t) me a (leafset t a (o .held)) low from
+              (viewing-well (size t) pongAskInv me a refl low from (leafset t a (o .held)) refl
               (λ z e. record { low = g .held-other z (leafset-within t a (o .held) z e) .low; differs = leafset-other t a (o .held) z e }))
               nil;
         }
@@ -333,8 +329,8 @@ module _ (t : Table) (gt : WellFormedTable t) (now : ℕ) (positive : 0 < now) (
     on-pong-ask-inv-well = record { own-well = add-candidates-well (size t) me now o g (m .view) (gm .view-other); sent-well = nil }
 
     on-ping-invite-well : Good (onPingInvite t me now o m)
-    unfolding onPingInvite
-    on-ping-invite-well = record { own-well = g; sent-well = answer-well 6 (omega arith) (omega arith) refl }
+    unfolding onPingInvite usedByType
+    on-ping-invite-well = record { own-well = g; sent-well = answer-well pongInvite refl refl }
 
     on-pong-invite-well : Good (onPongInvite t me now o m)
     unfolding onPongInvite
@@ -344,29 +340,28 @@ module _ (t : Table) (gt : WellFormedTable t) (now : ℕ) (positive : 0 < now) (
         (λ e. quiet-well)
 
     on-ping-ask-repl-well : Good (onPingAskRepl t me now o m)
-    unfolding onPingAskRepl
+    unfolding onPingAskRepl usedByType
     on-ping-ask-repl-well =
         record {
           own-well = g;
-          sent-well = cons (offer-well (size t) me a (closest t me (o .held) a) low from (closest-spare t me (o .held) a)) nil;
+          sent-well = cons (offering-well (size t) pongAskRepl me a refl low from (closest t me (o .held) a) refl (closest-spare t me (o .held) a)) nil;
         }
 
-    on-pong-ask-repl-well : m .type ≡ 8 → Good (onPongAskRepl t me now o m)
-    unfolding onPongAskRepl
+    on-pong-ask-repl-well : m .type ≡ pongAskRepl → Good (onPongAskRepl t me now o m)
+    unfolding onPongAskRepl usedByType
     on-pong-ask-repl-well i =
         if-law Good (o .held a) _ _
-        (λ e. record { own-well = spare-well (size t) me now o g a (m .subject) e (gm .subject-spare i); sent-well = nil })
+        (λ e. record { own-well = spare-well (size t) me now o g a (m .subject) e (gm .subject-spare (ap namesSpare i)); sent-well = nil })
         (λ e. quiet-well)
 
     on-ping-replace-well : Good (onPingReplace t me now o m)
-    unfolding onPingReplace
+    unfolding onPingReplace usedByType
     on-ping-replace-well =
         if-law Good (o .held (m .subject)) _ _
         (λ e. record {
           own-well = commit-well (size t) me now o g (m .subject) now e positive (le-refl now);
           sent-well = cons
-              (stamped-well (size t) 10 me a (omega arith) (omega arith) low from (m .subject) (m .stamp)
-              (λ i. clash refl i) (λ i d. g .held-other (m .subject) e .low) (λ i. absurd (omega arith)) (λ i. clash refl i) (gm .stamp-high))
+              (stamped-well (size t) pongReplace me a refl low from (m .subject) (m .stamp) refl (g .held-other (m .subject) e .low) (gm .stamp-high))
               nil;
         })
         (λ e. quiet-well)
@@ -403,27 +398,27 @@ module _ (t : Table) (gt : WellFormedTable t) (now : ℕ) (positive : 0 < now) (
             let i : o .spare z ≡ a = eqb-true (o .spare z) a (and-right (o .held z && not (leafset t me (o .held) z)) (eqb (o .spare z) a) e) in
             spare-differs (gm .sender-low) (subst (Spare (size t) me z) i (g .spare-other z))
 
-    on-ping-deloopy-well : m .type ≡ 11 → Good (onPingDeloopy t me now o m)
-    unfolding onPingDeloopy
+    on-ping-deloopy-well : m .type ≡ pingDeloopy → Good (onPingDeloopy t me now o m)
+    unfolding onPingDeloopy usedByType
     on-ping-deloopy-well i =
         if-law Good (eqb (m .subject) me || not (some (size t) (o .held))) _ _
         (λ e. quiet-well)
         (λ e. if-law Good (passesZero t me (o .held)) _ _
         (λ p. record {
           own-well = add-candidate-well (size t) me now o g (m .subject) (named e);
-          sent-well = cons (plain-well (size t) 12 me (m .subject) (omega arith) (omega arith) low (named e) refl) nil;
+          sent-well = cons (plain-well (size t) pongDeloopy me (m .subject) refl low (named e) refl) nil;
         })
         (λ p. record {
           own-well = g;
           sent-well = cons
-              (naming-well (size t) 11 me (successor t me (o .held)) (omega arith) (omega arith) low
+              (naming-well (size t) pingDeloopy me (successor t me (o .held)) refl low
               (successor-other me low g (not-out-false (some (size t) (o .held)) (or-none-right (eqb (m .subject) me) (not (some (size t) (o .held))) e)))
-              (m .subject) refl (λ k. omega arith) subject-low)
+              (m .subject) refl subject-low)
               nil;
         }))
       where
         subject-low : m .subject < size t
-        subject-low = gm .subject-low (ap usesSubject i) (λ k. let j : _≡_ {A = ℕ} 11 8 = sym i ∙ k in omega arith)
+        subject-low = gm .subject-low (ap usesSubject i) (ap namesSpare i)
 
         named : (eqb (m .subject) me || not (some (size t) (o .held))) ≡ false → Other (size t) me (m .subject)
         named e = record { low = subject-low; differs = eqb-false (m .subject) me (or-none-left (eqb (m .subject) me) (not (some (size t) (o .held))) e) }

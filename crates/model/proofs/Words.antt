@@ -1,7 +1,8 @@
 -- Laws of the ring's words: the word at a place, and that words that read as a ring are those of the ring that they decode to.
-use mathlib.Core.Path.{_≡_, sym, ap, _∙_}
+use mathlib.Core.Path.{_≡_, sym, ap, _∙_, subst}
 use Prim.Native.Nat.{ℕ, _+_, _-_, _*_, _/_, _%_, _<_}
 use native.Mathlib.Omega.{arith}
+use native.Mathlib.Decide.{decLt}
 use mathlib.Core.Bool.{true, false, not, _&&_}
 use mathlib.Core.List.{List, [], _∷_}
 use lib.ListN.{length, getD}
@@ -68,6 +69,26 @@ message-at r k i hi =
     let e : p - 8321 ≡ k * 5 + i = omega arith in
     let u : (p - 8321) % 5 ≡ i = ap (λ (j : ℕ). j % 5) e ∙ digits-mod k hi in
     rw (a, b, c, q, u)
+
+-- every place is word 0's, a node's, a pair's or a message's: what holds at each of these holds at every place
+pub every-place : (P : ℕ → Type 0) → P 0
+    → ((s i : ℕ) → s < 64 → i < 2 → P (nodePlace s + i))
+    → ((x z i : ℕ) → x < 64 → z < 64 → i < 2 → P (pairPlace x z + i))
+    → ((k i : ℕ) → k < 1024 → i < 5 → P (messagePlace k + i))
+    → (i : ℕ) → i < ringLength → P i
+every-place P head node pair message i h =
+    elim (decLt i 1) [
+      | yes y ↦ let e : 0 ≡ i = omega arith in subst P e head
+      | no y ↦ elim (decLt i 129) [
+        | yes a ↦ let e : nodePlace ((i - 1) / 2) + (i - 1) % 2 ≡ i = omega arith in subst P e (node ((i - 1) / 2) ((i - 1) % 2) (omega arith) (omega arith))
+        | no a ↦ elim (decLt i 8321) [
+          | yes b ↦ let e : pairPlace ((i - 129) / 128) ((i - 129) % 128 / 2) + (i - 129) % 2 ≡ i = omega arith in
+              subst P e (pair ((i - 129) / 128) ((i - 129) % 128 / 2) ((i - 129) % 2) (omega arith) (omega arith) (omega arith))
+          | no b ↦ let e : messagePlace ((i - 8321) / 5) + (i - 8321) % 5 ≡ i = omega arith in
+              subst P e (message ((i - 8321) / 5) ((i - 8321) % 5) (omega arith) (omega arith))
+        ]
+      ]
+    ]
 
 -- ---- a pair, as facts
 

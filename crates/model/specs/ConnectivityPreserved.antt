@@ -11,7 +11,7 @@ use Rattle.model.specs.Leafset.{Table}
 use Rattle.model.specs.Ring.{Ring, Message, initial, isRunning}
 use Rattle.model.specs.WellFormed.{Each}
 use Rattle.model.specs.Answers.{isAccepted}
-use Rattle.model.specs.Steps.{pongReplace}
+use Rattle.model.specs.Types.{pongReplace}
 use Rattle.model.specs.Events.{eventOf}
 use Rattle.model.specs.Play.{playWord, playAll}
 use Rattle.model.specs.Buffer.{openBuffer, playBuffer, playBufferAll}

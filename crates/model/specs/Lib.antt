@@ -4,6 +4,7 @@ pub mod Sets
 pub mod Leafset
 pub mod Ring
 pub mod Fields
+pub mod Types
 pub mod Words
 pub mod WellFormed
 pub mod Answers

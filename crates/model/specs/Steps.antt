@@ -8,44 +8,7 @@ use Rattle.model.specs.Choice.{if_then_else_}
 use Rattle.model.specs.Sets.{Set, empty, with, without, union, put, members, some, noneNode}
 use Rattle.model.specs.Leafset.{Table, size, leafset, closest, successor, passesZero}
 use Rattle.model.specs.Ring.{Own, Message}
-
--- the twelve message types: document 01 numbers them, source 001 names them
-abbrev pub pingContact : ℕ
-pingContact = 1
-
-abbrev pub pongContact : ℕ
-pongContact = 2
-
-abbrev pub pingAskInv : ℕ
-pingAskInv = 3
-
-abbrev pub pongAskInv : ℕ
-pongAskInv = 4
-
-abbrev pub pingInvite : ℕ
-pingInvite = 5
-
-abbrev pub pongInvite : ℕ
-pongInvite = 6
-
-abbrev pub pingAskRepl : ℕ
-pingAskRepl = 7
-
-abbrev pub pongAskRepl : ℕ
-pongAskRepl = 8
-
-abbrev pub pingReplace : ℕ
-pingReplace = 9
-
--- "Type 10 is the replacement acknowledgement."
-abbrev pub pongReplace : ℕ
-pongReplace = 10
-
-abbrev pub pingDeloopy : ℕ
-pingDeloopy = 11
-
-abbrev pub pongDeloopy : ℕ
-pongDeloopy = 12
+use Rattle.model.specs.Types.{pingContact, pongContact, pingAskInv, pongAskInv, pingInvite, pongInvite, pingAskRepl, pongAskRepl, pingReplace, pongReplace, pingDeloopy, pongDeloopy}
 
 -- what a step leaves: the own record, and the new messages, oldest first
 pub record Effect : Type 0 where

@@ -7,7 +7,8 @@ use mathlib.Core.List.{List, [], _∷_}
 use lib.ListN.{length}
 use Rattle.model.specs.Leafset.{Table, size, key}
 use Rattle.model.specs.Ring.{Own, Node, Message, Ring}
-use Rattle.model.specs.Words.{usesSubject, usesStamp, keysDiffer}
+use Rattle.model.specs.Types.{usesView, usesSubject, namesSpare, usesStamp}
+use Rattle.model.specs.Words.{isType, keysDiffer}
 use Rattle.model.specs.declared.values.Sides.{Sides}
 
 -- "L is 1 to 8"
@@ -55,18 +56,17 @@ pub record WellFormedNode (n x : ℕ) (s : Node) : Type 0 where
   pub off-candidates : s .running ≡ false → (z : ℕ) → s .own .candidates z ≡ false
 
 pub record WellFormedMessage (n : ℕ) (m : Message) : Type 0 where
-  pub type-low : 1 ≤ m .type
-  pub type-high : m .type ≤ 12
+  pub type-known : isType (m .type) ≡ true
   pub sender-low : m .sender < n
   pub receiver-low : m .receiver < n
   pub ends-differ : m .sender ≡ m .receiver → ⊥
-  -- the subject: a node where a type other than 8 uses it; of type 8, a spare; else none
+  -- the subject, by the type: none, a node or a spare
   pub subject-none : usesSubject (m .type) ≡ false → m .subject ≡ 64
-  pub subject-low : usesSubject (m .type) ≡ true → (m .type ≡ 8 → ⊥) → m .subject < n
-  pub subject-spare : m .type ≡ 8 → Spare n (m .receiver) (m .sender) (m .subject)
+  pub subject-low : usesSubject (m .type) ≡ true → namesSpare (m .type) ≡ false → m .subject < n
+  pub subject-spare : namesSpare (m .type) ≡ true → Spare n (m .receiver) (m .sender) (m .subject)
   pub stamp-none : usesStamp (m .type) ≡ false → m .stamp ≡ 0
   pub stamp-high : m .stamp ≤ 16777215
-  pub view-type : (y : ℕ) → m .view y ≡ true → m .type ≡ 4
+  pub view-type : (y : ℕ) → m .view y ≡ true → usesView (m .type) ≡ true
   pub view-other : (y : ℕ) → m .view y ≡ true → Other n (m .receiver) y
 
 -- each of a list

@@ -9,6 +9,7 @@ use Rattle.model.specs.Sets.{tabulate, all, toBits, ofBits, noneNode}
 use Rattle.model.specs.Leafset.{Table, size, key}
 use Rattle.model.specs.Ring.{Own, Node, Message, Ring, messageAt}
 use Rattle.model.specs.Fields.{bits, bit, flag, ofKind}
+use Rattle.model.specs.Types.{types, usesView, usesSubject, namesSpare, usesStamp}
 use Rattle.model.specs.declared.values.Sides.{Sides}
 
 -- (x, z) is a "pair .. of different stands"
@@ -193,21 +194,15 @@ nodeFits t s x =
     ∷ (not (s .running) ⇒ all (size t) (λ z. not (s .own .held z) && not (s .own .candidates z)))
     ∷ [])
 
--- "Type 4 uses the view; 8 and 11 the subject; 9 and 10 subject and stamp; the others none."
-abbrev pub usesView : ℕ → Bool
-usesView type = eqb type 4
-
-abbrev pub usesSubject : ℕ → Bool
-usesSubject type = between 8 11 type
-
-abbrev pub usesStamp : ℕ → Bool
-usesStamp type = between 9 10 type
+-- "types are 1 to 12"
+abbrev pub isType : ℕ → Bool
+isType type = between 1 types type
 
 -- "Of the four that use the subject, only type 8 may have 64 there"
 abbrev pub subjectFits : Table → Message → Bool
 subjectFits t m =
     if usesSubject (m .type)
-    then ltb (m .subject) (size t) || (eqb (m .type) 8 && eqb (m .subject) noneNode)
+    then ltb (m .subject) (size t) || (namesSpare (m .type) && eqb (m .subject) noneNode)
     else eqb (m .subject) noneNode
 
 -- "A view holds only stands below n, and not its receiver."
@@ -215,19 +210,21 @@ abbrev pub viewFits : Table → Message → Bool
 viewFits t m = all 64 (λ y. m .view y ⇒ every (usesView (m .type) ∷ ltb y (size t) ∷ not (eqb y (m .receiver)) ∷ []))
 
 -- "stand numbers are below n, .. types are 1 to 12 with fields not used by the type empty (64, 0, no view), sender differs
--- from receiver"; "[type 8's] subject is neither its sender nor its receiver."
-unfoldable pub messageFits : Table → Message → Bool
-messageFits t m =
-    every
-    (between 1 12 (m .type)
+-- from receiver"; of type 8, "its subject is neither its sender nor its receiver."
+abbrev pub messageTests : Table → Message → List Bool
+messageTests t m =
+    isType (m .type)
     ∷ ltb (m .sender) (size t)
     ∷ ltb (m .receiver) (size t)
     ∷ not (eqb (m .sender) (m .receiver))
     ∷ subjectFits t m
-    ∷ (eqb (m .type) 8 ⇒ not (eqb (m .subject) (m .sender)) && not (eqb (m .subject) (m .receiver)))
+    ∷ (namesSpare (m .type) ⇒ not (eqb (m .subject) (m .sender)) && not (eqb (m .subject) (m .receiver)))
     ∷ (usesStamp (m .type) || eqb (m .stamp) 0)
     ∷ viewFits t m
-    ∷ [])
+    ∷ []
+
+unfoldable pub messageFits : Table → Message → Bool
+messageFits t m = every (messageTests t m)
 
 -- The test sees what the words can say. It does not see nodes and pairs beyond the table, nor numbers too big for their bits:
 -- `decode` gives none of these. Of rings that come from elsewhere, `WellFormed` says it.

@@ -5,7 +5,8 @@ use mathlib.Core.List.{map}
 use Prim.Native.Nat.{ℕ, _^_, _≤_, _<_}
 use Rattle.model.specs.Sets.{Set, ofBits, members}
 use Rattle.model.specs.Ring.{Message}
-use Rattle.model.specs.Steps.{plain, stamped, pingReplace}
+use Rattle.model.specs.Types.{pingReplace}
+use Rattle.model.specs.Steps.{plain, stamped}
 use Rattle.model.specs.Structs.{spareAt}
 use Rattle.model.specs.declared.node.NodeRecord.{NodeRecord}
 use Rattle.sets.specs.Within.{Within}

@@ -1,11 +1,12 @@
 -- What the records of the code stand for: an own record, a group of messages, what a step leaves.
 use mathlib.Core.Path.{_≡_}
-use mathlib.Core.Bool.{true}
+use mathlib.Core.Bool.{true, false}
 use mathlib.Core.List.{List, [], _∷_, _++_, map}
-use Prim.Native.Nat.{ℕ, _≤_, _<_, _^_}
+use Prim.Native.Nat.{ℕ, _<_, _^_}
 use Rattle.model.specs.Sets.{ofBits, members}
 use Rattle.model.specs.Ring.{Own, Message}
-use Rattle.model.specs.Steps.{Effect, plain, stamped, pingReplace}
+use Rattle.model.specs.Types.{usesSubject, namesSpare, pingReplace}
+use Rattle.model.specs.Steps.{Effect, plain, stamped}
 use Rattle.model.specs.Structs.{ownOf, messageOf, spareAt, RoomNode, RoomMessage}
 use Rattle.model.specs.declared.node.NodeRecord.{NodeRecord}
 use Rattle.model.specs.declared.message.MessageRecord.{MessageRecord}
@@ -25,11 +26,11 @@ pub record Owns (n : ℕ) (q : NodeRecord) (o : Own) : Type 0 where
   pub own : ownOf q ≡ o
   pub fits : OwnFits n q
 
--- a message to a node of a table of n: types 9, 10 and 11 name a node
+-- a message to a node of a table of n: its subject, where its type uses one that is no spare, is a node
 pub record Delivered (n : ℕ) (m : MessageRecord) : Type 0 where
   pub room : RoomMessage m
   pub sender-low : m .sender .0 < n
-  pub subject-low : 9 ≤ m .tag → m .tag ≤ 11 → m .subject .0 < n
+  pub subject-low : usesSubject (m .tag) ≡ true → namesSpare (m .tag) ≡ false → m .subject .0 < n
   pub view-within : Within n (m .view)
 
 -- ---- what a step leaves

@@ -1,9 +1,9 @@
 -- The words of a ring, place by place: what writing a node, and writing the messages, leaves.
-use mathlib.Core.Path.{_≡_, refl, sym, ap, _∙_, subst}
+use mathlib.Core.Path.{_≡_, refl, sym, ap, _∙_}
 use mathlib.Core.Logic.{_≢_}
-use mathlib.Core.Bool.{Bool, true, false, _&&_}
+use mathlib.Core.Bool.{Bool, true, false, _&&_, and-false}
 use mathlib.Core.List.{List}
-use Prim.Native.Nat.{ℕ, _+_, _-_, _/_, _%_, _<_, _≤_}
+use Prim.Native.Nat.{ℕ, _+_, _<_, _≤_}
 use native.Mathlib.Omega.{arith}
 use native.Mathlib.Decide.{decLt, ℕ-discrete}
 use lib.Dec.{ltb}
@@ -15,7 +15,7 @@ use Rattle.model.specs.Leafset.{Table, size, key}
 use Rattle.model.specs.Ring.{Node, Message, Ring, blank}
 use Rattle.model.specs.Words.{isPair, headWord, nodeWords, pairWords, messageWords, ofNode, ofPair, nodePlace, pairPlace, messagePlace, ringLength, wordAt, encode}
 use Rattle.model.specs.Play.{setNode, setMessages}
-use Rattle.model.proofs.Words.{length-encode, encode-at, node-at, pair-at, message-at, pair-in}
+use Rattle.model.proofs.Words.{length-encode, encode-at, node-at, pair-at, message-at, every-place, pair-in}
 use Rattle.model.proofs.Laws.{put-each}
 
 -- ---- words that are a ring's, place by place
@@ -36,41 +36,17 @@ pub head-at : (ρ : Ring) → wordAt ρ 0 ≡ headWord (ρ .table .sides) (size 
 unfolding wordAt
 head-at ρ = refl
 
--- what holds at each kind of place holds at every place
-pub cover : (P : ℕ → Type 0) → P 0
-    → ((s i : ℕ) → s < 64 → i < 2 → P (nodePlace s + i))
-    → ((x z i : ℕ) → x < 64 → z < 64 → i < 2 → P (pairPlace x z + i))
-    → ((k i : ℕ) → k < 1024 → i < 5 → P (messagePlace k + i))
-    → (i : ℕ) → i < ringLength → P i
-cover P head node pair message i h =
-    elim (decLt i 1) [
-      | yes y ↦ let e : 0 ≡ i = omega arith in subst P e head
-      | no y ↦ elim (decLt i 129) [
-        | yes a ↦ let e : nodePlace ((i - 1) / 2) + (i - 1) % 2 ≡ i = omega arith in subst P e (node ((i - 1) / 2) ((i - 1) % 2) (omega arith) (omega arith))
-        | no a ↦ elim (decLt i 8321) [
-          | yes b ↦ let e : pairPlace ((i - 129) / 128) ((i - 129) % 128 / 2) + (i - 129) % 2 ≡ i = omega arith in
-              subst P e (pair ((i - 129) / 128) ((i - 129) % 128 / 2) ((i - 129) % 2) (omega arith) (omega arith) (omega arith))
-          | no b ↦ let e : messagePlace ((i - 8321) / 5) + (i - 8321) % 5 ≡ i = omega arith in
-              subst P e (message ((i - 8321) / 5) ((i - 8321) % 5) (omega arith) (omega arith))
-        ]
-      ]
-    ]
-
 -- ---- what is a pair, and what is none
-
-and-no : (a : Bool) → (a && false) ≡ false
-and-no true = refl
-and-no false = refl
 
 module _ (t : Table) (x z : ℕ) where
   pub pair-yes : x < size t → z < size t → z ≢ x → isPair t x z ≡ true
   pair-yes hx hz d = pair-in t x z hx (record { low = hz; differs = d })
 
   pub pair-high : size t ≤ z → isPair t x z ≡ false
-  pair-high h = rw (le-ltb z (size t) h, and-no (ltb x (size t)))
+  pair-high h = rw (le-ltb z (size t) h, and-false (ltb x (size t)))
 
   pub pair-same : z ≡ x → isPair t x z ≡ false
-  pair-same e = rw (eq-eqb x z (sym e), and-no (ltb x (size t) && ltb z (size t)))
+  pair-same e = rw (eq-eqb x z (sym e), and-false (ltb x (size t) && ltb z (size t)))
 
 -- ---- a node written: its own places anew, the others kept
 
@@ -117,7 +93,7 @@ module _ (ρ : Ring) (x : ℕ) (s : Node) (ws ws' : List ℕ) (h : Holds ρ ws) 
       encoded ρ' ws'
       (record {
         long = long ∙ h .long;
-        word = cover (λ i. getD ws' i 0 ≡ wordAt ρ' i)
+        word = every-place (λ i. getD ws' i 0 ≡ wordAt ρ' i)
             (other 0 (omega arith) (omega arith) (λ z l g. (omega arith, omega arith)) ∙ h .word 0 (omega arith) ∙ head-at ρ ∙ sym (head-at ρ'))
             (λ y i hy hi. at-node i hi y hy ∙ sym (node-at ρ' y i hy hi))
             (λ y z i hy hz hi. at-pair z i hz hi y hy ∙ sym (pair-at ρ' y z i hy hz hi))
@@ -139,7 +115,7 @@ module _ (ρ : Ring) (ms : List Message) (ws ws' : List ℕ) (h : Holds ρ ws)
       encoded (setMessages ms ρ) ws'
       (record {
         long = long ∙ h .long;
-        word = cover (λ i. getD ws' i 0 ≡ wordAt (setMessages ms ρ) i)
+        word = every-place (λ i. getD ws' i 0 ≡ wordAt (setMessages ms ρ) i)
             (head ∙ sym (head-at (setMessages ms ρ)))
             (λ s i hs hi.
             below (nodePlace s + i) (omega arith) (omega arith) ∙ h .word (nodePlace s + i) (omega arith)

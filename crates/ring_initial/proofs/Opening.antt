@@ -14,11 +14,11 @@ use borrow.Author.Tests.{lt-ltb, le-ltb}
 use Rattle.model.specs.Leafset.{Table, size, key}
 use Rattle.model.specs.Ring.{Ring, initial, cleared}
 use Rattle.model.specs.Words.{isPair, headWord, keyWord, clockWord, pairWords, ofPair, nodePlace, pairPlace, messagePlace, wordAt, encode}
-use Rattle.model.proofs.Words.{node-at, pair-at, message-at, pair-low, pair-other}
+use Rattle.model.proofs.Words.{node-at, pair-at, message-at, every-place, pair-low, pair-other}
 use Rattle.model.proofs.Laws.{clash}
 use Rattle.ring_ranges.specs.Spans.{Patched}
 use Rattle.ring_ranges.proofs.Patches.{patched-more}
-use Rattle.ring_head.proofs.Holds.{encoded, head-at, cover, pair-yes}
+use Rattle.ring_head.proofs.Holds.{encoded, head-at, pair-yes}
 use Rattle.ring_pairs.specs.Stored.{Stored}
 use Rattle.ring_pairs.proofs.Stores.{two, row-pair, row-other}
 use Rattle.ring_initial.specs.Rows.{Rows}
@@ -87,7 +87,7 @@ module _ (t : Table) (hn : size t ≤ 64) where
         encoded (initial t) ws'
         (record {
           long = r .long ∙ p .long ∙ length-set v 0 head ∙ c .long ∙ long;
-          word = cover (λ i. getD ws' i 0 ≡ wordAt (initial t) i)
+          word = every-place (λ i. getD ws' i 0 ≡ wordAt (initial t) i)
               (r .other 0 (λ x z a b d. (omega arith, omega arith)) ∙ p .low 0 (omega arith) ∙ getD-set-same v 0 head 0 (omega (arith, c .long)) ∙ e ∙ sym (head-at (initial t)))
               (λ s i hs hi.
               r .other (nodePlace s + i) (λ x z a b d. (omega arith, omega arith))

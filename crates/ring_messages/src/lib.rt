@@ -11,6 +11,7 @@ ghost use Rattle.model.specs.Play.{setMessages, removeMessage};
 ghost use Rattle.model.specs.Structs.{messageOf, RoomMessage, spareAt, RoomNode};
 ghost use Rattle.model.specs.Sets.{ofBits, count, members};
 ghost use Rattle.model.specs.Steps as steps;
+ghost use Rattle.model.specs.Types.{pingReplace};
 ghost use Rattle.ring_messages.specs.Loaded.{LoadedMessage};
 ghost use Rattle.ring_head.specs.Parts.{Encodes};
 ghost use Rattle.records.specs.Effects.{sendsOf, SendsFit};
@@ -144,7 +145,7 @@ fn send_requests(
         → Encodes (now (words .exit)) n r
         (setMessages
         (ρ .messages
-        ++ map (λ z. steps.stamped steps.pingReplace (me .0) (spareAt own z) z (time .0))
+        ++ map (λ z. steps.stamped pingReplace (me .0) (spareAt own z) z (time .0))
         (members 64 (ofBits to))) ρ)) ⌝ }
 {
     let mut sent = m;

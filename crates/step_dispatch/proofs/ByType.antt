@@ -1,5 +1,6 @@
 -- The step of a delivered message, by its type.
-use mathlib.Core.Path.{_≡_, refl, sym, subst}
+use mathlib.Core.Path.{_≡_, refl, sym, ap, _∙_, subst}
+use mathlib.Core.Bool.{true, false}
 use mathlib.Core.List.{List, [], _∷_}
 use Prim.Native.Nat.{ℕ, _<_}
 use native.Mathlib.Omega.{arith}
@@ -7,7 +8,14 @@ use native.Mathlib.Decide.{decLt}
 use lib.ListN.{getD, List·getD-eq-default}
 use Rattle.model.specs.Leafset.{Table}
 use Rattle.model.specs.Ring.{Own, Message}
+use Rattle.model.specs.Types.{usesSubject, namesSpare}
+use Rattle.model.specs.declared.message.MessageRecord.{MessageRecord}
+use Rattle.records.specs.Effects.{Delivered}
 use Rattle.model.specs.Steps.{Effect, nothing, deliver, onPingContact, onPongContact, onPingAskInv, onPongAskInv, onPingInvite, onPongInvite, onPingAskRepl, onPongAskRepl, onPingReplace, onPongReplace, onPingDeloopy, onPongDeloopy}
+
+-- a message of a type that uses the subject, no spare, names a node
+pub names-node : {n : ℕ} {m : MessageRecord} (k : ℕ) → usesSubject k ≡ true → namesSpare k ≡ false → Delivered n m → m .tag ≡ k → m .subject .0 < n
+names-node k u s d e = d .subject-low (ap usesSubject e ∙ u) (ap namesSpare e ∙ s)
 
 module _ (t : Table) (me now : ℕ) (o : Own) (m : Message) (P : Effect → Type 0) where
   abbrev steps : List Effect

@@ -4,7 +4,7 @@ use Prim.Native.Nat.{ℕ, zero, suc, _+_, _-_, _*_, _/_, _%_, _^_, _≤_, _<_}
 use native.Mathlib.Nat.{div-eq-of-lt, pow-le-pow-right, mod-lt, mod-eq-of-lt, suc-mul}
 use native.Mathlib.Omega.{arith}
 use native.Mathlib.Decide.{decLt}
-use mathlib.Core.Bool.{Bool, true, false, not, _&&_}
+use mathlib.Core.Bool.{Bool, true, false, not, _&&_, and-true}
 use lib.Arith.{digits-mod}
 use lib.Pow.{pow-pos, pow-add, split, shr-shr, field, mod-mod-pow, shr-mod}
 use lib.Bits.{bitAnd, and-high, and-zero-r}
@@ -187,7 +187,3 @@ without-receiver r a b c h s =
     only : (p : Bool) → (p && true && true) ≡ p
     only true = refl
     only false = refl
-
-    and-true : (p : Bool) → (p && true) ≡ p
-    and-true true = refl
-    and-true false = refl

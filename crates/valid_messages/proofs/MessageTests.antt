@@ -3,10 +3,10 @@ use mathlib.Core.Path.{_≡_, refl, sym, ap, ap₂, _∙_}
 use Prim.Native.Nat.{ℕ, zero, suc, _+_, _*_, _/_, _%_, _^_, _<_}
 use native.Mathlib.Nat.{add-zero, add-suc}
 use native.Mathlib.Omega.{arith}
-use mathlib.Core.Bool.{Bool, true, false, not, _&&_, _||_}
+use mathlib.Core.Bool.{Bool, true, false, not, _&&_, _||_, and-true}
 use mathlib.Core.List.{List, [], _∷_, _++_}
 use native.Mathlib.Decide.{ℕ-discrete}
-use lib.ListN.{getD, set, length}
+use lib.ListN.{getD, set, length, take}
 use lib.Seq.{getD-set-same, getD-set-other}
 use lib.Arith.{mod-mul, lt-of-le-ne}
 use lib.Pow.{field, mod-mod-pow, shr-shr}
@@ -16,7 +16,9 @@ use Rattle.model.specs.Sets.{Set, all}
 use Rattle.model.specs.Fields.{bits}
 use Rattle.model.specs.Leafset.{Table, size}
 use Rattle.model.specs.Ring.{Message}
-use Rattle.model.specs.Words.{at, messageWord, messagePlace, decodeMessage, messageFits, ringLength, between, subjectFits, viewFits}
+use Rattle.model.specs.Types.{pongAskRepl}
+use Rattle.model.specs.Words.{at, messageWord, messagePlace, decodeMessage, messageTests, messageFits, ringLength, isType, subjectFits, viewFits}
+use Rattle.model.proofs.Types.{types-use}
 use Rattle.valid_messages.specs.Messages.{messageReads, messagesRead}
 use Rattle.valid_nodes.specs.Nodes.{clear}
 use Rattle.valid_messages.specs.Rests.{kept, stampFits, restReads}
@@ -30,10 +32,6 @@ use Rattle.valid_nodes.proofs.Formats.{of-kind, lowest}
 abbrev pub joined : Bool → List Bool → Bool
 joined b [] = b
 joined b (c ∷ bs) = joined (b && c) bs
-
-and-true : (a : Bool) → (a && true) ≡ a
-and-true true = refl
-and-true false = refl
 
 and-assoc : (a b c : Bool) → ((a && b) && c) ≡ (a && (b && c))
 and-assoc true b c = refl
@@ -87,15 +85,15 @@ high-subject w = refl
 pub high-kind : (w : ℕ) → w / 2 ^ 16 / 2 ^ 7 ≡ w / 2 ^ 23
 high-kind w = shr-shr w 16 7
 
--- what `firstFits` asks, with the size, the type and the subject's test as code has them
+-- what `firstFits` asks, with the size, the type, the one that names a spare and the subject's test as code has them
 abbrev firstTests : ℕ → ℕ → Bool → Message → List Bool
 firstTests n tag fits m =
-    between 1 12 tag
+    isType tag
     ∷ ltb (m .sender) n
     ∷ ltb (m .receiver) n
     ∷ not (eqb (m .sender) (m .receiver))
     ∷ fits
-    ∷ (eqb tag 8 ⇒ not (eqb (m .subject) (m .sender)) && not (eqb (m .subject) (m .receiver)))
+    ∷ (eqb tag pongAskRepl ⇒ not (eqb (m .subject) (m .sender)) && not (eqb (m .subject) (m .receiver)))
     ∷ []
 
 module _ (ws : List ℕ) (t : Table) (k : ℕ) where
@@ -107,8 +105,8 @@ module _ (ws : List ℕ) (t : Table) (k : ℕ) where
       → joined (eqb (getD ws (messagePlace k) 0 / 2 ^ 23) 192) (firstTests n tag fits message) ≡ firstReads ws t k
   unfolding firstReads firstFits
   first-test n tag fits e f h =
-      rw (← e, ← f, h)
-      (joined-every (eqb (getD ws (messagePlace k) 0 / 2 ^ 23) 192) (firstTests (size t) (message .type) (subjectFits t message) message)
+      rw (← e, ← f, h, ← types-use .spare (message .type))
+      (joined-every (eqb (getD ws (messagePlace k) 0 / 2 ^ 23) 192) (take 6 (messageTests t message))
       ∙ rw (first-kept ws k, and-true (firstFits t message)))
 
 -- ---- halves
@@ -153,7 +151,7 @@ five S = joined-every (S 0) (S 1 ∷ S 2 ∷ S 3 ∷ S 4 ∷ []) ∙ every-appen
 
 fits-split : (t : Table) (m : Message) → messageFits t m ≡ (firstFits t m && every (stampFits m ∷ viewFits t m ∷ []))
 unfolding messageFits firstFits
-fits-split t m = every-append (firstTests (size t) (m .type) (subjectFits t m) m) (stampFits m ∷ viewFits t m ∷ [])
+fits-split t m = every-append (take 6 (messageTests t m)) (stampFits m ∷ viewFits t m ∷ [])
 
 message-split : (ws : List ℕ) (t : Table) (k : ℕ) → messageReads ws t k ≡ (firstReads ws t k && restReads ws t k)
 unfolding messageReads firstReads restReads

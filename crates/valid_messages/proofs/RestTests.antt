@@ -3,7 +3,7 @@ use mathlib.Core.Path.{_≡_, refl, sym, ap, ap₂, _∙_}
 use Prim.Native.Nat.{ℕ, zero, suc, _+_, _-_, _*_, _/_, _%_, _^_, _≤_, _<_}
 use native.Mathlib.Omega.{arith}
 use native.Mathlib.Decide.{decLt, ℕ-discrete}
-use mathlib.Core.Bool.{Bool, true, false, not, _&&_, _||_}
+use mathlib.Core.Bool.{Bool, true, false, not, _&&_, _||_, and-true, and-false}
 use mathlib.Core.List.{List, [], _∷_}
 use lib.ListN.{getD, set, replicate, length, length-set, length-replicate, getD-replicate}
 use lib.Seq.{getD-set-same, getD-set-other}
@@ -15,8 +15,9 @@ use borrow.Author.Tests.{eqb-true, eq-eqb, ne-eqb, lt-ltb, le-ltb, ltb-true, leb
 use lib.Arith.{lt-of-le-ne}
 use Rattle.model.specs.Fields.{bits}
 use Rattle.model.specs.Leafset.{Table, size}
-use Rattle.model.specs.Words.{at, messagePlace, decodeMessage, usesStamp, usesView}
-use Rattle.model.proofs.Laws.{same-test, is-false, and-left, and-right, between-low, between-high, if-law}
+use Rattle.model.specs.Types.{usesStamp, usesView}
+use Rattle.model.specs.Words.{at, messagePlace, decodeMessage}
+use Rattle.model.proofs.Laws.{same-test, and-left, and-right, if-law, getD-tabulate}
 use Rattle.valid_nodes.proofs.Formats.{lowest, xor-test, xor-above}
 use Rattle.valid_messages.proofs.Lanes.{none-above, above-test, number, limited, short, without-receiver}
 use Rattle.valid_messages.proofs.Views.{second-kept, low-kept, middle-kept, high-kept, view-test}
@@ -25,14 +26,6 @@ use Rattle.model.specs.Choice.{if_then_else_, every}
 use Rattle.model.specs.Sets.{all, ofBits}
 use Rattle.valid_nodes.proofs.Gather.{or-test, or-more, all-both, all-cong}
 use Rattle.valid_messages.specs.Masks.{part, room, above, ofTypes, receiverBit, OfReceivers, Tables, beyond, wrong, nothingWrong, Small}
-
-and-false : (a : Bool) → (a && false) ≡ false
-and-false true = refl
-and-false false = refl
-
-and-true : (a : Bool) → (a && true) ≡ a
-and-true true = refl
-and-true false = refl
 
 -- 1 << b
 pub one-shifted : (b : ℕ) → b ≤ 24 → (1 * 2 ^ b) % 2 ^ 32 ≡ 2 ^ b
@@ -133,40 +126,12 @@ filled table f = record { bit = λ x i h l. f .bit x i (omega arith) l ∙ rw (l
 
 -- ---- the table of types
 
--- where no entry was set
-unset : (n j : ℕ) → j < 64 → (j ≡ 17 → ⊥) → (j ≡ 18 → ⊥) → (j ≡ 19 → ⊥) → (j ≡ 36 → ⊥) → (j ≡ 40 → ⊥) → getD (ofTypes n) j 0 ≡ 4294967295
-unfolding ofTypes
-unset n j h a b c d e =
-    getD-set-other (set (set (set (set (replicate 64 4294967295) 17 (above (part n 0))) 18 (above (part n 24))) 19 (above (part n 48))) 36 (above 24)) 40 j (above 24) 0 e
-    ∙ getD-set-other (set (set (set (replicate 64 4294967295) 17 (above (part n 0))) 18 (above (part n 24))) 19 (above (part n 48))) 36 j (above 24) 0 d
-    ∙ getD-set-other (set (set (replicate 64 4294967295) 17 (above (part n 0))) 18 (above (part n 24))) 19 j (above (part n 48)) 0 c
-    ∙ getD-set-other (set (replicate 64 4294967295) 17 (above (part n 0))) 18 j (above (part n 24)) 0 b
-    ∙ getD-set-other (replicate 64 4294967295) 17 j (above (part n 0)) 0 a
-    ∙ getD-replicate {A = ℕ} 64 j 4294967295 0 h
-
--- an entry of the view
-view-entry : (n type i v : ℕ) → type < 16 → i < 3 → (type ≡ 4 → getD (ofTypes n) (4 * 4 + (1 + i)) 0 ≡ above v) → getD (ofTypes n) (4 * type + (1 + i)) 0 ≡ above (if usesView type then v else 0)
-view-entry n type i v h l f =
-    elim (ℕ-discrete type 4) [
-      | yes e ↦ rw (e) (f e)
-      | no d ↦ rw (ne-eqb type 4 d) (unset n (4 * type + (1 + i)) (omega arith) (λ e. omega arith) (λ e. omega arith) (λ e. omega arith) (λ e. omega arith) (λ e. omega arith))
-    ]
-
 type-entry : (n type i : ℕ) → type < 16 → i < 4 → getD (ofTypes n) (4 * type + i) 0 ≡ above (room n type i)
 unfolding ofTypes
-type-entry n type zero h l =
-    elim (ℕ-discrete type 9) [
-      | yes e ↦ rw e refl
-      | no d ↦ elim (ℕ-discrete type 10) [
-        | yes e ↦ rw e refl
-        | no f ↦ let u : usesStamp type ≡ false = is-false (usesStamp type) (λ t. f (omega (arith, d, between-low 9 10 type t, between-high 9 10 type t))) in
-            rw u (unset n (4 * type + 0) (omega arith) (λ e. omega arith) (λ e. omega arith) (λ e. omega arith) (λ e. d (omega arith)) (λ e. f (omega arith)))
-      ]
-    ]
-type-entry n type (suc zero) h l = view-entry n type 0 (part n 0) h (omega arith) (λ e. refl)
-type-entry n type (suc (suc zero)) h l = view-entry n type 1 (part n 24) h (omega arith) (λ e. refl)
-type-entry n type (suc (suc (suc zero))) h l = view-entry n type 2 (part n 48) h (omega arith) (λ e. refl)
-type-entry n type (suc (suc (suc (suc i)))) h l = absurd (omega arith)
+type-entry n type i h l =
+    let q : (4 * type + i) / 4 ≡ type = omega arith in
+    let r : (4 * type + i) % 4 ≡ i = omega arith in
+    getD-tabulate (λ j. above (room n (j / 4) (j % 4))) 0 64 (4 * type + i) (omega arith) ∙ rw (q, r)
 
 part≤ : (n from : ℕ) → part n from ≤ 32
 part≤ n from =

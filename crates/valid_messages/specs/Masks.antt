@@ -5,9 +5,11 @@ use mathlib.Core.Bool.{Bool, _&&_}
 use mathlib.Core.List.{List}
 use lib.Bits.{bitOr, bitXor, bitAnd}
 use lib.Dec.{leb, eqb}
-use lib.ListN.{getD, set, replicate}
+use lib.ListN.{getD}
 use Rattle.model.specs.Choice.{if_then_else_}
-use Rattle.model.specs.Words.{at, messagePlace, usesView, usesStamp}
+use Rattle.model.specs.Sets.{tabulate}
+use Rattle.model.specs.Types.{usesView, usesStamp}
+use Rattle.model.specs.Words.{at, messagePlace}
 
 -- how many of the 24 nodes from `from` on are below n
 abbrev pub part : ℕ → ℕ → ℕ
@@ -24,8 +26,7 @@ above free = 2 ^ 32 - 2 ^ free
 
 -- for each type, four words: the bits that have to be those of an empty rest
 unfoldable pub ofTypes : ℕ → List ℕ
-ofTypes n =
-    set (set (set (set (set (replicate 64 4294967295) 17 (above (part n 0))) 18 (above (part n 24))) 19 (above (part n 48))) 36 (above 24)) 40 (above 24)
+ofTypes n = tabulate 64 (λ j. above (room n (j / 4) (j % 4)))
 
 -- the receiver's bit in word i of a rest
 abbrev pub receiverBit : ℕ → ℕ → ℕ

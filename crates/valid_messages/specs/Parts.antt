@@ -1,27 +1,18 @@
 -- `messageReads` in two parts: the first word of a message here, the rest in Rests.
 use mathlib.Core.Path.{_≡_}
 use Prim.Native.Nat.{ℕ, _+_, _/_, _%_, _^_, _<_}
-use mathlib.Core.Bool.{Bool, not, _&&_}
+use mathlib.Core.Bool.{Bool}
 use mathlib.Core.List.{List, [], _∷_}
-use lib.ListN.{getD}
-use lib.Dec.{ltb, eqb}
-use Rattle.model.specs.Choice.{_⇒_, every}
-use Rattle.model.specs.Leafset.{Table, size}
+use lib.ListN.{getD, take}
+use Rattle.model.specs.Choice.{every}
+use Rattle.model.specs.Leafset.{Table}
 use Rattle.model.specs.Ring.{Message}
-use Rattle.model.specs.Words.{at, messagePlace, decodeMessage, between, subjectFits}
+use Rattle.model.specs.Words.{at, messagePlace, decodeMessage, messageTests}
 use Rattle.valid_messages.specs.Rests.{kept}
 
--- what `messageFits` asks but for the stamp and the view
+-- what `messageFits` asks but for the stamp and the view: its first six tests
 unfoldable pub firstFits : Table → Message → Bool
-firstFits t m =
-    every
-    (between 1 12 (m .type)
-    ∷ ltb (m .sender) (size t)
-    ∷ ltb (m .receiver) (size t)
-    ∷ not (eqb (m .sender) (m .receiver))
-    ∷ subjectFits t m
-    ∷ (eqb (m .type) 8 ⇒ not (eqb (m .subject) (m .sender)) && not (eqb (m .subject) (m .receiver)))
-    ∷ [])
+firstFits t m = every (take 6 (messageTests t m))
 
 unfoldable pub firstReads : List ℕ → Table → ℕ → Bool
 firstReads ws t k = every (kept ws k 0 ∷ firstFits t (decodeMessage ws k) ∷ [])

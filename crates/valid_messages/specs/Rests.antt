@@ -7,7 +7,8 @@ use lib.Dec.{eqb}
 use Rattle.model.specs.Choice.{every}
 use Rattle.model.specs.Leafset.{Table}
 use Rattle.model.specs.Ring.{Message}
-use Rattle.model.specs.Words.{messagePlace, messageWords, decodeMessage, usesStamp, viewFits}
+use Rattle.model.specs.Types.{usesStamp}
+use Rattle.model.specs.Words.{messagePlace, messageWords, decodeMessage, viewFits}
 
 module _ (ws : List ℕ) (k : ℕ) where
   -- word i of message k is that of the message that the words decode to

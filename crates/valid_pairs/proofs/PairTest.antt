@@ -5,7 +5,7 @@ use native.Mathlib.Numerals.{add-one}
 use native.Mathlib.Nat.{le-refl, zero-add, mod-lt, mod-eq-of-lt, div-add-mod'}
 use native.Mathlib.Omega.{arith}
 use native.Mathlib.Decide.{decLt, ℕ-discrete}
-use mathlib.Core.Bool.{Bool, true, false, not, _&&_, _||_}
+use mathlib.Core.Bool.{Bool, true, false, not, _&&_, _||_, and-true, and-false}
 use mathlib.Core.List.{List, [], _∷_}
 use lib.Arith.{mod-mul}
 use lib.Bits.{bitXor, bitAnd, xor-zero-r, xor-self, xor-block}
@@ -22,14 +22,6 @@ use Rattle.model.proofs.Lists.{first, rest}
 use Rattle.valid_nodes.proofs.Formats.{lowest, xor-test}
 use Rattle.valid_pairs.specs.Pairs.{linkReads, spareReads}
 use Rattle.valid_pairs.proofs.PairFormats.{pair-format, spare-format, without-candidate}
-
-and-true : (a : Bool) → (a && true) ≡ a
-and-true true = refl
-and-true false = refl
-
-and-false : (a : Bool) → (a && false) ≡ false
-and-false true = refl
-and-false false = refl
 
 -- ---- the link: high bits q, mark f, stamp s
 

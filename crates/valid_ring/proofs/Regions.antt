@@ -1,9 +1,9 @@
 -- Words read as a ring exactly where each of their regions does.
-use mathlib.Core.Path.{_≡_, refl, sym, ap, _∙_}
-use Prim.Native.Nat.{ℕ, zero, suc, _+_, _-_, _*_, _/_, _%_, _≤_, _<_}
+use mathlib.Core.Path.{_≡_, sym, ap, _∙_}
+use Prim.Native.Nat.{ℕ, zero, suc, _+_, _≤_, _<_}
 use native.Mathlib.Omega.{arith}
-use native.Mathlib.Nat.{add-zero, mod-lt, div-add-mod'}
-use native.Mathlib.Decide.{decLt, ℕ-discrete}
+use native.Mathlib.Nat.{add-zero}
+use native.Mathlib.Decide.{decLt}
 use mathlib.Core.Bool.{Bool, true, false, not, _&&_, _||_}
 use mathlib.Core.List.{List, [], _∷_}
 use lib.ListN.{length, getD}
@@ -18,54 +18,14 @@ use Rattle.model.specs.WellFormed.{Each, nil, cons}
 use Rattle.model.specs.Words.{sidesOf, sidesFit, at, headWord, keyWord, clockWord, pairWord, spareWord, nodePlace, pairPlace, messagePlace, between, inRange, keysDiffer, isPair, ofNode, ofPair, ofMessage, nodeWords, pairWords, messageWords, wordAt, ringLength, decodeTable, decodeOwn, decodeNode, decodeMessage, decode, pairFits, nodeFits, messageFits, ringFits, formatFits, readsAsRing}
 use Rattle.model.proofs.Laws.{between-low, between-high, and-left, and-right, and-in, implies-in, implies-out, not-in, not-out, decide, is-false, same-test, every-in, every-out, all-in, all-out, length-tabulate, getD-tabulate}
 use Rattle.model.proofs.Lists.{first, rest}
-use Rattle.model.proofs.Words.{node-at, pair-at, message-at, pair-low, pair-other, ReadsAsRing, reads-in, reads-out}
+use Rattle.model.proofs.Words.{node-at, pair-at, message-at, every-place, pair-low, pair-other, ReadsAsRing, reads-in, reads-out}
 use Rattle.valid_messages.specs.Messages.{messageReads, messagesRead}
 use Rattle.valid_nodes.specs.Nodes.{clear, sizeOf, countOf, keyAt, clockAt, headReads, nodeReads, nodesRead}
 use Rattle.valid_pairs.specs.Pairs.{linkAt, spareAt, linkReads, spareReads, pairReads, rowReads, pairsRead}
-use Rattle.valid_ring.specs.Regions.{regionsRead}
+use Rattle.valid_ring.specs.Regions.{regionTests, regionsRead}
+use Rattle.valid_messages.proofs.MessageTests.{joined-every}
 use Rattle.valid_nodes.proofs.Gather.{clear-in, clear-out}
 use Rattle.valid_nodes.proofs.NodeTests.{size-is, key-is}
-
--- ---- every place is word 0's, a node's, a pair's or a message's
-
-pub by-place : (P : ℕ → Type 0) → P 0
-    → ((s j : ℕ) → s < 64 → j < 2 → P (nodePlace s + j))
-    → ((x z j : ℕ) → x < 64 → z < 64 → j < 2 → P (pairPlace x z + j))
-    → ((k j : ℕ) → k < 1024 → j < 5 → P (messagePlace k + j))
-    → (i : ℕ) → i < ringLength → P i
-by-place P p0 pn pp pm i h =
-    elim (ℕ-discrete i 0) [
-      | yes e ↦ rw e p0
-      | no d ↦ elim (decLt i 129) [
-        | yes l ↦
-            let s : ℕ = (i - 1) / 2 in
-            let j : ℕ = (i - 1) % 2 in
-            let a : j < 2 = mod-lt (i - 1) (lit< tt) in
-            let b : s * 2 + j ≡ i - 1 = div-add-mod' (i - 1) 2 in
-            let e : nodePlace s + j ≡ i = omega arith in
-            rw e at (pn s j (omega arith) a)
-        | no d₂ ↦ elim (decLt i 8321) [
-          | yes l ↦
-              let q : ℕ = (i - 129) / 2 in
-              let x : ℕ = q / 64 in
-              let z : ℕ = q % 64 in
-              let j : ℕ = (i - 129) % 2 in
-              let a : j < 2 = mod-lt (i - 129) (lit< tt) in
-              let b : q * 2 + j ≡ i - 129 = div-add-mod' (i - 129) 2 in
-              let c : z < 64 = mod-lt q (lit< tt) in
-              let f : x * 64 + z ≡ q = div-add-mod' q 64 in
-              let e : pairPlace x z + j ≡ i = omega arith in
-              rw e at (pp x z j (omega arith) c a)
-          | no d₃ ↦
-              let k : ℕ = (i - 8321) / 5 in
-              let j : ℕ = (i - 8321) % 5 in
-              let a : j < 5 = mod-lt (i - 8321) (lit< tt) in
-              let b : k * 5 + j ≡ i - 8321 = div-add-mod' (i - 8321) 5 in
-              let e : messagePlace k + j ≡ i = omega arith in
-              rw e at (pm k j (omega arith) a)
-        ]
-      ]
-    ]
 
 -- two words, by place
 two-words : (ws : List ℕ) (p : ℕ) (f : ℕ → ℕ) → at ws p ≡ f 0 → at ws (p + 1) ≡ f 1 → (j : ℕ) → j < 2 → at ws (p + j) ≡ f j
@@ -193,7 +153,7 @@ module _ (ws : List ℕ) where
         → clear ws a e ≡ true
     unused a e pos high fn fp fm =
         clear-in ws a e (λ i h l.
-        by-place (λ i. a ≤ i → i < e → at ws i ≡ 0)
+        every-place (λ i. a ≤ i → i < e → at ws i ≡ 0)
         (λ h₀ l₀. absurd (omega arith))
         (λ s j hs hj h₁ l₁. place (nodePlace s + j) (omega arith) ∙ node-at (decode ws) s j hs hj ∙ node-none s j (fn s j hs hj h₁ l₁))
         (λ x z j hx hz hj h₁ l₁. place (pairPlace x z + j) (omega arith) ∙ pair-at (decode ws) x z j hx hz hj ∙ pair-none x z j (not-pair x z (fp x z j hx hz hj h₁ l₁)))
@@ -296,15 +256,9 @@ module _ (ws : List ℕ) where
   -- ---- from the regions to the whole
 
   module _ (r : regionsRead ws ≡ true) where
-    regions : Each (λ b. b ≡ true)
-        (headReads (at ws 0)
-        ∷ nodesRead ws (sizeOf ws)
-        ∷ keysDiffer (decodeTable ws)
-        ∷ pairsRead ws (sizeOf ws)
-        ∷ messagesRead ws (decodeTable ws) (countOf ws)
-        ∷ [])
+    regions : Each (λ b. b ≡ true) (regionTests ws)
     unfolding regionsRead
-    regions = every-out _ r
+    regions = every-out (regionTests ws) r
 
     in-head : Each (λ b. b ≡ true)
         (eqb (at ws 0) (headWord (sidesOf (at ws 0)) (sizeOf ws) (countOf ws))
@@ -438,7 +392,7 @@ module _ (ws : List ℕ) where
     unfolding formatFits
     format =
         all-in ringLength (λ i. eqb (at ws i) (wordAt (decode ws) i)) (λ i h. eq-eqb (at ws i) (wordAt (decode ws) i)
-        (by-place (λ i. at ws i ≡ wordAt (decode ws) i)
+        (every-place (λ i. at ws i ≡ wordAt (decode ws) i)
         (eqb-true (at ws 0) _ (first in-head) ∙ sym head-word)
         (λ s j hs hj. node-format s j hs hj ∙ sym (node-at (decode ws) s j hs hj))
         (λ x z j hx hz hj. pair-format x z j hx hz hj ∙ sym (pair-at (decode ws) x z j hx hz hj))
@@ -501,11 +455,4 @@ module _ (ws : List ℕ) (long : length ws ≡ ringLength) where
   pub after-head : headReads (at ws 0) ≡ true
       → (nodesRead ws (sizeOf ws) && keysDiffer (decodeTable ws) && pairsRead ws (sizeOf ws) && messagesRead ws (decodeTable ws) (countOf ws)) ≡ readsAsRing ws
   unfolding regionsRead
-  after-head e = rw (regions-read ws long, e) (regroup (nodesRead ws (sizeOf ws)) (keysDiffer (decodeTable ws)) (pairsRead ws (sizeOf ws)) (messagesRead ws (decodeTable ws) (countOf ws)))
-    where
-      regroup : (a b c d : Bool) → (a && b && c && d) ≡ every (a ∷ b ∷ c ∷ d ∷ [])
-      regroup false b c d = refl
-      regroup true false c d = refl
-      regroup true true false d = refl
-      regroup true true true false = refl
-      regroup true true true true = refl
+  after-head e = rw (regions-read ws long, e) (joined-every (nodesRead ws (sizeOf ws)) (keysDiffer (decodeTable ws) ∷ pairsRead ws (sizeOf ws) ∷ messagesRead ws (decodeTable ws) (countOf ws) ∷ []))

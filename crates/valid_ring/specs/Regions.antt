@@ -9,12 +9,14 @@ use Rattle.valid_pairs.specs.Pairs.{pairsRead}
 use Rattle.valid_messages.specs.Messages.{messagesRead}
 
 -- region by region
-unfoldable pub regionsRead : List ℕ → Bool
-regionsRead ws =
-    every
-    (headReads (at ws 0)
+abbrev pub regionTests : List ℕ → List Bool
+regionTests ws =
+    headReads (at ws 0)
     ∷ nodesRead ws (sizeOf ws)
     ∷ keysDiffer (decodeTable ws)
     ∷ pairsRead ws (sizeOf ws)
     ∷ messagesRead ws (decodeTable ws) (countOf ws)
-    ∷ [])
+    ∷ []
+
+unfoldable pub regionsRead : List ℕ → Bool
+regionsRead ws = every (regionTests ws)

@@ -3,7 +3,8 @@ use Prim.Native.Nat.{ℕ, _<_}
 use native.Mathlib.Omega.{arith}
 use lib.Dec.{lit<}
 use borrow.Author.Needs.{needs}
-use Rattle.model.specs.Steps.{stamped, pingReplace}
+use Rattle.model.specs.Types.{pingReplace}
+use Rattle.model.specs.Steps.{stamped}
 use Rattle.model.specs.Structs.{spareAt}
 use Rattle.sets.proofs.Arrays.{spare-read}
 use Rattle.ring_messages.proofs.Sends.{Sending, send-none, send-more, send-all, sent-below, sent-member, sent-room}

@@ -1,21 +1,25 @@
-use mathlib.Core.Path.{_≡_}
+use mathlib.Core.Path.{_≡_, refl}
 use Prim.Native.Nat.{ℕ, suc, _<_}
 use native.Mathlib.Omega.{arith}
 use borrow.Author.Needs.{needs}
+use Rattle.model.specs.Types.{usedByType, pingReplace, pongReplace, pingDeloopy}
 use Rattle.records.specs.Effects.{Leaves}
 use Rattle.records.proofs.Changes.{unchanged}
-use Rattle.step_dispatch.proofs.ByType.{by-type, by-no-type}
+use Rattle.step_dispatch.proofs.ByType.{names-node, by-type, by-no-type}
 use Rattle.step_dispatch.proofs.deliver.Statement.{statement}
 use Rattle.step_dispatch.proofs.deliver.Tie as tie
 
 on-ping-replace-requires : tie.Need-on-ping-replace-requires
-on-ping-replace-requires c κs = let low = c .before .before .pre .1 .1 .subject-low (search needs) (search needs) in search needs
+unfolding usedByType
+on-ping-replace-requires c κs = let low = names-node pingReplace refl refl (c .before .before .pre .1 .1) (search needs) in search needs
 
 on-pong-replace-requires : tie.Need-on-pong-replace-requires
-on-pong-replace-requires c κs = let low = c .before .before .pre .1 .1 .subject-low (search needs) (search needs) in search needs
+unfolding usedByType
+on-pong-replace-requires c κs = let low = names-node pongReplace refl refl (c .before .before .pre .1 .1) (search needs) in search needs
 
 on-ping-deloopy-requires : tie.Need-on-ping-deloopy-requires
-on-ping-deloopy-requires c κs = let low = c .before .before .pre .1 .1 .subject-low (search needs) (search needs) in search needs
+unfolding usedByType
+on-ping-deloopy-requires c κs = let low = names-node pingDeloopy refl refl (c .before .before .pre .1 .1) (search needs) in search needs
 
 returns : tie.Need-returns
 returns c = by-type _ _ _ _ _ (Leaves _ _ _ _) 1 (search needs) (c .on-ping-contact .ensures _ _ _ (c .before .before .before .pre .0 .own-fits))

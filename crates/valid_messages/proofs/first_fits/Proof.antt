@@ -2,13 +2,14 @@ use Prim.Native.Nat.{_%_}
 use native.Mathlib.Nat.{div-one}
 use lib.ListN.{getD}
 use borrow.Author.Needs.{needs}
+use Rattle.model.specs.Types.{usedByType}
 use Rattle.model.specs.Words.{messagePlace, decodeMessage}
 use Rattle.valid_messages.proofs.MessageTests.{first-test, low-tag, low-sender, low-receiver, high-subject, high-kind}
 use Rattle.valid_messages.proofs.first_fits.Statement.{statement}
 use Rattle.valid_messages.proofs.first_fits.Tie as tie
 
 returns : tie.Need-returns
-unfolding decodeMessage
+unfolding decodeMessage usedByType
 returns c ws t k e f g =
     let w = getD ws (messagePlace k) 0 in
     rw (← f, ← g, low-tag w, low-sender w, low-receiver w, high-subject w, high-kind w)

@@ -1,4 +1,6 @@
 use mathlib.Core.Path.{refl, ap, _∙_}
+use Rattle.model.specs.Sets.{tabulateFrom}
+use Rattle.model.specs.Types.{usedByType}
 use Rattle.valid_messages.specs.Masks.{above, ofTypes}
 use borrow.Author.Needs.{needs}
 use Rattle.valid_messages.proofs.rests.of_types.Statement.{statement}
@@ -14,7 +16,7 @@ above-requires-3 : tie.Need-above-requires-3
 above-requires-3 c κs = c .part3 .ensures .1
 
 returns : tie.Need-returns
-unfolding ofTypes
+unfolding ofTypes usedByType tabulateFrom
 returns c =
     rw (
       c .before .before .before .before .before .before .above .ensures ∙ ap above (c .before .before .before .before .before .before .before .part .ensures .0),
