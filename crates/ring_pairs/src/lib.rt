@@ -4,7 +4,7 @@ ghost use Prim.Native.Nat.{_+_, _*_, _<_, _≤_, _^_};
 ghost use lib.ListN.{length};
 ghost use Rattle.model.specs.Choice.{if_then_else_};
 ghost use Rattle.model.specs.Leafset.{size};
-ghost use Rattle.model.specs.Words.{ringLength, decodeTable, pairWord};
+ghost use Rattle.model.specs.Words.{ringLength, decodeTable};
 ghost use Rattle.model.specs.Ring.{cleared};
 ghost use Rattle.model.specs.Structs.{ownOf, RoomNode};
 ghost use Rattle.ring_pairs.specs.Loaded.{LoadedNode};
@@ -16,7 +16,7 @@ use word_ring::PairWord;
 use word_ring::SpareWord;
 use word_ring::place;
 
-// The own record of node x, of n. The words of x with itself are read as a pair's, and dropped.
+// The own record of node x, of n, from its last pair down. What would be x's pair with itself is read, and dropped.
 pub fn load(words: &[u32], n: usize, x: NodeNumber) -> NodeRecord
     requires words { ⌜ (length (now words) ≡ ringLength) × (n ≡ size (decodeTable (now words))) × (n ≤ 64)
         × (x .0 < n) ⌝ }
@@ -55,7 +55,7 @@ fn raised(set: u64, b: bool) -> u64
     if b { 2 * set + 1 } else { 2 * set }
 }
 
-// Writes the pairs of x and each z from a up to b. The sets lose their lowest member at each pair.
+// Writes the pairs of x and each z from a up to b. Bit 0 of the two sets is z's.
 pub fn store(words: &mut [u32], x: usize, a: usize, b: usize, own: NodeRecord)
     requires words { ⌜ (length (now words) ≡ ringLength) × (x < 64) × (a ≤ b) × (b ≤ 64) × RoomNode own ⌝ }
     ensures value { λ _. ⌜ Stored (now (words .entry)) (now (words .exit)) x a b (ownOf own) ⌝ }
