@@ -45,6 +45,10 @@ impl Book {
         &self.plain.words[..LENGTH]
     }
 
+    pub fn places(&self) -> &[u8] {
+        &self.plain.places
+    }
+
     fn run(&mut self, number: u32, a: u32, b: u32, c: u32) -> Option<Line> {
         let command = Command { number, a, b, c, lent: self.lent };
         self.input.extend(command.bytes());
@@ -155,6 +159,17 @@ impl Book {
                 count(&mut self.tally.replayed, answer as u32);
             }
         }
+    }
+
+    /// Plays words of the list by one call, which is lent so many places. Each case says their answers, too: a place past
+    /// the words is kept, and every place where the call is refused.
+    pub fn play_all(&mut self, from: u32, answers: &[u8], places: usize, answer: u32) {
+        let written = if answer == 0 { answers.len().min(places) } else { 0 };
+        let mut expected = self.plain.places.clone();
+        expected[..written].copy_from_slice(&answers[..written]);
+        self.call(Command::PLAY_ALL, [from, from + answers.len() as u32, places as u32], answer);
+        assert!(self.plain.places == expected, "{}: the places of a list", self.tally.section);
+        answers[..written].iter().for_each(|&answer| count(&mut self.tally.listed, answer as u32));
     }
 
     // Parts of a ring, written as words.

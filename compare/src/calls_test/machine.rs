@@ -26,6 +26,7 @@ impl Command {
     pub const READ: u32 = 7;
     pub const WRITE: u32 = 8;
     pub const REPLAY: u32 = 9;
+    pub const PLAY_ALL: u32 = 10;
 
     pub fn bytes(self) -> Vec<u8> {
         [self.number, self.a, self.b, self.c, self.lent].iter().flat_map(|word| word.to_le_bytes()).collect()
@@ -54,7 +55,7 @@ impl fmt::Display for Line {
     }
 }
 
-/// A buffer of one word more than a ring, a list with keys and after them a script, and the places for a replay's answers.
+/// A buffer of one word more than a ring, a list with keys and after them a script, and the places for the answers of its words.
 pub struct Machine<'a> {
     ring: &'a dyn Ring,
     pub words: Vec<u32>,
@@ -99,7 +100,8 @@ impl<'a> Machine<'a> {
             }
             Command::READ => event_word::read(a),
             Command::WRITE => event_word::write(a, b, c),
-            _ => self.replay(command),
+            Command::REPLAY => self.replay(command),
+            _ => self.play_all(command),
         }
     }
 
@@ -116,7 +118,19 @@ impl<'a> Machine<'a> {
                 }
             }
         }
-        (opened, digest(self.places.iter().map(|&place| place as u32)))
+        (opened, self.places_digest())
+    }
+
+    /// Plays words of the list on the ring that is there, with some of the places.
+    fn play_all(&mut self, command: Command) -> (u32, u64) {
+        let words = &mut self.words[..command.lent as usize];
+        let list = &self.list[command.a as usize..command.b as usize];
+        let places = &mut self.places[..command.c as usize];
+        (self.ring.play_all(words, list, places), self.places_digest())
+    }
+
+    fn places_digest(&self) -> u64 {
+        digest(self.places.iter().map(|&place| place as u32))
     }
 }
 

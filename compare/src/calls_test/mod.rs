@@ -4,6 +4,7 @@ mod book;
 mod damaged;
 mod event_word;
 mod events;
+mod lists;
 mod machine;
 mod openings;
 mod pool;
@@ -25,5 +26,6 @@ pub fn all() -> Book {
     pool::write(&mut book);
     damaged::write(&mut book);
     replays::write(&mut book);
+    lists::write(&mut book);
     book
 }

@@ -63,7 +63,7 @@ fn every_answer(book: &mut Book) {
     (0..=script.len() as u32).for_each(|length| book.replay(1, &keys, length, 0));
 }
 
-/// Stored scripts, played word by word and replayed.
+/// Stored scripts, played word by word, replayed, and by one call on the ring that is opened first.
 fn stored(book: &mut Book) {
     for script in STORED {
         let words: Vec<u32> = script.chunks_exact(4).map(|word| u32::from_le_bytes(word.try_into().unwrap())).collect();
@@ -75,5 +75,8 @@ fn stored(book: &mut Book) {
         book.groups(0);
         book.list(n, events);
         book.replay(leaf, &keys, events.len() as u32, 0);
+        let answers = book.places()[..events.len()].to_vec();
+        book.open(leaf, &keys, 0);
+        book.play_all(n, &answers, answers.len(), 0);
     }
 }

@@ -20,6 +20,8 @@ pub struct Tally {
     pub timers: BTreeMap<u32, usize>,
     /// Answers that replays wrote.
     pub replayed: BTreeMap<u32, usize>,
+    /// Answers that lists on a ring wrote.
+    pub listed: BTreeMap<u32, usize>,
     /// Words damaged.
     pub damages: usize,
 }
@@ -29,7 +31,7 @@ pub fn count<K: Ord>(counts: &mut BTreeMap<K, usize>, key: K) {
 }
 
 /// The answers that each call can give.
-const CALLS: [(&str, u32, &[u32]); 8] = [
+const CALLS: [(&str, u32, &[u32]); 9] = [
     ("open", Command::OPEN, &[0, 1, 2, 3]),
     ("play", Command::PLAY, &[0, 1, 4, 5, 6, 7, 8, 9, 10, 11]),
     ("leafset", Command::LEAFSET, &[0, 1, 6, 7, 8]),
@@ -38,6 +40,7 @@ const CALLS: [(&str, u32, &[u32]); 8] = [
     ("read", Command::READ, &[0, 4, 5]),
     ("write", Command::WRITE, &[0, 4, 5]),
     ("replay", Command::REPLAY, &[0, 1, 2, 3]),
+    ("play_all", Command::PLAY_ALL, &[0, 1, 6]),
 ];
 
 /// The answers that playing a word of each event kind can give.
@@ -54,6 +57,9 @@ const EVENTS: [(&str, u32, &[u32]); 7] = [
 /// The answers in a replay's places, where no clock is ever spent.
 const REPLAYED: [u32; 7] = [0, 4, 5, 7, 8, 9, 11];
 
+/// The answers in the places of a list on a ring.
+const LISTED: [u32; 8] = [0, 4, 5, 7, 8, 9, 10, 11];
+
 impl Tally {
     /// Every answer that can come has come, and no other; every type was delivered, and every timer accepted.
     pub fn is_full(&self) -> bool {
@@ -61,6 +67,7 @@ impl Tally {
         self.calls.keys().copied().eq(each(&CALLS))
             && events.copied().eq(each(&EVENTS))
             && self.replayed.keys().copied().eq(REPLAYED)
+            && self.listed.keys().copied().eq(LISTED)
             && self.delivered.keys().copied().eq(1..=12)
             && self.timers.keys().copied().eq(0..=4)
     }
@@ -77,7 +84,8 @@ impl fmt::Display for Tally {
         rows(f, &EVENTS, &self.events)?;
         writeln!(f, "delivered, by type: {:?}", self.delivered)?;
         writeln!(f, "timers accepted: {:?}", self.timers)?;
-        write!(f, "answers of replayed words: {:?}", self.replayed)
+        writeln!(f, "answers of replayed words: {:?}", self.replayed)?;
+        write!(f, "answers of words in lists: {:?}", self.listed)
     }
 }
 

@@ -14,7 +14,7 @@ fn play_word(words: &mut [u32], word: u32, number: u64, out: &mut [u8], at: usiz
     ensures played { λ r. ⌜ OnePlayed (now (words .entry)) word number (now (words .exit)) (now (out .entry))
         (now (out .exit)) at r ⌝ }
 {
-    let answer = call_play::play(words, word);
+    let answer = event_play::play_word(words, word);
     bench_lines::put_three(
         out,
         at,

@@ -1,83 +1,138 @@
--- Loading the own record of a node, a pair at a time.
+-- Loading the own record of a node, a pair at a time, the highest first.
 use mathlib.Core.Path.{_≡_, refl, sym, ap, _∙_, fun-ext}
 use mathlib.Core.Logic.{_≢_}
-use mathlib.Core.Bool.{Bool, true, false, _&&_, _||_}
+use mathlib.Core.Bool.{Bool, true, false, _&&_}
 use mathlib.Core.List.{List}
-use Prim.Native.Nat.{ℕ, _+_, _^_, _<_, _≤_}
+use Prim.Native.Nat.{ℕ, zero, suc, _+_, _-_, _*_, _/_, _%_, _^_, _<_, _≤_}
+use native.Mathlib.Nat.{add-zero, zero-add, pow-suc, lt-of-lt-of-le}
+use native.Mathlib.Numerals.{one-add}
 use native.Mathlib.Omega.{arith}
 use native.Mathlib.Decide.{decLt, ℕ-discrete}
-use lib.Dec.{ltb, lit<}
-use lib.ListN.{getD, set, replicate}
+use lib.Dec.{ltb, eqb, lit<}
+use lib.ListN.{length, getD, set, length-set, replicate}
+use lib.Pow.{pow-pos, pow-mono, shr-shr}
+use lib.Seq.{getD-set-same, getD-set-other}
 use borrow.Author.Tests.{lt-ltb, le-ltb, eq-eqb, ne-eqb}
 use Rattle.model.specs.Choice.{if_then_else_}
-use Rattle.model.specs.Sets.{Set, with, ofBits, noneNode}
+use Rattle.model.specs.Sets.{Set, without, ofBits, noneNode}
 use Rattle.model.specs.Leafset.{size}
 use Rattle.model.specs.Fields.{bits, flag}
 use Rattle.model.specs.Words.{isPair, pairPlace, decodeTable, decodeOwn}
+use Rattle.model.specs.Structs.{stampAt, spareAt}
 use Rattle.model.specs.declared.values.NodeNumber.{NodeNumber}
 use Rattle.model.specs.declared.values.Stamp.{Stamp}
 use Rattle.model.specs.declared.node.NodeRecord.{NodeRecord}
 use Rattle.model.proofs.Fields.{bits<}
 use Rattle.model.proofs.Laws.{if-law}
 use Rattle.sets.proofs.Bits.{of-none}
+use Rattle.sets.proofs.Members.{without-here, without-else}
 use Rattle.ring_head.proofs.Holds.{pair-yes, pair-high, pair-same}
-use Rattle.ring_head.proofs.Arrays.{Filled, fill-none, fill-skip, fill-more, fill-all}
+use Rattle.ring_head.proofs.Arrays.{fill-none}
 use Rattle.ring_pairs.specs.Loaded.{LoadedNode}
 
--- ---- a set that is built from below
+-- ---- a set that is built from above
 
--- h has the members of S below z
-abbrev pub Below : ℕ → Set → ℕ → Type 0
-Below h S z = (y : ℕ) → ofBits h y ≡ (ltb y z && S y)
+-- h has the members of S from z on and below n, each lower by z
+pub record Above (h : ℕ) (S : Set) (z n : ℕ) : Type 0 where
+  pub low : h < 2 ^ (n - z)
+  pub members : (y : ℕ) → ofBits h y ≡ (ltb (z + y) n && S (z + y))
 
-or-false : (b : Bool) → (b || false) ≡ b
-or-false true = refl
-or-false false = refl
+abbrev one : Bool → ℕ
+one b = if b then 1 else 0
 
-pub below-none : (S : Set) → Below 0 S 0
-below-none S y = of-none y ∙ rw (le-ltb y 0 (omega arith))
+pub above-none : (S : Set) (n : ℕ) → Above 0 S n n
+above-none S n = record { low = pow-pos (n - n); members = λ y. of-none y ∙ rw (le-ltb (n + y) n (omega arith)) }
 
-module _ (S : Set) (z h : ℕ) (e : Below h S z) where
-  pub below-skip : S z ≡ false → Below h S (z + 1)
-  below-skip f y =
-      elim (decLt y z) [
-        | yes l ↦ e y ∙ rw (lt-ltb y z l, lt-ltb y (z + 1) (omega arith))
-        | no l ↦ e y ∙ rw (le-ltb y z (omega arith)) (elim (ℕ-discrete y z) [ yes q ↦ rw (q, f) (sym (and-none (ltb z (z + 1)))) | no d ↦ rw (le-ltb y (z + 1) (omega arith)) ])
-      ]
+lowest-bit : (h : ℕ) (b : Bool) → ofBits (2 * h + one b) 0 ≡ b
+lowest-bit h true = eq-eqb ((2 * h + 1) / 2 ^ 0 % 2) 1 (omega arith)
+lowest-bit h false = ne-eqb ((2 * h + 0) / 2 ^ 0 % 2) 1 (λ e. absurd (omega arith))
+
+half : (h : ℕ) (b : Bool) → (2 * h + one b) / 2 ≡ h
+half h true = omega arith
+half h false = omega arith
+
+higher-bit : (h : ℕ) (b : Bool) (y : ℕ) → ofBits (2 * h + one b) (suc y) ≡ ofBits h y
+higher-bit h b y = ap (λ (k : ℕ). eqb (k % 2) 1) (ap (λ (k : ℕ). (2 * h + one b) / 2 ^ k) (sym (one-add y)) ∙ sym (shr-shr (2 * h + one b) 1 y) ∙ ap (λ (k : ℕ). k / 2 ^ y) (half h b))
+
+module _ (S : Set) (h z n : ℕ) (a : Above h S (z + 1) n) (l : z < n) where
+  pub above-room : n ≤ 64 → h < 2 ^ 63
+  above-room k = lt-of-lt-of-le (a .low) (pow-mono {i = n - (z + 1)} {j = 63} (omega arith))
+
+  pub above-more : (b : Bool) → b ≡ S z → Above (2 * h + one b) S z n
+  above-more b e = record { low = room b; members = at }
     where
-      and-none : (b : Bool) → (b && false) ≡ false
-      and-none true = refl
-      and-none false = refl
+      twice : 2 ^ (n - z) ≡ 2 ^ (n - (z + 1)) * 2
+      twice =
+          let k : n - z ≡ suc (n - (z + 1)) = omega arith in
+          ap (λ (k : ℕ). 2 ^ k) k ∙ pow-suc 2 (n - (z + 1))
 
-  pub below-more : (h' : ℕ) (b : Bool) → b ≡ S z → ofBits h' ≡ (if b then with (ofBits h) z else ofBits h) → Below h' S (z + 1)
-  below-more h' true q f y =
-      ap (λ (T : Set). T y) f
-      ∙ elim (ℕ-discrete y z) [
-        | yes d ↦ rw (eq-eqb y z d, d, lt-ltb z (z + 1) (omega arith), ← q) (or-true (ofBits h z))
-        | no d ↦ rw (ne-eqb y z d, e y) (or-false (ltb y z && S y) ∙ ap (λ (b : Bool). b && S y) (same y d))
-      ]
+      room : (b : Bool) → 2 * h + one b < 2 ^ (n - z)
+      room true = omega (arith, twice, a .low)
+      room false = omega (arith, twice, a .low)
+
+      at : (y : ℕ) → ofBits (2 * h + one b) y ≡ (ltb (z + y) n && S (z + y))
+      at zero = rw (add-zero z, lt-ltb z n l) (lowest-bit h b ∙ e)
+      at (suc y) =
+          let k : z + 1 + y ≡ z + suc y = omega arith in
+          higher-bit h b y ∙ a .members y ∙ ap (λ (j : ℕ). ltb j n && S j) k
+
+-- all of it, without x
+module _ (S T : Set) (h r n x : ℕ) (a : Above h S 0 n) (e : ofBits r ≡ without (ofBits h) x) where
+  pub above-all : T x ≡ false → ((y : ℕ) → y < n → y ≢ x → S y ≡ T y) → ((y : ℕ) → n ≤ y → T y ≡ false) → ofBits r ≡ T
+  above-all f g k = e ∙ fun-ext at
     where
-      or-true : (b : Bool) → (b || true) ≡ true
-      or-true true = refl
-      or-true false = refl
+      here : (y : ℕ) → ofBits h y ≡ (ltb y n && S y)
+      here y = a .members y ∙ ap (λ (j : ℕ). ltb j n && S j) (zero-add y)
 
-      same : (y : ℕ) → y ≢ z → ltb y z ≡ ltb y (z + 1)
-      same y d =
-          elim (decLt y z) [
-            | yes l ↦ lt-ltb y z l ∙ sym (lt-ltb y (z + 1) (omega arith))
-            | no l ↦ le-ltb y z (omega arith) ∙ sym (le-ltb y (z + 1) (omega arith))
+      at : (y : ℕ) → without (ofBits h) x y ≡ T y
+      at y =
+          elim (ℕ-discrete y x) [
+            | yes q ↦ rw q (without-here (ofBits h) x ∙ sym f)
+            | no d ↦ without-else (ofBits h) x y d ∙ here y ∙ elim (decLt y n) [
+              | yes l ↦ rw (lt-ltb y n l) (g y l d)
+              | no l ↦ rw (le-ltb y n (omega arith)) (sym (k y (omega arith)))
+            ]
           ]
-  below-more h' false q f y = ap (λ (T : Set). T y) f ∙ below-skip (sym q) y
 
-  pub below-all : ((y : ℕ) → z ≤ y → S y ≡ false) → ofBits h ≡ S
-  below-all f =
-      fun-ext
-      (λ y.
-      e y
-      ∙ elim (decLt y z) [
-        | yes l ↦ rw (lt-ltb y z l)
-        | no l ↦ rw (le-ltb y z (omega arith)) (sym (f y (omega arith)))
-      ])
+-- ---- an array that is filled from above
+
+-- f k at each k from z on and below n, and d from n on
+pub record Down {A : Type 0} (value : A → ℕ) (l : List A) (d : A) (f : ℕ → ℕ) (z n : ℕ) : Type 0 where
+  pub long : length l ≡ 64
+  pub inside : (k : ℕ) → z ≤ k → k < n → value (getD l k d) ≡ f k
+  pub rest : (k : ℕ) → n ≤ k → getD l k d ≡ d
+
+pub down-none : {A : Type 0} (value : A → ℕ) (d : A) (f : ℕ → ℕ) (n : ℕ) → Down value (replicate 64 d) d f n n
+down-none value d f n =
+    record { long = fill-none value d f .long; inside = λ k a b. absurd (omega arith); rest = λ k h. fill-none value d f .rest k (omega arith) }
+
+module _ {A : Type 0} (value : A → ℕ) (l : List A) (d : A) (f : ℕ → ℕ) (z n : ℕ) where
+  pub down-more : Down value l d f (z + 1) n → (v : A) → z < n → n ≤ 64 → value v ≡ f z → Down value (set l z v) d f z n
+  down-more e v h m p =
+      record {
+        long = length-set l z v ∙ e .long;
+        inside = λ k a b.
+            elim (decLt z k) [
+              | yes y ↦ ap value (getD-set-other l z k v d (omega arith)) ∙ e .inside k (omega arith) b
+              | no y ↦ here k (omega arith)
+            ];
+        rest = λ k g. getD-set-other l z k v d (omega arith) ∙ e .rest k g;
+      }
+    where
+      here : (k : ℕ) → k ≡ z → value (getD (set l z v) k d) ≡ f k
+      here k q = rw q (ap value (getD-set-same l z v d (omega (arith, e .long))) ∙ p)
+
+-- all of it, and d at x
+module _ {A : Type 0} (value : A → ℕ) (l : List A) (d : A) (f g : ℕ → ℕ) (n x : ℕ) (e : Down value l d f 0 n) where
+  pub down-all : x < 64 → g x ≡ value d → ((k : ℕ) → k < n → k ≢ x → f k ≡ g k) → ((k : ℕ) → n ≤ k → g k ≡ value d) → (k : ℕ) → value (getD (set l x d) k d) ≡ g k
+  down-all h p q r k =
+      elim (ℕ-discrete k x) [
+        | yes y ↦ rw y (ap value (getD-set-same l x d d (omega (arith, e .long))) ∙ sym p)
+        | no y ↦ ap value (getD-set-other l x k d d y) ∙ elim (decLt k n) [
+          | yes z ↦ e .inside k (omega arith) z ∙ q k z y
+          | no z ↦ ap value (e .rest k (omega arith)) ∙ sym (r k (omega arith))
+        ]
+      ]
 
 -- ---- what the words say of a pair, and of what is none
 
@@ -124,7 +179,7 @@ module _ (ws : List ℕ) (x z : ℕ) where
   unfolding decodeOwn
   spare-room = if-law (λ (k : ℕ). k < 2 ^ 7) (isPair (decodeTable ws) x z) (bits 0 7 (getD ws (pairPlace x z + 1) 0)) noneNode (λ e. bits< 0 7 (getD ws (pairPlace x z + 1) 0)) (λ e. lit< tt)
 
--- ---- the nodes below z are read
+-- ---- the nodes from z on are read
 
 abbrev stampOf : Stamp → ℕ
 stampOf s = s .0
@@ -132,73 +187,91 @@ stampOf s = s .0
 abbrev nodeOf : NodeNumber → ℕ
 nodeOf y = y .0
 
-pub record Loading (ws : List ℕ) (n x z h c : ℕ) (ps : List NodeNumber) (ss : List Stamp) : Type 0 where
-  pub low : z ≤ n
-  pub held : Below h (decodeOwn ws x .held) z
-  pub candidates : Below c (decodeOwn ws x .candidates) z
-  pub spare : Filled nodeOf ps (record { 0 = noneNode }) (decodeOwn ws x .spare) z
-  pub commit : Filled stampOf ss (record { 0 = 0 }) (decodeOwn ws x .commit) z
+module _ (ws : List ℕ) (x : ℕ) where
+  abbrev heldWord : Set
+  heldWord z = flag 24 (getD ws (pairPlace x z) 0)
 
-pub load-none : (ws : List ℕ) (n x : ℕ) → Loading ws n x 0 0 0 (replicate 64 (record { 0 = noneNode })) (replicate 64 (record { 0 = 0 }))
+  abbrev candidateWord : Set
+  candidateWord z = flag 25 (getD ws (pairPlace x z) 0)
+
+  abbrev commitWord : ℕ → ℕ
+  commitWord z = bits 0 24 (getD ws (pairPlace x z) 0)
+
+  abbrev spareWord : ℕ → ℕ
+  spareWord z = bits 0 7 (getD ws (pairPlace x z + 1) 0)
+
+pub record Loading (ws : List ℕ) (n x z h c : ℕ) (ps : List NodeNumber) (ss : List Stamp) : Type 0 where
+  pub within : z ≤ n
+  pub held : Above h (heldWord ws x) z n
+  pub candidates : Above c (candidateWord ws x) z n
+  pub spare : Down nodeOf ps (record { 0 = noneNode }) (spareWord ws x) z n
+  pub commit : Down stampOf ss (record { 0 = 0 }) (commitWord ws x) z n
+
+pub load-none : (ws : List ℕ) (n x : ℕ) → Loading ws n x n 0 0 (replicate 64 (record { 0 = noneNode })) (replicate 64 (record { 0 = 0 }))
 load-none ws n x =
     record {
-      low = omega arith;
-      held = below-none (decodeOwn ws x .held);
-      candidates = below-none (decodeOwn ws x .candidates);
-      spare = fill-none nodeOf _ _;
-      commit = fill-none stampOf _ _;
+      within = omega arith;
+      held = above-none _ n;
+      candidates = above-none _ n;
+      spare = down-none nodeOf _ _ n;
+      commit = down-none stampOf _ _ n;
     }
 
-module _ (ws : List ℕ) (n x : ℕ) (size-n : n ≡ size (decodeTable ws)) (hx : x < n) where
-  module _ (z h c : ℕ) (ps : List NodeNumber) (ss : List Stamp) (l : Loading ws n x z h c ps ss) (hz : z < n) where
-    pub load-skip : z ≡ x → Loading ws n x (z + 1) h c ps ss
-    load-skip e =
-        let p = pair-same (decodeTable ws) x z e in
-        record {
-          low = omega arith;
-          held = below-skip _ z h (l .held) (held-none ws x z p);
-          candidates = below-skip _ z c (l .candidates) (candidate-none ws x z p);
-          spare = fill-skip nodeOf _ _ _ z (l .spare) (spare-none ws x z p);
-          commit = fill-skip stampOf _ _ _ z (l .commit) (commit-none ws x z p);
-        }
+module _ (ws : List ℕ) (n x z h c : ℕ) (ps : List NodeNumber) (ss : List Stamp) (l : Loading ws n x (z + 1) h c ps ss) (le : n ≤ 64) where
+  below : z < n
+  below = omega (arith, l .within)
 
-    pub load-more : (h' c' : ℕ) (b d : Bool) (y : NodeNumber) (s : Stamp) → n ≤ 64 → z ≢ x
-        → b ≡ flag 24 (getD ws (pairPlace x z) 0) → ofBits h' ≡ (if b then with (ofBits h) z else ofBits h)
-        → d ≡ flag 25 (getD ws (pairPlace x z) 0) → ofBits c' ≡ (if d then with (ofBits c) z else ofBits c)
-        → y .0 ≡ bits 0 7 (getD ws (pairPlace x z + 1) 0) → s .0 ≡ bits 0 24 (getD ws (pairPlace x z) 0)
-        → Loading ws n x (z + 1) h' c' (set ps z y) (set ss z s)
-    load-more h' c' b d y s le ne eb eh ed ec ey es =
-        let p : isPair (decodeTable ws) x z ≡ true = pair-yes (decodeTable ws) x z (omega arith) (omega arith) ne in
-        record {
-          low = omega arith;
-          held = below-more _ z h (l .held) h' b (eb ∙ sym (held-at ws x z p)) eh;
-          candidates = below-more _ z c (l .candidates) c' d (ed ∙ sym (candidate-at ws x z p)) ec;
-          spare = fill-more nodeOf _ _ _ z (l .spare) y (omega arith) (ey ∙ sym (spare-at ws x z p));
-          commit = fill-more stampOf _ _ _ z (l .commit) s (omega arith) (es ∙ sym (commit-at ws x z p));
-        }
+  pub held-room : h < 2 ^ 63
+  held-room = above-room _ h z n (l .held) below le
 
-  pub load-all : (q : NodeRecord) → Loading ws n x n (q .held) (q .candidates) (q .spare) (q .commit) → LoadedNode ws x q
-  load-all q l =
+  pub candidates-room : c < 2 ^ 63
+  candidates-room = above-room _ c z n (l .candidates) below le
+
+  pub load-more : (h' c' : ℕ) (b d : Bool) (y : NodeNumber) (s : Stamp) → b ≡ heldWord ws x z → h' ≡ 2 * h + one b
+      → d ≡ candidateWord ws x z → c' ≡ 2 * c + one d → y .0 ≡ spareWord ws x z → s .0 ≡ commitWord ws x z
+      → Loading ws n x z h' c' (set ps z y) (set ss z s)
+  load-more h' c' b d y s eb eh ed ec ey es =
+      record {
+        within = omega (arith, l .within);
+        held = rw eh (above-more _ h z n (l .held) below b eb);
+        candidates = rw ec (above-more _ c z n (l .candidates) below d ed);
+        spare = down-more nodeOf ps _ _ z n (l .spare) y below le ey;
+        commit = down-more stampOf ss _ _ z n (l .commit) s below le es;
+      }
+
+module _ (ws : List ℕ) (n x : ℕ) (size-n : n ≡ size (decodeTable ws)) (le : n ≤ 64) (hx : x < n) (h c h' c' : ℕ) (ps : List NodeNumber) (ss : List Stamp)
+    (l : Loading ws n x 0 h c ps ss) (eh : ofBits h' ≡ without (ofBits h) x) (ec : ofBits c' ≡ without (ofBits c) x) where
+  abbrev ownRecord : NodeRecord
+  ownRecord = record { held = h'; candidates = c'; spare = set ps x (record { 0 = noneNode }); commit = set ss x (record { 0 = 0 }) }
+
+  pub load-all : LoadedNode ws x ownRecord
+  load-all =
       record {
         own = λ i. record {
-          held = below-all _ n (q .held) (l .held) (λ z h. held-none ws x z (none z h)) i;
-          candidates = below-all _ n (q .candidates) (l .candidates) (λ z h. candidate-none ws x z (none z h)) i;
+          held = above-all _ (decodeOwn ws x .held) h h' n x (l .held) eh (held-none ws x x self) (λ z a d. sym (held-at ws x z (pair z a d))) (λ z a. held-none ws x z (high z a)) i;
+          candidates = above-all _ (decodeOwn ws x .candidates) c c' n x (l .candidates) ec (candidate-none ws x x self) (λ z a d. sym (candidate-at ws x z (pair z a d))) (λ z a. candidate-none ws x z (high z a)) i;
           commit = fun-ext stamps i;
           spare = fun-ext spares i;
         };
         room = record {
           commit-room = λ z. rw (stamps z) (commit-room ws x z);
           spare-room = λ z. rw (spares z) (spare-room ws x z);
-          commit-long = l .commit .long;
-          spare-long = l .spare .long;
+          commit-long = length-set ss x _ ∙ l .commit .long;
+          spare-long = length-set ps x _ ∙ l .spare .long;
         };
       }
     where
-      none : (z : ℕ) → n ≤ z → isPair (decodeTable ws) x z ≡ false
-      none z h = pair-high (decodeTable ws) x z (omega arith)
+      self : isPair (decodeTable ws) x x ≡ false
+      self = pair-same (decodeTable ws) x x refl
 
-      stamps : (z : ℕ) → getD (q .commit) z (record { 0 = 0 }) .0 ≡ decodeOwn ws x .commit z
-      stamps = fill-all stampOf (q .commit) _ _ n (l .commit) (λ z h. commit-none ws x z (none z h))
+      pair : (z : ℕ) → z < n → z ≢ x → isPair (decodeTable ws) x z ≡ true
+      pair z a d = pair-yes (decodeTable ws) x z (omega arith) (omega arith) d
 
-      spares : (z : ℕ) → getD (q .spare) z (record { 0 = noneNode }) .0 ≡ decodeOwn ws x .spare z
-      spares = fill-all nodeOf (q .spare) _ _ n (l .spare) (λ z h. spare-none ws x z (none z h))
+      high : (z : ℕ) → n ≤ z → isPair (decodeTable ws) x z ≡ false
+      high z a = pair-high (decodeTable ws) x z (omega arith)
+
+      stamps : (z : ℕ) → stampAt ownRecord z ≡ decodeOwn ws x .commit z
+      stamps = down-all stampOf ss _ _ _ n x (l .commit) (omega arith) (commit-none ws x x self) (λ z a d. sym (commit-at ws x z (pair z a d))) (λ z a. commit-none ws x z (high z a))
+
+      spares : (z : ℕ) → spareAt ownRecord z ≡ decodeOwn ws x .spare z
+      spares = down-all nodeOf ps _ _ _ n x (l .spare) (omega arith) (spare-none ws x x self) (λ z a d. sym (spare-at ws x z (pair z a d))) (λ z a. spare-none ws x z (high z a))

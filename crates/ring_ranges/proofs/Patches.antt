@@ -1,11 +1,12 @@
 -- A span written word by word.
-use mathlib.Core.Path.{_≡_, refl, ap, _∙_}
-use mathlib.Core.List.{List, [], _∷_}
+use mathlib.Core.Path.{_≡_, refl, sym, ap, _∙_}
+use mathlib.Core.List.{List, [], _∷_, _++_}
 use Prim.Native.Nat.{ℕ, _+_, _-_, _<_, _≤_}
 use native.Mathlib.Omega.{arith}
 use native.Mathlib.Decide.{decLt}
-use lib.ListN.{length, getD, set, length-set}
-use lib.Seq.{getD-set-same, getD-set-other}
+use lib.ListN.{length, getD, set, take, drop, length-set, List·getD-append}
+use lib.Seq.{getD-set-same, getD-set-other, getD-take, getD-drop, getD-append-add, length-take-le}
+use borrow.Rule.Slice.PartMut.{midOf, postOf, putMid, mid-len, same-len-mid}
 use Rattle.ring_ranges.specs.Spans.{Patched}
 
 pub patched-none : (ws : List ℕ) (from : ℕ) (f : ℕ → ℕ) → Patched ws ws from from f
@@ -28,6 +29,68 @@ module _ (ws ws' : List ℕ) (from to next : ℕ) (f : ℕ → ℕ) (v : ℕ) (s
     where
       here : (i : ℕ) → i ≡ to → getD (set ws' to v) i 0 ≡ f i
       here i q = rw (q, getD-set-same ws' to v 0 (rw (s .long) l)) e
+
+-- the words from `from` up to `to + 5` moved down by five, as a slice of their own
+module _ (ws ys : List ℕ) (from to : ℕ) (o : from ≤ to) (h : to + 5 ≤ length ws) where
+  abbrev k : ℕ
+  k = to + 5 - from
+
+  abbrev part : List ℕ
+  part = midOf from k ws
+
+  abbrev rest : List ℕ
+  rest = ys ++ postOf from k ws
+
+  abbrev whole : List ℕ
+  whole = putMid from k ws ys
+
+  part-long : length part ≡ k
+  part-long = mid-len from (to + 5) ws h
+
+  before-long : length (take from ws) ≡ from
+  before-long = length-take-le from ws (omega arith)
+
+  from-on : (j : ℕ) → getD whole (from + j) 0 ≡ getD rest j 0
+  from-on j = ap (λ (n : ℕ). getD whole (n + j) 0) (sym before-long) ∙ getD-append-add (take from ws) rest j 0
+
+  in-part : (j : ℕ) → j < k → getD part j 0 ≡ getD ws (from + j) 0
+  in-part j l = getD-take k (drop from ws) j 0 l ∙ getD-drop from ws j 0
+
+  module _ (p : Patched part ys 0 (length part - 5) (λ i. getD part (i + 5) 0)) where
+    ys-long : length ys ≡ k
+    ys-long = p .long ∙ part-long
+
+    in-ys : (j : ℕ) → j < k → getD whole (from + j) 0 ≡ getD ys j 0
+    in-ys j l = from-on j ∙ List·getD-append ys (postOf from k ws) 0 j (omega (arith, ys-long))
+
+    after : (j : ℕ) → getD whole (from + (k + j)) 0 ≡ getD ws (from + (k + j)) 0
+    after j =
+        from-on (k + j) ∙ ap (λ (n : ℕ). getD rest (n + j) 0) (sym ys-long) ∙ getD-append-add ys (postOf from k ws) j 0
+        ∙ getD-drop k (drop from ws) j 0 ∙ getD-drop from ws (k + j) 0
+
+    pub patched-part : Patched ws whole from to (λ i. getD ws (i + 5) 0)
+    patched-part =
+        record {
+          long = same-len-mid from k ws ys (p .long);
+          low = λ i l. List·getD-append (take from ws) rest 0 i (omega (arith, before-long)) ∙ getD-take from ws i 0 l;
+          inside = λ i l g.
+              let e : i ≡ from + (i - from) = omega arith in
+              let f : from + (i - from + 5) ≡ i + 5 = omega arith in
+              ap (λ (n : ℕ). getD whole n 0) e ∙ in-ys (i - from) (omega arith) ∙ p .inside (i - from) (omega arith) (omega (arith, part-long))
+              ∙ in-part (i - from + 5) (omega arith) ∙ ap (λ (n : ℕ). getD ws n 0) f;
+          high = λ i l. elim (decLt i (to + 5)) [ yes g ↦ last i l g | no g ↦ past i (omega arith) ];
+        }
+      where
+        last : (i : ℕ) → to ≤ i → i < to + 5 → getD whole i 0 ≡ getD ws i 0
+        last i l g =
+            let e : i ≡ from + (i - from) = omega arith in
+            ap (λ (n : ℕ). getD whole n 0) e ∙ in-ys (i - from) (omega arith) ∙ p .high (i - from) (omega (arith, part-long))
+            ∙ in-part (i - from) (omega arith) ∙ ap (λ (n : ℕ). getD ws n 0) (sym e)
+
+        past : (i : ℕ) → to + 5 ≤ i → getD whole i 0 ≡ getD ws i 0
+        past i l =
+            let e : i ≡ from + (k + (i - (to + 5))) = omega arith in
+            ap (λ (n : ℕ). getD whole n 0) e ∙ after (i - (to + 5)) ∙ ap (λ (n : ℕ). getD ws n 0) (sym e)
 
 -- five words side by side
 module _ (ws : List ℕ) (p a b c d e : ℕ) (h : p + 5 ≤ length ws) where

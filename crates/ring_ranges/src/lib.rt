@@ -1,6 +1,6 @@
 // A span of a ring's words, moved or cleared.
 ghost use mathlib.Core.Path.{_≡_};
-ghost use Prim.Native.Nat.{_+_, _≤_};
+ghost use Prim.Native.Nat.{_+_, _-_, _≤_};
 ghost use lib.ListN.{length, getD};
 ghost use Rattle.model.specs.Words.{ringLength};
 ghost use Rattle.ring_ranges.specs.Spans.{Patched};
@@ -11,8 +11,17 @@ pub fn move_down(words: &mut [u32], from: usize, to: usize)
     ensures value { λ _. ⌜ Patched (now (words .entry)) (now (words .exit)) from to
         (λ i. getD (now (words .entry)) (i + 5) 0) ⌝ }
 {
-    for i in from..to {
-        words[i] = words[i + 5];
+    shift(&mut words[from..to + 5]);
+}
+
+// Moves the words down by five; the last five stay. On a slice of its own this is one move of memory.
+fn shift(part: &mut [u32])
+    requires length { ⌜ 5 ≤ length (now part) ⌝ }
+    ensures value { λ _. ⌜ Patched (now (part .entry)) (now (part .exit)) 0 (length (now (part .entry)) - 5)
+        (λ i. getD (now (part .entry)) (i + 5) 0) ⌝ }
+{
+    for i in 0..part.len() - 5 {
+        part[i] = part[i + 5];
     }
 }
 

@@ -12,7 +12,8 @@ pub fn call(command: Command, words: &mut [u32], list: &[u32], places: &mut [u8]
         Command::OPEN => opened(words, command, list),
         Command::PLAY => outcome(call_play::play(words, command.a), 0),
         Command::LEAFSET..=Command::WRITE => ask(command, words),
-        _ => replayed(words, command, list, places),
+        Command::REPLAY => replayed(words, command, list, places),
+        _ => played_all(words, command, list, places),
     }
 }
 
@@ -27,5 +28,14 @@ fn replayed(words: &mut [u32], command: Command, list: &[u32], places: &mut [u8]
     let rest = &list[n..];
     let end = memory::at_most(command.c, rest);
     let answer = call_play::replay(words, command.a, &list[..n], &rest[..end], places);
+    outcome(answer, memory::digest_bytes(places))
+}
+
+// The value is the digest of all places, also of those that are not lent.
+fn played_all(words: &mut [u32], command: Command, list: &[u32], places: &mut [u8]) -> Outcome {
+    let script = &list[..memory::at_most(command.b, list)];
+    let from = memory::at_most(command.a, script);
+    let end = memory::at_most_bytes(command.c, places);
+    let answer = call_play::play_all(words, &script[from..], &mut places[..end]);
     outcome(answer, memory::digest_bytes(places))
 }

@@ -38,7 +38,10 @@ impl Command {
     // Writes the event of kind a with the parts b and c.
     pub const WRITE: u32 = 8;
 
-    // Every other number replays: opens as above, and plays the c words of the list after the keys.
+    // Replays: opens as above, and plays the c words of the list after the keys.
+    pub const REPLAY: u32 = 9;
+
+    // Every other number plays words a up to b of the list by one call, which is lent the first c places.
 }
 
 pub enum Next {

@@ -53,8 +53,7 @@ fn run_all(words: &mut [u32], list: &mut [u32], places: &mut [u8])
     }
 }
 
-// The list has keys, and after them a script; the places take the answers of
-// a replay.
+// The list has keys, and after them a script; or a script alone. The places take the answers of its words.
 fn main() {
     let mut words = [0u32; WORDS];
     let mut list = [0u32; 1200];

@@ -1,16 +1,29 @@
 // The words that the calls work on.
 ghost use mathlib.Core.Path.{_≡_};
-ghost use Prim.Native.Nat.{_<_, _^_};
+ghost use Prim.Native.Nat.{_<_, _≤_, _^_};
 ghost use lib.ListN.{length};
 ghost use Rattle.io.specs.Counts.{Counts};
+
+// The smaller of the two.
+fn smaller(n: u32, most: usize) -> usize
+    ensures bound { λ r. ⌜ r ≤ most ⌝ }
+{
+    let wanted = n as usize;
+    if wanted <= most { wanted } else { most }
+}
 
 // n, or the number of words where n is above it.
 pub fn at_most(n: u32, words: &[u32]) -> usize
     ensures end { λ r. ⌜ Counts r (now (words .entry)) ⌝ }
 {
-    let wanted = n as usize;
-    let most = words.len();
-    if wanted <= most { wanted } else { most }
+    smaller(n, words.len())
+}
+
+// n, or the number of bytes where n is above it.
+pub fn at_most_bytes(n: u32, bytes: &[u8]) -> usize
+    ensures end { λ r. ⌜ Counts r (now (bytes .entry)) ⌝ }
+{
+    smaller(n, bytes.len())
 }
 
 // Words `from` up to `to` become the value.

@@ -8,12 +8,12 @@ use Rattle.bench_session.proofs.play.play_word.Tie as tie
 
 messages-requires : tie.Need-messages-requires
 messages-requires c κs =
-    let p = c .before .before .before .before .before .play .ensures in
+    let p = c .before .before .before .before .before .play-word .ensures in
     reads-out _ (still _ (c .before .before .before .before .before .before .before .before .before .pre .0) _ (ap (λ (q : Written). q .words) p)) .long
 
 returns : tie.Need-returns
 returns c =
-    let played = c .before .before .before .before .before .before .before .before .before .play in
+    let played = c .before .before .before .before .before .before .before .before .before .play-word in
     let p = played .ensures in
     one-played _ (c .before .before .before .before .before .before .before .before .before .before .before .before .before .pre .0) _ (ap (λ (q : Written). q .words) p) (played .result) (ap (λ (q : Written). q .answer) p)
     (c .before .before .before .before .before .number .ensures) (c .before .before .before .messages .ensures .0) (c .before .before .put-three .ensures .0) (c .before .before .put-three .ensures .1)
