@@ -53,7 +53,7 @@ enum mekvalgs_answer {
 enum mekvalgs_kind {
     MEKVALGS_ON = 9,
     MEKVALGS_OFF = 10,
-    MEKVALGS_NOTICE = 11,
+    MEKVALGS_NOTICE = 11,  /* the node releases the other one, which is then no candidate either */
     MEKVALGS_CONTACT = 12,
     MEKVALGS_TIMER = 13,
     MEKVALGS_DELIVER = 14,

@@ -34,6 +34,10 @@ pub enum Slip {
     TieCounterClockwise,
     /// Timer 1 takes only the invited from the candidates.
     CandidatesKept,
+    /// A notice strikes its subject from the candidates only where it was held.
+    NoticeStrikesHeld,
+    /// A notice strikes everybody from the candidates.
+    NoticeStrikesAll,
     /// "One that always finds stands connected."
     AlwaysConnected,
     /// Groups count the nodes that are off, too.
@@ -57,7 +61,7 @@ pub enum Slip {
 }
 
 impl Slip {
-    pub const ALL: [Slip; 22] = [
+    pub const ALL: [Slip; 24] = [
         Slip::StampNotAbove,
         Slip::CommitZero,
         Slip::AskerAsSpare,
@@ -70,6 +74,8 @@ impl Slip {
         Slip::LeafsetAfterHold,
         Slip::TieCounterClockwise,
         Slip::CandidatesKept,
+        Slip::NoticeStrikesHeld,
+        Slip::NoticeStrikesAll,
         Slip::AlwaysConnected,
         Slip::GroupsOfAll,
         Slip::FullPoolEarly,
@@ -380,7 +386,13 @@ impl State {
     fn notice(&mut self, x: usize, subject: usize) -> Result<(), u32> {
         self.can_act(x, subject)?;
         self.tick(x);
+        let held = self.nodes[x].pairs[subject].held;
         self.release(x, subject);
+        match self.slip {
+            Some(Slip::NoticeStrikesHeld) if !held => {}
+            Some(Slip::NoticeStrikesAll) => self.nodes[x].pairs.iter_mut().for_each(|pair| pair.candidate = false),
+            _ => self.nodes[x].pairs[subject].candidate = false,
+        }
         Ok(())
     }
 

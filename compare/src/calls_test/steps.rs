@@ -96,10 +96,15 @@ fn contact_and_notice(book: &mut Book) {
     book.play(deliver(0), 0);
     book.hold(0, 1, 9, 3);
     book.candidate(0, 1);
+    book.candidate(0, 4);
+    // Held and a candidate; then neither.
     book.play(notice(0, 1), 0);
     book.play(notice(0, 1), 0);
     book.hold(0, 2, 9, 3);
     book.play(notice(0, 2), 0);
+    // A candidate that is not held, which an old view brings back.
+    book.play(notice(0, 4), 0);
+    receive(book, Message::new(4, 1, 0).seeing(&[4]));
 }
 
 /// Timer 0, and types 3 and 4.

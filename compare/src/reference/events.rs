@@ -111,6 +111,7 @@ impl Place<'_> {
         self.clock_can_rise(x)?;
         self.tick(x);
         self.release(x, subject);
+        self.strike_candidate(x, subject);
         Ok(())
     }
 

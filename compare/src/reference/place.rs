@@ -130,6 +130,10 @@ impl Place<'_> {
         self.words[pair_at(x, z) + 1] = KIND_SPARE | spare;
     }
 
+    pub fn strike_candidate(&mut self, x: usize, z: usize) {
+        self.words[pair_at(x, z)] &= !CANDIDATE;
+    }
+
     pub fn add_candidate(&mut self, x: usize, z: usize) {
         self.words[pair_at(x, z)] |= CANDIDATE;
     }

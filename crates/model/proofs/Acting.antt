@@ -15,7 +15,7 @@ use Rattle.model.specs.Leafset.{Table, size, leafset, passesZero}
 use Rattle.model.specs.Ring.{Ring, Own, Node, Message, blank, isRunning, holds, messageAt, initial}
 use Rattle.model.specs.WellFormed.{Spare, none, spare, WellFormedMessage, WellFormed, Each, nil, cons}
 use Rattle.model.specs.Types.{pingReplace, pongReplace}
-use Rattle.model.specs.Steps.{Effect, stamped, plain, setCandidates, setCommit, hold, release, invited, outside, contact, notice, timer0, timer1, timer2, timer3, timer4, timer, onPingContact, onPongContact, onPingAskInv, onPongAskInv, onPingInvite, onPongInvite, onPingAskRepl, onPongAskRepl, onPingReplace, onPongReplace, onPingDeloopy, onPongDeloopy, deliver}
+use Rattle.model.specs.Steps.{Effect, stamped, plain, setCandidates, setCommit, hold, release, forget, invited, outside, contact, notice, timer0, timer1, timer2, timer3, timer4, timer, onPingContact, onPongContact, onPingAskInv, onPongAskInv, onPingInvite, onPongInvite, onPingAskRepl, onPongAskRepl, onPingReplace, onPongReplace, onPingDeloopy, onPongDeloopy, deliver}
 use Rattle.model.specs.Play.{setNode, setMessages, removeMessage, act, after}
 use Rattle.model.specs.ConnectivityPreserved.{Harmless}
 use Rattle.model.specs.declared.event.Event.{Event}
@@ -265,15 +265,19 @@ module _ (r : Ring) (x : ℕ) where
 
   asks-notice : (z : ℕ) → Asks (notice t x now own z)
   unfolding notice
-  asks-notice z =
-      if-law Asks (own .held z) (record { own = release z own; sent = [] }) (record { own = own; sent = [] }) (λ h m. absent) (λ h m. absent)
+  asks-notice z m = absent
+
+  -- z released if held, whoever are the candidates then
+  law-released : (S : Set) (z : ℕ) → isRunning r z ≡ false → Law (record { own = setCandidates S (if own .held z then release z own else own); sent = [] })
+  law-released S z off =
+      if-law (λ p. Law (record { own = setCandidates S p; sent = [] })) (own .held z) (release z own) own
+      (λ h. silently (setCandidates S (release z own))
+      (λ b rb k. release-kept own z b (λ e. clash rb (ap (isRunning r) e ∙ off)) (k, inl refl)) (release-newly own z none-new))
+      (λ h. calm-none S)
 
   law-notice : (z : ℕ) → isRunning r z ≡ false → Law (notice t x now own z)
-  unfolding notice
-  law-notice z off =
-      tested (own .held z)
-      (λ h. silently (release z own) (λ b rb k. release-kept own z b (λ e. clash rb (ap (isRunning r) e ∙ off)) (k, inl refl)) (release-newly own z none-new))
-      nothing
+  unfolding notice forget
+  law-notice z off = law-released _ z off
 
   law-contact : (y : ℕ) → Law (contact t x now own y)
   unfolding contact

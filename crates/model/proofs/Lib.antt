@@ -23,4 +23,5 @@ pub mod LeafsetSize
 pub mod Questions
 pub mod ExampleRing
 pub mod Points
+pub mod Amended
 pub mod Theorems

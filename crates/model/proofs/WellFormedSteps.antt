@@ -7,12 +7,13 @@ use mathlib.Core.Bool.{true, false, not, _&&_, _||_}
 use mathlib.Core.List.{[], _∷_, map}
 use lib.Dec.{ltb, eqb}
 use borrow.Author.Tests.{eq-eqb, ne-eqb, eqb-true, eqb-false}
-use Rattle.model.specs.Sets.{Set, empty, with, union, members, some}
+use Rattle.model.specs.Choice.{if_then_else_}
+use Rattle.model.specs.Sets.{Set, empty, with, without, union, members, some}
 use Rattle.model.specs.Leafset.{Table, size, leafset, closest, successor, passesZero}
 use Rattle.model.specs.Ring.{Own, Message, cleared}
 use Rattle.model.specs.Types.{Uses, nothingUsed, viewUsed, subjectUsed, spareUsed, subjectAndStampUsed, usedByType, usesOf, usesSubject, namesSpare, pingContact, pongContact, pingAskInv, pongAskInv, pingInvite, pongInvite, pingAskRepl, pongAskRepl, pingReplace, pongReplace, pingDeloopy, pongDeloopy}
 use Rattle.model.specs.Words.{isType}
-use Rattle.model.specs.Steps.{Effect, stamped, naming, plain, viewing, setCandidates, setCommit, setSpare, addCandidates, addCandidate, hold, release, contact, notice, timer0, timer1, timer2, timer3, timer4, timer, onPingContact, onPongContact, onPingAskInv, onPongAskInv, onPingInvite, onPongInvite, onPingAskRepl, onPongAskRepl, onPingReplace, onPongReplace, onPingDeloopy, onPongDeloopy, deliver}
+use Rattle.model.specs.Steps.{Effect, stamped, naming, plain, viewing, setCandidates, setCommit, setSpare, addCandidates, addCandidate, hold, release, forget, contact, notice, timer0, timer1, timer2, timer3, timer4, timer, onPingContact, onPongContact, onPingAskInv, onPongAskInv, onPingInvite, onPongInvite, onPingAskRepl, onPongAskRepl, onPingReplace, onPongReplace, onPingDeloopy, onPongDeloopy, deliver}
 use Rattle.model.proofs.Laws.{clash, and-left, and-right, and-in, or-right, or-case, or-none-left, or-none-right, not-in, not-out, not-out-false, is-false, if-law, put-law}
 use Rattle.model.specs.WellFormed.{WellFormedTable, Other, Spare, none, spare, WellFormedOwn, WellFormedMessage, Each, nil, cons}
 use Rattle.model.proofs.Lists.{each-map, item, end, listed-at}
@@ -125,6 +126,13 @@ module _ (n x now : ℕ) (o : Own) (g : WellFormedOwn n x now o) where
       still : (z : ℕ) → (z ≡ y → ⊥) → (o .held z && not (eqb z y)) ≡ false → o .held z ≡ false
       still z d k = is-false (o .held z) (λ h. clash (and-in h (not-in (ne-eqb z y d))) k)
 
+pub forget-well : (n x now : ℕ) (o : Own) → WellFormedOwn n x now o → (z : ℕ) → WellFormedOwn n x now (forget z o)
+unfolding forget
+forget-well n x now o g z =
+    let p : Own = if o .held z then release z o else o in
+    let w : WellFormedOwn n x now p = if-law (WellFormedOwn n x now) (o .held z) (release z o) o (λ e. release-well n x now o g z) (λ e. g) in
+    candidates-well n x now p w (without (o .candidates) z) (λ y e. g .candidate-other y (and-left (o .candidates y) (not (eqb y z)) e))
+
 -- who is held anew is held
 hold-held : (now y : ℕ) (o : Own) → hold now y o .held y ≡ true
 unfolding hold
@@ -209,10 +217,7 @@ module _ (t : Table) (gt : WellFormedTable t) (now : ℕ) (positive : 0 < now) (
 
     pub notice-well : (z : ℕ) → WellFormedEffect (size t) me now (notice t me now o z)
     unfolding notice
-    notice-well z =
-        if-law (WellFormedEffect (size t) me now) (o .held z) _ _
-        (λ e. record { own-well = release-well (size t) me now o g z; sent-well = nil })
-        (λ e. nothing-well)
+    notice-well z = record { own-well = forget-well (size t) me now o g z; sent-well = nil }
 
     timer0-well : WellFormedEffect (size t) me now (timer0 t me now o)
     unfolding timer0 usedByType

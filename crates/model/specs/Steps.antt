@@ -55,6 +55,10 @@ hold now y o =
 unfoldable pub release : ℕ → Own → Own
 release z o = record { held = without (o .held) z; candidates = o .candidates; commit = put (o .commit) z 0; spare = put (o .spare) z noneNode }
 
+-- forget z, as a notice does: it "lets go of its subject if held", and "strikes its subject from the receiver's candidates, held or not"
+unfoldable pub forget : ℕ → Own → Own
+forget z o = setCandidates (without (o .candidates) z) (if o .held z then release z o else o)
+
 -- the steps of the node `me`, whose clock is now `now` and whose own record is `o`
 module _ (t : Table) (me now : ℕ) (o : Own) where
   abbrev pub quiet : Own → Effect
@@ -81,9 +85,9 @@ module _ (t : Table) (me now : ℕ) (o : Own) where
   unfoldable pub contact : ℕ → Effect
   contact y = send (plain pingContact me y ∷ [])
 
-  -- "A notice lets go of its subject if held; candidates stay."
+  -- a notice, as document 02's note 1 has it
   unfoldable pub notice : ℕ → Effect
-  notice z = if o .held z then quiet (release z o) else nothing
+  notice z = quiet (forget z o)
 
   -- "2. Timer 0: type 3 to each held stand."
   unfoldable pub timer0 : Effect

@@ -105,3 +105,17 @@ pub fn release(own: NodeRecord, z: NodeNumber) -> NodeRecord
 {
     set_held(own, sets::without(own.held, z), z, Stamp(0))
 }
+
+// As a notice does: "lets go of its subject if held", and "strikes its subject from the receiver's candidates, held or
+// not".
+pub fn forget(own: NodeRecord, z: NodeNumber) -> NodeRecord
+    requires bounds { ⌜ z .0 < 64 ⌝ }
+    requires record { ⌜ RoomNode own ⌝ }
+    ensures record { λ r. ⌜ ((n : ℕ) → OwnFits n own → Owns n r (steps.forget (z .0) (ownOf own))) ⌝ }
+{
+    let candidates = sets::without(own.candidates, z);
+    if !sets::has(own.held, z) {
+        return set_candidates(own, candidates);
+    }
+    set_candidates(release(own, z), candidates)
+}

@@ -10,8 +10,8 @@ use model::values::NodeNumber;
 use model::values::Stamp;
 use records::effect::EffectRecord;
 use records::message::plain;
+use records::own::forget;
 use records::own::hold;
-use records::own::release;
 use word_ring::MessageWord;
 
 // "Contact y: send type 1 to y"
@@ -23,17 +23,14 @@ pub fn contact(me: NodeNumber, own: NodeRecord, y: NodeNumber) -> EffectRecord
     EffectRecord::replying(own, plain(MessageWord::PING_CONTACT, me, y))
 }
 
-// "A notice lets go of its subject if held; candidates stay."
+// A notice: its subject is forgotten.
 pub fn notice(own: NodeRecord, z: NodeNumber) -> EffectRecord
     requires bounds { ⌜ z .0 < 64 ⌝ }
     requires record { ⌜ RoomNode own ⌝ }
     ensures effect { λ r. ⌜ ((t : Table) (me time n : ℕ) → OwnFits n own
         → Leaves n me time r (steps.notice t me time (ownOf own) (z .0))) ⌝ }
 {
-    if !sets::has(own.held, z) {
-        return EffectRecord::quiet(own);
-    }
-    EffectRecord::quiet(release(own, z))
+    EffectRecord::quiet(forget(own, z))
 }
 
 // On 1: "its receiver answers type 2".
