@@ -59,7 +59,7 @@ int main(void)
     uint64_t leafset;
     uint32_t answer, connected, groups;
 
-    printf("open: answer %" PRIu32 "\n", mekvalgs_open(ring, MEKVALGS_RING_LENGTH, 1, keys, 3));
+    printf("open: answer %" PRIu32 "\n", mekvalgs_open(ring, MEKVALGS_RING_LENGTH, 1, 1, keys, 3));
     for (unsigned i = 0; i < sizeof events / sizeof events[0]; i++) {
         answer = mekvalgs_play(ring, MEKVALGS_RING_LENGTH, events[i]);
         printf("event %u: answer %" PRIu32, i + 1, answer);

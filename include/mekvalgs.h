@@ -37,7 +37,7 @@ extern "C" {
 enum mekvalgs_answer {
     MEKVALGS_ACCEPTED = 0,
     MEKVALGS_WRONG_LENGTH = 1,         /* a ring buffer is not 13,441 words */
-    MEKVALGS_OPENING_OUT_OF_RANGE = 2, /* opening: n or L out of range */
+    MEKVALGS_OPENING_OUT_OF_RANGE = 2, /* opening: n, A or B out of range */
     MEKVALGS_BAD_KEY = 3,              /* opening: a key above 16,777,215, or two equal */
     MEKVALGS_NOT_AN_EVENT = 4,         /* kind, timer or unnamed bit; when writing, a part too big */
     MEKVALGS_SAME_NODE = 5,            /* contact or notice where both nodes are one */
@@ -78,10 +78,12 @@ enum mekvalgs_type {
 
 /* The calls. */
 
-/* Writes the initial ring of L = leaf and the n keys, node 0's first, over the words, whose old values do not matter.
- * Answers 0, 1, 2 (leaf is 1 to 8, n is 1 to 64), 3. With n = 0 no key is read and the answer is 1 or 2; keys is not
+/* Writes the initial ring of A = clockwise, B = counter_clockwise and the n keys, node 0's first, over the words, whose old
+ * values do not matter. A leafset has the A nearest nodes clockwise and the B nearest the other way.
+ * Answers 0, 1, 2 (A and B are 1 to 8, n is 1 to 64), 3. With n = 0 no key is read and the answer is 1 or 2; keys is not
  * null even then, any address of a uint32_t will do. */
-uint32_t mekvalgs_open(uint32_t *words, size_t length, uint32_t leaf, const uint32_t *keys, size_t n);
+uint32_t mekvalgs_open(uint32_t *words, size_t length, uint32_t clockwise, uint32_t counter_clockwise,
+                       const uint32_t *keys, size_t n);
 
 /* Plays an event word on the ring. Answers 0, 1, 4 to 11. */
 uint32_t mekvalgs_play(uint32_t *words, size_t length, uint32_t word);
@@ -95,8 +97,9 @@ uint32_t mekvalgs_play_all(uint32_t *words, size_t length, const uint32_t *scrip
 /* Opens a ring as mekvalgs_open does, and plays the script's words on it one by one.
  * Answers as mekvalgs_open. The answer to each word is written to its place in answers; answers past the places are
  * dropped, and places past the script stay. Where the opening is refused, answers stays whole. */
-uint32_t mekvalgs_replay(uint32_t *words, size_t length, uint32_t leaf, const uint32_t *keys, size_t n,
-                         const uint32_t *script, size_t script_length, uint8_t *answers, size_t places);
+uint32_t mekvalgs_replay(uint32_t *words, size_t length, uint32_t clockwise, uint32_t counter_clockwise,
+                         const uint32_t *keys, size_t n, const uint32_t *script, size_t script_length,
+                         uint8_t *answers, size_t places);
 
 /* The leafset of node x in its held set, bit s for node s. Answers 0, 1, 6, 7, 8; the set is empty where refused. */
 uint32_t mekvalgs_leafset(const uint32_t *words, size_t length, uint32_t x, uint64_t *set);
@@ -125,7 +128,7 @@ uint32_t mekvalgs_write_event(uint32_t kind, uint32_t first, uint32_t second, ui
  * Each macro evaluates an argument once. Bits are counted from 0, the lowest; those that no field has are 0. The words
  * of nodes from n, of messages from m and of a node with itself are 0. */
 
-/* Word 0 has L, n and m. A node x has two words, and so has a pair (x, z) of different nodes: what x has noted of z. */
+/* Word 0 has A, B, n and m. A node x has two words, and so has a pair (x, z) of different nodes: what x has noted of z. */
 #define MEKVALGS_AT_HEAD 0
 #define MEKVALGS_AT_NODE(x) (1 + 2 * (x))
 #define MEKVALGS_AT_CLOCK(x) (2 + 2 * (x))
@@ -142,9 +145,10 @@ uint32_t mekvalgs_write_event(uint32_t kind, uint32_t first, uint32_t second, ui
 #define MEKVALGS_KIND(word) ((word) >> 28)
 
 /* Of word 0, kind 1. */
-#define MEKVALGS_LEAF(word) ((word) & 15u)                 /* 0-3 L */
+#define MEKVALGS_CLOCKWISE(word) ((word) & 15u)            /* 0-3 A */
 #define MEKVALGS_NODES(word) (((word) >> 4) & 127u)        /* 4-10 n */
 #define MEKVALGS_MESSAGES(word) (((word) >> 11) & 2047u)   /* 11-21 m, the messages in flight */
+#define MEKVALGS_COUNTER_CLOCKWISE(word) (((word) >> 22) & 15u) /* 22-25 B */
 
 /* AT_NODE, kind 2; AT_CLOCK, kind 5. */
 #define MEKVALGS_KEY(word) ((word) & 0xFFFFFFu)            /* 0-23 */
@@ -183,7 +187,7 @@ uint32_t mekvalgs_write_event(uint32_t kind, uint32_t first, uint32_t second, ui
  * which nodes stay connected over a whole list of events.
  *
  * No call puts in a message from outside. A stand with a buffer of its own, in which only its own node runs, has to
- * write them by hand. It opens with the same L and keys as the others, plays events at its own node only, sends the new
+ * write them by hand. It opens with the same A, B and keys as the others, plays events at its own node only, sends the new
  * messages and takes them out with lose. A message that comes for it is put at the end: its five words at
  * MEKVALGS_AT_MESSAGE(m), and 1 << 11 added to word 0, where m is below 1,024. Then it plays deliver at position m. An
  * event at a node reads and writes no other node's record: if the radio changes no message and nothing is refused with

@@ -123,12 +123,12 @@ struct Play<'a> {
 impl<'a> Play<'a> {
     fn new(plan: &Plan, rings: &'a [&'a dyn Ring], number: u64, mix: Mix, n: usize) -> Play<'a> {
         let mut script = Script::new(Random::new(plan.seed, 2 * number), mix, n);
-        let (leaf, keys) = script.opening();
+        let (sides, keys) = script.opening();
         Play {
             runner: Runner::new(rings),
             script,
             random: Random::new(plan.seed, 2 * number + 1),
-            case: Case { leaf, keys, steps: Vec::new() },
+            case: Case { sides, keys, steps: Vec::new() },
             damage_rate: plan.damaged * 1_000 / plan.events.max(1),
         }
     }
@@ -141,7 +141,7 @@ impl<'a> Play<'a> {
     }
 
     fn play_all(&mut self, tally: &mut Tally) -> Result<(), Fault> {
-        self.runner.open(self.case.leaf, &self.case.keys)?;
+        self.runner.open(self.case.sides, &self.case.keys)?;
         let n = self.case.keys.len();
         for _ in 0..200 + 40 * n + self.random.below(1_000) {
             let word = self.script.next(self.runner.words());

@@ -1,6 +1,6 @@
 //! Document 01's bench program, over any implementation.
 
-use crate::ring::Ring;
+use crate::ring::{Ring, Sides};
 use crate::{LENGTH, look};
 use std::fmt::Write;
 
@@ -26,12 +26,12 @@ fn little_endian(bytes: &[u8]) -> u32 {
 fn open<'a>(ring: &dyn Ring, words: &mut [u32], input: &'a [u8]) -> Result<&'a [u8], u32> {
     let (first, rest) = input.split_at_checked(4).ok_or(2u32)?;
     let word = little_endian(first);
-    // Kind 1, no message, no unnamed bit; L and n are the opening's to judge.
-    if word & 0xFFFF_F800 != 0x1000_0000 {
+    // Kind 1, no message, no unnamed bit.
+    if word & 0xFC3F_F800 != 0x1000_0000 {
         return Err(2);
     }
-    let (leaf, n) = (word & 15, (word >> 4 & 127) as usize);
-    if !(1..=8).contains(&leaf) || !(1..=64).contains(&n) {
+    let (sides, n) = (Sides::of_word(word), (word >> 4 & 127) as usize);
+    if !sides.fit() || !(1..=64).contains(&n) {
         return Err(2);
     }
     let (table, events) = rest.split_at_checked(4 * n).ok_or(2u32)?;
@@ -41,7 +41,7 @@ fn open<'a>(ring: &dyn Ring, words: &mut [u32], input: &'a [u8]) -> Result<&'a [
         return Err(3);
     }
     let keys: Vec<u32> = keys.iter().map(|key| key & 0xFF_FFFF).collect();
-    match ring.open(words, leaf, &keys) {
+    match ring.open(words, sides, &keys) {
         0 => Ok(events),
         refusal => Err(refusal),
     }

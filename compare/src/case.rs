@@ -1,7 +1,7 @@
 //! A case: an opening and steps, played on one or more implementations at once.
 
 use crate::look;
-use crate::ring::Ring;
+use crate::ring::{Ring, Sides};
 use crate::unbroken::Unbroken;
 use crate::LENGTH;
 use std::fmt;
@@ -65,7 +65,7 @@ impl fmt::Display for Step {
 
 #[derive(Clone)]
 pub struct Case {
-    pub leaf: u32,
+    pub sides: Sides,
     pub keys: Vec<u32>,
     pub steps: Vec<Step>,
 }
@@ -73,7 +73,7 @@ pub struct Case {
 /// The words of a bench script: word 0, the keys, then the steps.
 impl fmt::Display for Case {
     fn fmt(&self, f: &mut fmt::Formatter) -> fmt::Result {
-        write!(f, "{:08X}", 1 << 28 | (self.keys.len() as u32) << 4 | self.leaf)?;
+        write!(f, "{:08X}", 1 << 28 | (self.keys.len() as u32) << 4 | self.sides.bits())?;
         self.keys.iter().try_for_each(|key| write!(f, " {:08X}", 2 << 28 | key))?;
         for (number, step) in self.steps.iter().enumerate() {
             write!(f, "{}{step}", if number % 10 == 0 { "\n" } else { " " })?;
@@ -157,8 +157,8 @@ impl<'a> Runner<'a> {
     }
 
     /// Opens over old words of any kind.
-    pub fn open(&mut self, leaf: u32, keys: &[u32]) -> Result<u32, Fault> {
-        let (answer, _) = self.call(|ring, words| (ring.open(words, leaf, keys), 0))?;
+    pub fn open(&mut self, sides: Sides, keys: &[u32]) -> Result<u32, Fault> {
+        let (answer, _) = self.call(|ring, words| (ring.open(words, sides, keys), 0))?;
         self.unbroken.restart();
         Ok(answer)
     }

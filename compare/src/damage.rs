@@ -61,11 +61,12 @@ fn change(random: &mut Random, words: &[u32]) -> Step {
 
 fn header(random: &mut Random, words: &[u32]) -> u32 {
     let (n, m) = (look::nodes(words) as u32, look::messages(words) as u32);
-    match random.below(4) {
+    match random.below(5) {
         0 => with(words[0], 0, 4, random.below(16) as u32),
-        1 => with(words[0], 4, 7, random.pick(&[0, n - 1, n + 1, 64, 65, 127])),
-        2 => with(words[0], 11, 11, random.pick(&[0, m.wrapping_sub(1), m + 1, 1_024, 1_025, 2_047])),
-        _ => with(words[0], 22, 10, random.word()),
+        1 => with(words[0], 22, 4, random.below(16) as u32),
+        2 => with(words[0], 4, 7, random.pick(&[0, n - 1, n + 1, 64, 65, 127])),
+        3 => with(words[0], 11, 11, random.pick(&[0, m.wrapping_sub(1), m + 1, 1_024, 1_025, 2_047])),
+        _ => with(words[0], 26, 6, random.word()),
     }
 }
 

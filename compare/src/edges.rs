@@ -1,7 +1,7 @@
 //! Openings of every sort, over old words of any sort, and every call on a buffer of another length.
 
 use crate::random::Random;
-use crate::ring::Ring;
+use crate::ring::{Ring, Sides};
 use crate::LENGTH;
 
 /// A line for each difference found in `count` random openings.
@@ -12,15 +12,15 @@ pub fn run(seed: u64, count: u64, rings: &[&dyn Ring]) -> Vec<String> {
         let length = if random.percent(80) { LENGTH } else { random.pick(&[0, 1, LENGTH - 1, LENGTH + 1, 2 * LENGTH]) };
         let any = random.word();
         let filler = random.pick(&[0, u32::MAX, any]);
-        let (leaf, keys) = opening(&mut random);
+        let (sides, keys) = opening(&mut random);
         let word = 9 << 28 | random.below(64) as u32;
-        let outcomes: Vec<_> = rings.iter().map(|ring| calls(*ring, vec![filler; length], leaf, &keys, word)).collect();
+        let outcomes: Vec<_> = rings.iter().map(|ring| calls(*ring, vec![filler; length], sides, &keys, word)).collect();
         for (ring, outcome) in rings.iter().zip(&outcomes) {
             if *outcome != outcomes[0] {
                 let (name, first) = (ring.name(), rings[0].name());
                 let (answers, others) = (&outcome.0, &outcomes[0].0);
                 found.push(format!(
-                    "{name} {answers:?}, {first} {others:?}: {length} words of {filler:08X}, L = {leaf}, keys {keys:X?}"
+                    "{name} {answers:?}, {first} {others:?}: {length} words of {filler:08X}, {sides:?}, keys {keys:X?}"
                 ));
             }
         }
@@ -28,9 +28,10 @@ pub fn run(seed: u64, count: u64, rings: &[&dyn Ring]) -> Vec<String> {
     found
 }
 
-/// An L and keys that are often just in or out of range.
-fn opening(random: &mut Random) -> (u32, Vec<u32>) {
-    let leaf = random.pick(&[0, 1, 2, 3, 4, 5, 6, 7, 8, 9, 16, u32::MAX]);
+/// An A, a B and keys that are often just in or out of range.
+fn opening(random: &mut Random) -> (Sides, Vec<u32>) {
+    let mut side = || random.pick(&[0, 1, 2, 3, 4, 5, 6, 7, 8, 1, 3, 5, 7, 8, 9, 16, u32::MAX]);
+    let sides = Sides { clockwise: side(), counter_clockwise: side() };
     let any = 1 + random.below(64);
     let n = random.pick(&[0, 1, 2, 63, 64, 65, 66, any, any]);
     let mut keys: Vec<u32> = (0..n).map(|_| random.word() & 0xFF_FFFF).collect();
@@ -38,12 +39,12 @@ fn opening(random: &mut Random) -> (u32, Vec<u32>) {
         let (at, other) = (random.below(n), random.below(n));
         keys[at] = random.pick(&[0, 0xFF_FFFF, 0x100_0000, u32::MAX, keys[other]]);
     }
-    (leaf, keys)
+    (sides, keys)
 }
 
 /// The answers of all calls, and the words after them.
-fn calls(ring: &dyn Ring, mut words: Vec<u32>, leaf: u32, keys: &[u32], word: u32) -> (Vec<u64>, Vec<u32>) {
-    let mut answers = vec![ring.open(&mut words, leaf, keys) as u64];
+fn calls(ring: &dyn Ring, mut words: Vec<u32>, sides: Sides, keys: &[u32], word: u32) -> (Vec<u64>, Vec<u32>) {
+    let mut answers = vec![ring.open(&mut words, sides, keys) as u64];
     answers.push(ring.play(&mut words, word) as u64);
     let mut places = [0xA5; 3];
     answers.push(ring.play_all(&mut words, &[word, word ^ 3 << 28, word ^ 1], &mut places) as u64);

@@ -1,10 +1,12 @@
 //! The proved library, linked: the only file that knows its C interface. A slice goes as pointer and length.
 
-use crate::ring::Ring;
+use crate::ring::{Ring, Sides};
 
 #[link(name = "mekvalgs", kind = "static")]
 extern "C" {
-    fn mekvalgs_open(words: *mut u32, len: usize, leaf: u32, keys: *const u32, n: usize) -> u32;
+    fn mekvalgs_open(
+        words: *mut u32, len: usize, clockwise: u32, counter_clockwise: u32, keys: *const u32, n: usize,
+    ) -> u32;
     fn mekvalgs_play(words: *mut u32, len: usize, word: u32) -> u32;
     fn mekvalgs_play_all(
         words: *mut u32, len: usize, script: *const u32, script_len: usize, answers: *mut u8, places: usize,
@@ -13,7 +15,7 @@ extern "C" {
     fn mekvalgs_connected(words: *const u32, len: usize, a: u32, b: u32, yes: *mut u32) -> u32;
     fn mekvalgs_groups(words: *const u32, len: usize, number: *mut u32) -> u32;
     fn mekvalgs_replay(
-        words: *mut u32, len: usize, leaf: u32, keys: *const u32, n: usize,
+        words: *mut u32, len: usize, clockwise: u32, counter_clockwise: u32, keys: *const u32, n: usize,
         script: *const u32, script_len: usize, answers: *mut u8, places: usize,
     ) -> u32;
     fn mekvalgs_read_event(word: u32, kind: *mut u32, first: *mut u32, second: *mut u32) -> u32;
@@ -29,8 +31,11 @@ impl Ring for Library {
         "library"
     }
 
-    fn open(&self, words: &mut [u32], leaf: u32, keys: &[u32]) -> u32 {
-        unsafe { mekvalgs_open(words.as_mut_ptr(), words.len(), leaf, keys.as_ptr(), keys.len()) }
+    fn open(&self, words: &mut [u32], sides: Sides, keys: &[u32]) -> u32 {
+        let Sides { clockwise, counter_clockwise } = sides;
+        unsafe {
+            mekvalgs_open(words.as_mut_ptr(), words.len(), clockwise, counter_clockwise, keys.as_ptr(), keys.len())
+        }
     }
 
     fn play(&self, words: &mut [u32], word: u32) -> u32 {
@@ -65,11 +70,12 @@ impl Ring for Library {
 
 // The calls that only the stack is measured of.
 
-pub fn replay(words: &mut [u32], leaf: u32, keys: &[u32], script: &[u32]) {
+pub fn replay(words: &mut [u32], sides: Sides, keys: &[u32], script: &[u32]) {
+    let Sides { clockwise, counter_clockwise } = sides;
     let mut answers = vec![0; script.len()];
     unsafe {
         mekvalgs_replay(
-            words.as_mut_ptr(), words.len(), leaf, keys.as_ptr(), keys.len(),
+            words.as_mut_ptr(), words.len(), clockwise, counter_clockwise, keys.as_ptr(), keys.len(),
             script.as_ptr(), script.len(), answers.as_mut_ptr(), answers.len(),
         )
     };

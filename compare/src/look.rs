@@ -1,7 +1,9 @@
 //! What the harness itself reads from words that read as a ring: enough to choose events and to judge connection.
 
-pub fn leaf(words: &[u32]) -> usize {
-    (words[0] & 15) as usize
+use crate::ring::Sides;
+
+pub fn sides(words: &[u32]) -> Sides {
+    Sides::of_word(words[0])
 }
 
 pub fn nodes(words: &[u32]) -> usize {

@@ -3,7 +3,7 @@
 //!
 //! A [`Slip`] makes it a wrong program, for the self-test of the harness.
 
-use crate::ring::Ring;
+use crate::ring::{Ring, Sides};
 use crate::LENGTH;
 use std::collections::BTreeSet;
 
@@ -34,6 +34,10 @@ pub enum Slip {
     TieCounterClockwise,
     /// Timer 1 takes only the invited from the candidates.
     CandidatesKept,
+    /// A counter-clockwise, B clockwise.
+    SidesSwapped,
+    /// "Fewer than" 2 times A in place of A + B.
+    TwiceClockwise,
     /// A notice strikes its subject from the candidates only where it was held.
     NoticeStrikesHeld,
     /// A notice strikes everybody from the candidates.
@@ -61,7 +65,7 @@ pub enum Slip {
 }
 
 impl Slip {
-    pub const ALL: [Slip; 24] = [
+    pub const ALL: [Slip; 26] = [
         Slip::StampNotAbove,
         Slip::CommitZero,
         Slip::AskerAsSpare,
@@ -74,6 +78,8 @@ impl Slip {
         Slip::LeafsetAfterHold,
         Slip::TieCounterClockwise,
         Slip::CandidatesKept,
+        Slip::SidesSwapped,
+        Slip::TwiceClockwise,
         Slip::NoticeStrikesHeld,
         Slip::NoticeStrikesAll,
         Slip::AlwaysConnected,
@@ -129,7 +135,7 @@ impl Message {
 }
 
 struct State {
-    leaf: usize,
+    sides: Sides,
     nodes: Vec<Node>,
     messages: Vec<Message>,
     slip: Option<Slip>,
@@ -208,7 +214,7 @@ impl State {
             pairs: (0..n).map(|z| Pair::decode(&words[129 + 2 * (64 * s + z)..])).collect(),
         };
         let state = State {
-            leaf: bits(words[0], 0, 3) as usize,
+            sides: Sides { clockwise: bits(words[0], 0, 3), counter_clockwise: bits(words[0], 22, 25) },
             nodes: (0..n).map(node).collect(),
             messages: (0..m).map(|p| Message::decode(&words[8321 + 5 * p..])).collect(),
             slip,
@@ -219,7 +225,11 @@ impl State {
     fn encode(&self) -> Vec<u32> {
         let mut words = vec![0; LENGTH];
         let n = self.nodes.len();
-        words[0] = 1 << 28 | self.leaf as u32 | (n as u32) << 4 | (self.messages.len() as u32) << 11;
+        words[0] = 1 << 28
+            | self.sides.clockwise
+            | (n as u32) << 4
+            | (self.messages.len() as u32) << 11
+            | self.sides.counter_clockwise << 22;
         for (x, node) in self.nodes.iter().enumerate() {
             words[1 + 2 * x] = 2 << 28 | node.key | (node.running as u32) << 24;
             words[2 + 2 * x] = 5 << 28 | node.clock;
@@ -254,7 +264,8 @@ impl State {
     fn fits(&self) -> bool {
         let n = self.nodes.len();
         let keys: BTreeSet<u32> = self.nodes.iter().map(|node| node.key).collect();
-        (1..=8).contains(&self.leaf)
+        (1..=8).contains(&self.sides.clockwise)
+            && (1..=8).contains(&self.sides.counter_clockwise)
             && n >= 1
             && (keys.len() == n || self.has(Slip::EqualKeys))
             && (0..n).all(|x| (0..n).all(|z| x == z || self.pair_fits(x, z)))
@@ -300,16 +311,21 @@ impl State {
 
     fn leafset(&self, x: usize, set: &BTreeSet<usize>) -> BTreeSet<usize> {
         let mut others: Vec<usize> = set.iter().copied().filter(|&s| s != x).collect();
-        if others.len() < 2 * self.leaf {
+        let (mut a, mut b) = (self.sides.clockwise as usize, self.sides.counter_clockwise as usize);
+        if self.has(Slip::SidesSwapped) {
+            (a, b) = (b, a);
+        }
+        let few = if self.has(Slip::TwiceClockwise) { 2 * a } else { a + b };
+        if others.len() < few || others.len() < a + b {
             return others.into_iter().collect();
         }
         if self.has(Slip::NoWrap) {
             others.sort_by_key(|&s| self.nodes[s].key.abs_diff(self.nodes[x].key));
-            return others[..2 * self.leaf].iter().copied().collect();
+            return others[..a + b].iter().copied().collect();
         }
         others.sort_by_key(|&s| self.clockwise(x, s));
-        let last = others.len() - self.leaf;
-        others[..self.leaf].iter().chain(&others[last..]).copied().collect()
+        let last = others.len() - b;
+        others[..a].iter().chain(&others[last..]).copied().collect()
     }
 
     fn held(&self, x: usize) -> BTreeSet<usize> {
@@ -639,12 +655,13 @@ impl Plain {
         State::decode(words, self.slip).ok_or(6)
     }
 
-    fn try_open(&self, words: &mut [u32], leaf: u32, keys: &[u32]) -> Result<(), u32> {
+    fn try_open(&self, words: &mut [u32], sides: Sides, keys: &[u32]) -> Result<(), u32> {
         let distinct: BTreeSet<u32> = keys.iter().copied().collect();
         if words.len() != LENGTH {
             return Err(1);
         }
-        if leaf < 1 || leaf > 8 || keys.is_empty() || keys.len() > 64 {
+        let in_range = |side: u32| (1..=8).contains(&side);
+        if !in_range(sides.clockwise) || !in_range(sides.counter_clockwise) || keys.is_empty() || keys.len() > 64 {
             return Err(2);
         }
         if distinct.len() < keys.len() || distinct.last() >= Some(&PLACES) {
@@ -653,7 +670,7 @@ impl Plain {
         let pairs = vec![Pair::default(); keys.len()];
         let node = |&key: &u32| Node { key, running: false, clock: 0, pairs: pairs.clone() };
         let nodes = keys.iter().map(node).collect();
-        let state = State { leaf: leaf as usize, nodes, messages: vec![], slip: self.slip };
+        let state = State { sides, nodes, messages: vec![], slip: self.slip };
         words.copy_from_slice(&state.encode());
         Ok(())
     }
@@ -696,8 +713,8 @@ impl Ring for Plain {
         "plain"
     }
 
-    fn open(&self, words: &mut [u32], leaf: u32, keys: &[u32]) -> u32 {
-        self.try_open(words, leaf, keys).err().unwrap_or(0)
+    fn open(&self, words: &mut [u32], sides: Sides, keys: &[u32]) -> u32 {
+        self.try_open(words, sides, keys).err().unwrap_or(0)
     }
 
     fn play(&self, words: &mut [u32], word: u32) -> u32 {

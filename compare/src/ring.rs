@@ -1,10 +1,51 @@
 //! The calls that every implementation has. An answer is 0, accepted, or the refusal's number of document 01.
 
+/// How many nodes a leafset has: A clockwise, B counter-clockwise.
+#[derive(Clone, Copy, Debug, PartialEq, Eq)]
+pub struct Sides {
+    pub clockwise: u32,
+    pub counter_clockwise: u32,
+}
+
+impl Sides {
+    /// As word 0 has them: A in bits 0-3, B in bits 22-25.
+    pub fn of_word(word: u32) -> Sides {
+        Sides { clockwise: word & 15, counter_clockwise: word >> 22 & 15 }
+    }
+
+    pub fn bits(self) -> u32 {
+        self.clockwise | self.counter_clockwise << 22
+    }
+
+    /// "each 1 to 8"
+    pub fn fit(self) -> bool {
+        (1..=8).contains(&self.clockwise) && (1..=8).contains(&self.counter_clockwise)
+    }
+
+    pub fn both(self) -> usize {
+        (self.clockwise + self.counter_clockwise) as usize
+    }
+}
+
+/// The same on both sides.
+impl From<u32> for Sides {
+    fn from(each: u32) -> Sides {
+        Sides { clockwise: each, counter_clockwise: each }
+    }
+}
+
+/// A, then B.
+impl From<(u32, u32)> for Sides {
+    fn from((clockwise, counter_clockwise): (u32, u32)) -> Sides {
+        Sides { clockwise, counter_clockwise }
+    }
+}
+
 pub trait Ring: Sync {
     fn name(&self) -> &'static str;
 
-    /// Writes the initial ring of L and the keys over the words.
-    fn open(&self, words: &mut [u32], leaf: u32, keys: &[u32]) -> u32;
+    /// Writes the initial ring of A, B and the keys over the words.
+    fn open(&self, words: &mut [u32], sides: Sides, keys: &[u32]) -> u32;
 
     /// Plays an event word on the ring.
     fn play(&self, words: &mut [u32], word: u32) -> u32;

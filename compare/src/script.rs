@@ -2,6 +2,7 @@
 
 use crate::look;
 use crate::random::Random;
+use crate::ring::Sides;
 
 #[derive(Clone, Copy, PartialEq, Debug)]
 pub enum Mix {
@@ -104,13 +105,17 @@ impl Script {
         Script { random, mix, n, crowd, contacts, waiting, circle }
     }
 
-    /// L, small more often than not so that nodes lie outside leafsets, and n different keys.
-    pub fn opening(&mut self) -> (u32, Vec<u32>) {
-        let leaf = match (self.mix, self.random.below(100)) {
+    fn side(&mut self) -> u32 {
+        match (self.mix, self.random.below(100)) {
             (Mix::Replacement, 0..80) => 1,
-            (_, 0..60) => 1 + self.random.below(2),
-            _ => 1 + self.random.below(8),
-        };
+            (_, 0..60) => 1 + self.random.below(2) as u32,
+            _ => 1 + self.random.below(8) as u32,
+        }
+    }
+
+    /// A and B, small more often than not so that nodes lie outside leafsets, and n different keys.
+    pub fn opening(&mut self) -> (Sides, Vec<u32>) {
+        let sides = Sides { clockwise: self.side(), counter_clockwise: self.side() };
         let style = self.random.below(4);
         let mut keys: Vec<u32> = Vec::new();
         while keys.len() < self.n {
@@ -126,7 +131,7 @@ impl Script {
                 keys.push(key);
             }
         }
-        (leaf as u32, keys)
+        (sides, keys)
     }
 
     /// The next event word, chosen by the ring in the words.

@@ -47,7 +47,7 @@ impl Case {
             chunk = chunk.div_ceil(2);
         }
         let steps = best.iter().map(|traced| traced.step).collect();
-        (Case { leaf: self.leaf, keys: self.keys.clone(), steps }, fault.unwrap_or(sort.clone()))
+        (Case { sides: self.sides, keys: self.keys.clone(), steps }, fault.unwrap_or(sort.clone()))
     }
 
     /// Plays the steps up to the first fault: those that were played, with positions as they are now. The first
@@ -55,7 +55,7 @@ impl Case {
     fn replay(&self, steps: &[Traced], rings: &[&dyn Ring]) -> (Vec<Traced>, Option<Fault>) {
         let mut runner = Runner::new(rings);
         let mut played = Vec::new();
-        if let Err(fault) = runner.open(self.leaf, &self.keys) {
+        if let Err(fault) = runner.open(self.sides, &self.keys) {
             return (played, Some(fault));
         }
         runner.lead();

@@ -3,7 +3,7 @@
 use crate::look;
 use crate::random::Random;
 use crate::reference::Reference;
-use crate::ring::Ring;
+use crate::ring::{Ring, Sides};
 use crate::LENGTH;
 use std::hint::black_box;
 use std::time::Instant;
@@ -20,11 +20,11 @@ pub struct Load {
 
 impl Load {
     /// `n` running nodes, links made by contacts and timers, about `messages` in flight, and events that keep it so.
-    pub fn new(ring: &dyn Ring, n: usize, leaf: u32, messages: usize, count: usize) -> Load {
+    pub fn new(ring: &dyn Ring, n: usize, leaves: u32, messages: usize, count: usize) -> Load {
         let mut random = Random::new(1, (n * 10_000 + messages) as u64);
         let keys: Vec<u32> = (0..n as u32).map(|s| s << 18 | random.word() & 0x3_FFFF).collect();
         let mut words = vec![0; LENGTH];
-        ring.open(&mut words, leaf, &keys);
+        ring.open(&mut words, Sides::from(leaves), &keys);
         (0..n as u32).for_each(|x| _ = ring.play(&mut words, 9 << 28 | x));
         for _ in 0..100 * n {
             let word = steady(&mut random, &words, messages);
@@ -104,7 +104,7 @@ fn full(messages: usize, spares: bool) -> Vec<u32> {
     let mut random = Random::new(1, messages as u64);
     let keys: Vec<u32> = (0..64).map(|s| s << 18 | random.word() & 0x3_FFFF).collect();
     let mut words = vec![0; LENGTH];
-    Reference.open(&mut words, 8, &keys);
+    Reference.open(&mut words, Sides::from(8), &keys);
     words[0] |= (messages as u32) << 11;
     let not = |random: &mut Random, taken: &[usize]| loop {
         let s = random.below(64);
@@ -143,7 +143,7 @@ fn full(messages: usize, spares: bool) -> Vec<u32> {
 /// Whether the words read as a ring, by a question about node 64, which is answered by 7 as soon as that is known; the shortest of
 /// rounds in turns with a plain pass.
 pub fn reads(rings: &[&dyn Ring]) {
-    print!("{:<44}", "nanoseconds a reading, the shortest");
+    print!("{:<48}", "nanoseconds a reading, the shortest");
     rings.iter().for_each(|ring| print!("{:>12}", ring.name()));
     println!("{:>12}  and over the plain pass", "plain pass");
     for (messages, spares) in [(1_024, false), (415, false), (1_024, true), (0, false), (0, true)] {
@@ -159,7 +159,7 @@ pub fn reads(rings: &[&dyn Ring]) {
         }
         assert!(rings.iter().all(|ring| ring.leafset_of(&words, 64).0 == 7));
         let head = format!("  n 64, m {messages}, all held, {} spares", spares_of(&words));
-        print!("{head:<44}");
+        print!("{head:<48}");
         shortest.iter().for_each(|time| print!("{time:>12.0}"));
         shortest.iter().take(rings.len()).for_each(|time| print!("{:>8.2}", time / shortest[rings.len()]));
         println!();
@@ -169,15 +169,15 @@ pub fn reads(rings: &[&dyn Ring]) {
 /// The tables: two usual loads, growth with n, growth with m.
 pub fn report(rings: &[&dyn Ring]) {
     let names: Vec<&str> = rings.iter().map(|ring| ring.name()).chain(["plain pass"]).collect();
-    print!("{:<44}", "nanoseconds an event");
+    print!("{:<48}", "nanoseconds an event");
     names.iter().for_each(|name| print!("{name:>12}"));
     for (place, name) in names.iter().enumerate() {
         names[place + 1..].iter().for_each(|other| print!("  {:>20}", format!("{name}/{other}")));
     }
     println!();
     let builder = rings[rings.len() - 1];
-    for (n, leaf, messages) in [(64, 8, 700), (64, 2, 700), (16, 2, 200)] {
-        line(rings, &Load::new(builder, n, leaf, messages, EVENTS));
+    for (n, leaves, messages) in [(64, 8, 700), (64, 2, 700), (16, 2, 200)] {
+        line(rings, &Load::new(builder, n, leaves, messages, EVENTS));
     }
     println!("with n");
     for n in [1, 2, 4, 8, 16, 32, 64] {
@@ -191,9 +191,9 @@ pub fn report(rings: &[&dyn Ring]) {
 
 /// The events one by one, and the same as lists for one call each, in turns, medians.
 pub fn lists(ring: &dyn Ring, builder: &dyn Ring) {
-    println!("{:<44}{:>12}{:>12}", format!("nanoseconds an event, lists of {LISTED}"), "play", "play_all");
-    for (n, leaf, messages) in [(64, 8, 700), (64, 2, 700), (16, 2, 200), (1, 2, 0)] {
-        let load = Load::new(builder, n, leaf, messages, LISTED);
+    println!("{:<48}{:>12}{:>12}", format!("nanoseconds an event, lists of {LISTED}"), "play", "play_all");
+    for (n, leaves, messages) in [(64, 8, 700), (64, 2, 700), (16, 2, 200), (1, 2, 0)] {
+        let load = Load::new(builder, n, leaves, messages, LISTED);
         let (mut plays, mut lists) = (Vec::new(), Vec::new());
         let mut words = vec![0; LENGTH];
         let mut answers = [0; LISTED];
@@ -205,17 +205,17 @@ pub fn lists(ring: &dyn Ring, builder: &dyn Ring) {
             lists.push(list / LISTED as f64);
         }
         assert!(answers == [0; LISTED]);
-        println!("{:<44}{:>12.0}{:>12.0}", head(&load), median(plays), median(lists));
+        println!("{:<48}{:>12.0}{:>12.0}", head(&load), median(plays), median(lists));
     }
 }
 
 fn head(load: &Load) -> String {
-    let (n, leaf, messages) = (look::nodes(&load.words), look::leaf(&load.words), look::messages(&load.words));
-    format!("  n {n}, L {leaf}, m {messages}, {} held, {} spares", held(&load.words), spares_of(&load.words))
+    let (n, sides, messages) = (look::nodes(&load.words), look::sides(&load.words), look::messages(&load.words));
+    format!("  n {n}, A = B = {}, m {messages}, {} held, {} spares", sides.clockwise, held(&load.words), spares_of(&load.words))
 }
 
 fn line(rings: &[&dyn Ring], load: &Load) {
-    print!("{:<44}", head(load));
+    print!("{:<48}", head(load));
     let (mut times, pass) = measure(load, rings);
     times.push(pass);
     times.iter().for_each(|time| print!("{time:>12.0}"));

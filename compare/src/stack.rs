@@ -32,9 +32,9 @@ pub fn report() {
 fn measure() {
     let ring = library::Library;
     let mut script = Script::new(Random::new(1, 2), Mix::Gentle, 64);
-    let (leaf, keys) = script.opening();
+    let (sides, keys) = script.opening();
     let mut words = vec![0; LENGTH];
-    line("open", depth(&mut || _ = ring.open(&mut words, leaf, &keys)));
+    line("open", depth(&mut || _ = ring.open(&mut words, sides, &keys)));
     let events: Vec<u32> = (0..20_000)
         .map(|_| {
             let word = script.next(&words);
@@ -42,13 +42,13 @@ fn measure() {
             word
         })
         .collect();
-    ring.open(&mut words, leaf, &keys);
+    ring.open(&mut words, sides, &keys);
     line("play", events.iter().map(|&word| depth(&mut || _ = ring.play(&mut words, word))).max().unwrap());
     line("leafset", (0..64).map(|s| depth(&mut || _ = ring.leafset_of(&words, s))).max().unwrap());
     line("connected", (0..64).map(|s| depth(&mut || _ = ring.connected(&words, s, 63 - s))).max().unwrap());
     line("groups", depth(&mut || _ = ring.groups(&words)));
-    line("replay", depth(&mut || library::replay(&mut words, leaf, &keys, &events)));
-    ring.open(&mut words, leaf, &keys);
+    line("replay", depth(&mut || library::replay(&mut words, sides, &keys, &events)));
+    ring.open(&mut words, sides, &keys);
     let mut answers = vec![0; events.len()];
     line("play_all", depth(&mut || _ = ring.play_all(&mut words, &events, &mut answers)));
     line("read_event", events.iter().map(|&word| depth(&mut || library::read_event(word))).max().unwrap());

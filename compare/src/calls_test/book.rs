@@ -7,7 +7,7 @@ use super::tally::{count, Tally};
 use crate::look;
 use crate::plain::Plain;
 use crate::reference::Reference;
-use crate::ring::Ring;
+use crate::ring::{Ring, Sides};
 use crate::LENGTH;
 
 pub struct Book {
@@ -49,8 +49,8 @@ impl Book {
         &self.plain.places
     }
 
-    fn run(&mut self, number: u32, a: u32, b: u32, c: u32) -> Option<Line> {
-        let command = Command { number, a, b, c, lent: self.lent };
+    fn run(&mut self, number: u32, [a, b, c, d]: [u32; 4]) -> Option<Line> {
+        let command = Command { number, a, b, c, d, lent: self.lent };
         self.input.extend(command.bytes());
         let line = self.plain.run(command);
         assert_eq!(line, self.reference.run(command), "plain and reference, {command:?}");
@@ -58,10 +58,10 @@ impl Book {
     }
 
     /// Writes a call with its line, which has to have the answer.
-    fn call(&mut self, number: u32, [a, b, c]: [u32; 3], answer: u32) -> Line {
-        let line = self.run(number, a, b, c).unwrap();
+    fn call(&mut self, number: u32, parts: [u32; 4], answer: u32) -> Line {
+        let line = self.run(number, parts).unwrap();
         let section = self.tally.section;
-        assert_eq!(line.answer, answer, "{section}: call {number} of {a:#X} {b:#X} {c:#X}");
+        assert_eq!(line.answer, answer, "{section}: call {number} of {parts:#X?}");
         assert!(answer == 0 || line.changed == 0, "{section}: a refused call wrote");
         self.output += &line.to_string();
         count(&mut self.tally.sections, section);
@@ -70,7 +70,7 @@ impl Book {
     }
 
     pub fn fill_words(&mut self, from: u32, to: u32, value: u32) {
-        self.run(Command::FILL_WORDS, from, to, value);
+        self.run(Command::FILL_WORDS, [from, to, value, 0]);
     }
 
     pub fn set_word(&mut self, at: usize, value: u32) {
@@ -80,7 +80,7 @@ impl Book {
     }
 
     pub fn fill_list(&mut self, from: u32, to: u32, value: u32) {
-        self.run(Command::FILL_LIST, from, to, value);
+        self.run(Command::FILL_LIST, [from, to, value, 0]);
     }
 
     /// Puts the words into the list.
@@ -92,16 +92,17 @@ impl Book {
         }
     }
 
-    pub fn open(&mut self, leaf: u32, keys: &[u32], answer: u32) {
+    pub fn open(&mut self, sides: impl Into<Sides>, keys: &[u32], answer: u32) {
+        let sides = sides.into();
         self.list(0, keys);
-        self.call(Command::OPEN, [leaf, keys.len() as u32, 0], answer);
+        self.call(Command::OPEN, [sides.clockwise, sides.counter_clockwise, keys.len() as u32, 0], answer);
     }
 
     /// Opens with all nodes on, by a replay.
-    pub fn open_running(&mut self, leaf: u32, keys: &[u32]) {
+    pub fn open_running(&mut self, sides: impl Into<Sides>, keys: &[u32]) {
         let n = keys.len() as u32;
         self.list(n, &(0..n).map(on).collect::<Vec<u32>>());
-        self.replay(leaf, keys, n, 0);
+        self.replay(sides, keys, n, 0);
     }
 
     /// Plays a word that the implementations alone judge.
@@ -119,7 +120,7 @@ impl Book {
             count(&mut self.tally.timers, word >> 12 & 7);
         }
         count(&mut self.tally.events, (kind, answer));
-        self.call(Command::PLAY, [word, 0, 0], answer);
+        self.call(Command::PLAY, [word, 0, 0, 0], answer);
     }
 
     /// The type of the message that the word would deliver to a running node.
@@ -131,29 +132,30 @@ impl Book {
     }
 
     pub fn leafset(&mut self, x: u32, answer: u32) -> u64 {
-        self.call(Command::LEAFSET, [x, 0, 0], answer).value
+        self.call(Command::LEAFSET, [x, 0, 0, 0], answer).value
     }
 
     pub fn connected(&mut self, a: u32, b: u32, answer: u32) -> bool {
-        self.call(Command::CONNECTED, [a, b, 0], answer).value == 1
+        self.call(Command::CONNECTED, [a, b, 0, 0], answer).value == 1
     }
 
     pub fn groups(&mut self, answer: u32) -> u64 {
-        self.call(Command::GROUPS, [0; 3], answer).value
+        self.call(Command::GROUPS, [0; 4], answer).value
     }
 
     pub fn read(&mut self, word: u32, answer: u32) {
-        self.call(Command::READ, [word, 0, 0], answer);
+        self.call(Command::READ, [word, 0, 0, 0], answer);
     }
 
     pub fn write(&mut self, kind: u32, first: u32, second: u32, answer: u32) {
-        self.call(Command::WRITE, [kind, first, second], answer);
+        self.call(Command::WRITE, [kind, first, second, 0], answer);
     }
 
     /// Replays the `count` words of the list after the keys.
-    pub fn replay(&mut self, leaf: u32, keys: &[u32], length: u32, answer: u32) {
+    pub fn replay(&mut self, sides: impl Into<Sides>, keys: &[u32], length: u32, answer: u32) {
+        let sides = sides.into();
         self.list(0, keys);
-        self.call(Command::REPLAY, [leaf, keys.len() as u32, length], answer);
+        self.call(Command::REPLAY, [sides.clockwise, sides.counter_clockwise, keys.len() as u32, length], answer);
         if answer == 0 {
             for &answer in self.plain.places.iter().take(length as usize) {
                 count(&mut self.tally.replayed, answer as u32);
@@ -167,7 +169,7 @@ impl Book {
         let written = if answer == 0 { answers.len().min(places) } else { 0 };
         let mut expected = self.plain.places.clone();
         expected[..written].copy_from_slice(&answers[..written]);
-        self.call(Command::PLAY_ALL, [from, from + answers.len() as u32, places as u32], answer);
+        self.call(Command::PLAY_ALL, [from, from + answers.len() as u32, places as u32, 0], answer);
         assert!(self.plain.places == expected, "{}: the places of a list", self.tally.section);
         answers[..written].iter().for_each(|&answer| count(&mut self.tally.listed, answer as u32));
     }

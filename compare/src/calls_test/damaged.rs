@@ -22,7 +22,7 @@ pub fn write(book: &mut Book) {
     largest(book);
 }
 
-/// Five nodes at L = 2, of which node 4 is off with clock 3, and a message of each type. Nodes 0 and 1 hold, node 2 has only a
+/// Five nodes at A = B = 2, of which node 4 is off with clock 3, and a message of each type. Nodes 0 and 1 hold, node 2 has only a
 /// candidate, and node 3 nothing.
 fn five(book: &mut Book) {
     book.open(2, &[100, 200, 300, 400, 500], 0);
@@ -102,9 +102,11 @@ fn wrong_frame(book: &mut Book, at: usize, lowest: u32) {
 }
 
 fn head(book: &mut Book) {
-    wrong_frame(book, 0, 22);
-    wrong_field(book, 0, (0, 4), &[0, 9, 15]);
-    right_field(book, 0, (0, 4), &[1, 8]);
+    wrong_frame(book, 0, 26);
+    for side in [(0, 4), (22, 4)] {
+        wrong_field(book, 0, side, &[0, 9, 15]);
+        right_field(book, 0, side, &[1, 8]);
+    }
     wrong_field(book, 0, (4, 7), &[0, N - 1, N + 1, 64, 65, 127]);
     wrong_field(book, 0, (11, 11), &[0, 11, 13, 1_024, 1_025, 2_047]);
 }
@@ -241,7 +243,7 @@ fn nobody(book: &mut Book) {
 fn every_kind_and_bit(book: &mut Book) {
     let message = 8_321;
     for (at, lowest) in [
-        (0, 22),
+        (0, 26),
         (1, 25),
         (2, 24),
         (pair(0, 1), 26),
@@ -264,7 +266,7 @@ fn smallest(book: &mut Book) {
     for (at, value) in [(1, 0), (2, 0), (3, 0x2000_0001), (4, 0x5000_0000), (129, 0x3000_0000), (131, 0x3000_0000)] {
         wrong_alone(book, at, value);
     }
-    for (at, value) in [(0, 0x1000_0001), (0, 0x1000_0021), (0, 0x1000_0811), (8_321, 0x6040_0401), (LENGTH - 1, 1)] {
+    for (at, value) in [(0, 0x1040_0001), (0, 0x1040_0021), (0, 0x1040_0811), (8_321, 0x6040_0401), (LENGTH - 1, 1)] {
         wrong_alone(book, at, value);
     }
 }
@@ -275,7 +277,7 @@ fn largest(book: &mut Book) {
     book.hold(63, 62, 1, 61);
     let first_key = look::key(book.words(), 0);
     for (at, value) in [
-        (0, 0x1000_0418),
+        (0, 0x1200_0418),
         (127, 0x2100_0000 | first_key),
         (127, 0x2000_0000 | look::key(book.words(), 63)),
         (128, 0x5000_0000),

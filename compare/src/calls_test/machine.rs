@@ -5,13 +5,14 @@ use crate::ring::Ring;
 use crate::LENGTH;
 use std::fmt;
 
-/// Five words: the number, a, b, c, and how many words of the buffer are lent to the call.
+/// Six words: the number, a, b, c, d, and how many words of the buffer are lent to the call.
 #[derive(Clone, Copy, Debug)]
 pub struct Command {
     pub number: u32,
     pub a: u32,
     pub b: u32,
     pub c: u32,
+    pub d: u32,
     pub lent: u32,
 }
 
@@ -29,12 +30,12 @@ impl Command {
     pub const PLAY_ALL: u32 = 10;
 
     pub fn bytes(self) -> Vec<u8> {
-        [self.number, self.a, self.b, self.c, self.lent].iter().flat_map(|word| word.to_le_bytes()).collect()
+        [self.number, self.a, self.b, self.c, self.d, self.lent].iter().flat_map(|word| word.to_le_bytes()).collect()
     }
 
     fn from_bytes(bytes: &[u8]) -> Command {
         let word = |k: usize| u32::from_le_bytes(bytes[4 * k..4 * k + 4].try_into().unwrap());
-        Command { number: word(0), a: word(1), b: word(2), c: word(3), lent: word(4) }
+        Command { number: word(0), a: word(1), b: word(2), c: word(3), d: word(4), lent: word(5) }
     }
 }
 
@@ -84,10 +85,10 @@ impl<'a> Machine<'a> {
     }
 
     fn call(&mut self, command: Command) -> (u32, u64) {
-        let Command { number, a, b, c, lent } = command;
+        let Command { number, a, b, c, lent, .. } = command;
         let words = &mut self.words[..lent as usize];
         match number {
-            Command::OPEN => (self.ring.open(words, a, &self.list[..b as usize]), 0),
+            Command::OPEN => (self.ring.open(words, (a, b).into(), &self.list[..c as usize]), 0),
             Command::PLAY => (self.ring.play(words, a), 0),
             Command::LEAFSET => self.ring.leafset_of(words, a),
             Command::CONNECTED => {
@@ -107,11 +108,11 @@ impl<'a> Machine<'a> {
 
     /// Opens, and plays each word on what the one before left; answers without a place are dropped.
     fn replay(&mut self, command: Command) -> (u32, u64) {
-        let (keys, rest) = self.list.split_at(command.b as usize);
+        let (keys, rest) = self.list.split_at(command.c as usize);
         let words = &mut self.words[..command.lent as usize];
-        let opened = self.ring.open(words, command.a, keys);
+        let opened = self.ring.open(words, (command.a, command.b).into(), keys);
         if opened == 0 {
-            for (position, &word) in rest[..command.c as usize].iter().enumerate() {
+            for (position, &word) in rest[..command.d as usize].iter().enumerate() {
                 let answer = self.ring.play(words, word);
                 if let Some(place) = self.places.get_mut(position) {
                     *place = answer as u8;
@@ -141,6 +142,6 @@ fn digest(words: impl Iterator<Item = u32>) -> u64 {
 /// The lines of an implementation for the commands in these bytes.
 pub fn run(ring: &dyn Ring, input: &[u8]) -> String {
     let mut machine = Machine::new(ring);
-    let lines = input.chunks_exact(20).filter_map(|bytes| machine.run(Command::from_bytes(bytes)));
+    let lines = input.chunks_exact(24).filter_map(|bytes| machine.run(Command::from_bytes(bytes)));
     lines.map(|line| line.to_string()).collect()
 }

@@ -21,7 +21,7 @@ fn accepted(book: &mut Book) {
     book.fill_words(0, LENGTH as u32, 0x3100_0001);
     book.open(8, &spread(64), 0);
     book.groups(0);
-    book.open(3, &[10, 20, 30], 0);
+    book.open((3, 5), &[10, 20, 30], 0);
     book.open(2, &[TOO_LARGE - 1, 0], 0);
 }
 
@@ -37,13 +37,17 @@ fn lengths(book: &mut Book) {
     }
 }
 
-/// "n or L out of range", also where 3 applies too.
+/// "n or L out of range", "Refusal 2 covers both numbers", also where 3 applies too.
 fn ranges(book: &mut Book) {
-    for leaf in [0, 9, 16, u32::MAX] {
-        book.open(leaf, &[5, 6], 2);
-        book.open(leaf, &[6, 6], 2);
+    for side in [0, 9, 16, u32::MAX] {
+        for sides in [(side, side), (side, 1), (8, side)] {
+            book.open(sides, &[5, 6], 2);
+            book.open(sides, &[6, 6], 2);
+        }
     }
-    (1..=8).for_each(|leaf| book.open(leaf, &[5, 6], 0));
+    for clockwise in 1..=8 {
+        (1..=8).for_each(|counter_clockwise| book.open((clockwise, counter_clockwise), &[5, 6], 0));
+    }
     book.open(1, &[], 2);
     book.open(0, &[], 2);
     book.open(1, &spread(65), 2);

@@ -2,6 +2,7 @@
 
 use super::book::Book;
 use super::events::*;
+use crate::ring::Sides;
 use crate::LENGTH;
 
 /// A script of each mix, drawn once and kept: later changes of the mixes leave the cases as they are.
@@ -67,16 +68,16 @@ fn every_answer(book: &mut Book) {
 fn stored(book: &mut Book) {
     for script in STORED {
         let words: Vec<u32> = script.chunks_exact(4).map(|word| u32::from_le_bytes(word.try_into().unwrap())).collect();
-        let (leaf, n) = (words[0] & 15, words[0] >> 4 & 127);
+        let (sides, n) = (Sides::of_word(words[0]), words[0] >> 4 & 127);
         let (keys, events) = words[1..].split_at(n as usize);
         let keys: Vec<u32> = keys.iter().map(|word| word & 0xFF_FFFF).collect();
-        book.open(leaf, &keys, 0);
+        book.open(sides, &keys, 0);
         events.iter().for_each(|&word| book.play_any(word));
         book.groups(0);
         book.list(n, events);
-        book.replay(leaf, &keys, events.len() as u32, 0);
+        book.replay(sides, &keys, events.len() as u32, 0);
         let answers = book.places()[..events.len()].to_vec();
-        book.open(leaf, &keys, 0);
+        book.open(sides, &keys, 0);
         book.play_all(n, &answers, answers.len(), 0);
     }
 }

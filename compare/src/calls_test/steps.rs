@@ -51,17 +51,23 @@ fn worked_example(book: &mut Book) {
     assert_eq!(book.groups(0), 1);
 }
 
-/// Points 4 to 6, and sets around 2 times L.
+/// Points 4 to 6, and sets around A + B.
 fn leafsets(book: &mut Book) {
     for (held, leafset) in [(&[1, 2, 3][..], 0b1010), (&[1], 0b10), (&[1, 2], 0b110), (&[], 0)] {
         book.open_running(1, &[10, 20, 30, 16_777_210]);
         held.iter().for_each(|&z| book.hold(0, z, 1, 64));
         assert_eq!(book.leafset(0, 0), leafset);
     }
-    for leaf in 1..=8 {
-        book.open_running(leaf, &spread(18));
+    for (a, b) in (1..=8).flat_map(|a| (1..=8).map(move |b| (a, b))) {
+        book.open_running((a, b), &spread(18));
         (1..18).for_each(|z| book.hold(0, z, 1, 64));
-        assert_eq!(book.leafset(0, 0).count_ones(), 2 * leaf);
+        assert_eq!(book.leafset(0, 0).count_ones(), a + b);
+    }
+    // Keys 10 to 60: three clockwise and one the other way, and the other way round.
+    for (sides, leafset) in [((3, 1), 0b101110), ((1, 3), 0b111010), ((3, 2), 0b111110), ((3, 3), 0b111110)] {
+        book.open_running(sides, &[10, 20, 30, 40, 50, 60]);
+        (1..6).for_each(|z| book.hold(0, z, 1, 64));
+        assert_eq!(book.leafset(0, 0), leafset);
     }
 }
 

@@ -1,5 +1,7 @@
 //! Where document 01 puts each thing in the ring's words ("The ring's words").
 
+use crate::ring::Sides;
+
 /// "A ring fills 13,441 words of 32 bits."
 pub const WORDS: usize = 13_441;
 pub type Words = [u32; WORDS];
@@ -51,10 +53,10 @@ pub fn message_at(position: usize) -> usize {
     MESSAGES + MESSAGE * position
 }
 
-/// What word 0 says: L, n and m.
+/// What word 0 says: A, B, n and m.
 #[derive(Clone, Copy)]
 pub struct Header {
-    pub leaf: usize,
+    pub sides: Sides,
     pub nodes: usize,
     pub messages: usize,
 }
@@ -63,18 +65,18 @@ impl Header {
     /// None where the word is no word 0 of a ring.
     pub fn read(word: u32) -> Option<Header> {
         let header = Header {
-            leaf: (word & 15) as usize,
+            sides: Sides::of_word(word),
             nodes: (word >> 4 & 127) as usize,
             messages: (word >> 11 & 2047) as usize,
         };
-        let fits = word & 0xFFC0_0000 == KIND_RING
-            && (1..=8).contains(&header.leaf)
+        let fits = word & 0xFC00_0000 == KIND_RING
+            && header.sides.fit()
             && (1..=NODES).contains(&header.nodes)
             && header.messages <= POOL;
         fits.then_some(header)
     }
 
     pub fn word(&self) -> u32 {
-        KIND_RING | (self.messages as u32) << 11 | (self.nodes as u32) << 4 | self.leaf as u32
+        KIND_RING | (self.messages as u32) << 11 | (self.nodes as u32) << 4 | self.sides.bits()
     }
 }

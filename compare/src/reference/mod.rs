@@ -11,7 +11,7 @@ mod row;
 mod sets;
 mod validity;
 
-use crate::ring::Ring;
+use crate::ring::{Ring, Sides};
 use events::Event;
 use layout::*;
 use place::Place;
@@ -23,8 +23,8 @@ impl Ring for Reference {
         "reference"
     }
 
-    fn open(&self, words: &mut [u32], leaf: u32, keys: &[u32]) -> u32 {
-        answer(open(words, leaf, keys))
+    fn open(&self, words: &mut [u32], sides: Sides, keys: &[u32]) -> u32 {
+        answer(open(words, sides, keys))
     }
 
     fn play(&self, words: &mut [u32], word: u32) -> u32 {
@@ -56,24 +56,24 @@ fn with_answer<T: Default>(outcome: Result<T, u32>) -> (u32, T) {
     }
 }
 
-fn open(words: &mut [u32], leaf: u32, keys: &[u32]) -> Result<(), u32> {
+fn open(words: &mut [u32], sides: Sides, keys: &[u32]) -> Result<(), u32> {
     let words: &mut Words = words.try_into().map_err(|_| 1u32)?;
-    if !(1..=8).contains(&leaf) || !(1..=NODES).contains(&keys.len()) {
+    if !sides.fit() || !(1..=NODES).contains(&keys.len()) {
         return Err(2);
     }
     let repeated = (1..keys.len()).any(|s| keys[..s].contains(&keys[s]));
     if repeated || keys.iter().any(|&key| key > LOW24) {
         return Err(3);
     }
-    write_initial(words, leaf as usize, keys);
+    write_initial(words, sides, keys);
     Ok(())
 }
 
 /// "A fresh ring has every stand off, all clocks 0, no messages."
-fn write_initial(words: &mut Words, leaf: usize, keys: &[u32]) {
+fn write_initial(words: &mut Words, sides: Sides, keys: &[u32]) {
     let n = keys.len();
     words.fill(0);
-    words[0] = Header { leaf, nodes: n, messages: 0 }.word();
+    words[0] = Header { sides, nodes: n, messages: 0 }.word();
     for (x, &key) in keys.iter().enumerate() {
         words[node_at(x)] = KIND_KEY | key;
         words[node_at(x) + 1] = KIND_CLOCK;

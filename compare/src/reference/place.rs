@@ -52,7 +52,7 @@ pub fn table(words: &Words, header: Header) -> Table {
     for (key, node) in keys.iter_mut().zip(words[1..PAIRS].chunks_exact(2)) {
         *key = node[0] & LOW24;
     }
-    Table { keys, leaf: header.leaf }
+    Table { keys, sides: header.sides }
 }
 
 impl Place<'_> {

@@ -1,11 +1,12 @@
 //! Sets of nodes as 64 bits, distances, and the choices by distance ("Keys and leafsets").
 
 use super::layout::{LOW24, NODES};
+use crate::ring::Sides;
 
-/// The keys of the nodes, and L.
+/// The keys of the nodes, A and B.
 pub struct Table {
     pub keys: [u32; NODES],
-    pub leaf: usize,
+    pub sides: Sides,
 }
 
 /// The members of a set, in rising order.
@@ -39,20 +40,21 @@ impl Table {
     pub fn leafset(&self, x: usize, set: u64) -> u64 {
         let others = set & !(1 << x);
         let count = others.count_ones() as usize;
-        if count < 2 * self.leaf {
+        if count < self.sides.both() {
             return others;
         }
-        // Clockwise distances with the node below them: they differ, so that their ranks do. The ranks below L are
-        // the nearest clockwise, the last L ranks the nearest counter-clockwise.
+        // Clockwise distances with the node below them: they differ, so that their ranks do. The ranks below A are
+        // the nearest clockwise, the last B ranks the nearest counter-clockwise.
         let mut far = [u32::MAX; NODES];
         for (entry, z) in far.iter_mut().zip(members(others)) {
             *entry = clockwise(self.keys[x], self.keys[z]) << 6 | z as u32;
         }
         let padded = &far[..count.next_multiple_of(8)];
+        let last = (count - self.sides.counter_clockwise as usize) as u32;
         let mut leafset = 0;
         for &entry in &far[..count] {
             let rank: u32 = padded.iter().map(|&other| (other < entry) as u32).sum();
-            let near = (rank as usize) < self.leaf || rank as usize >= count - self.leaf;
+            let near = rank < self.sides.clockwise || rank >= last;
             leafset |= (near as u64) << (entry & 63);
         }
         leafset

@@ -31,7 +31,7 @@ pub fn open_script(script: &[u32], words: &mut [u32]) -> Answer
         return Answer::BadKey;
     }
     let keys = keys(script, n);
-    open(words, sides.each, &keys[..n])
+    open(words, sides.ahead, sides.behind, &keys[..n])
 }
 
 // The first word is one with m = 0, and none of the key words is missing.
@@ -46,7 +46,7 @@ fn head_fits(script: &[u32]) -> bool
     (word == HeadWord::new(HeadWord(word).sides(), n, 0).0) & (1 + n as usize <= script.len())
 }
 
-// "L is 1 to 8"; "table size n (1 to 64)"
+// "A clockwise and B counter-clockwise, each 1 to 8"; "table size n (1 to 64)"
 fn sizes_fit(sides: Sides, n: usize) -> bool
     ensures value { λ r. ⌜ r ≡ sizesFit sides n ⌝ }
 {

@@ -13,6 +13,7 @@ use Rattle.model.specs.Buffer.{openAnswer}
 use Rattle.model.specs.Structs.{tableOf, RoomSides}
 use Rattle.model.specs.declared.values.Sides.{Sides}
 use Rattle.model.specs.WellFormed.{WellFormedTable}
+use Rattle.model.proofs.Words.{well-room}
 use Rattle.model.proofs.WellFormedPlay.{table-well}
 use Rattle.model.proofs.Answers.{here, next, no-more}
 use Rattle.answers.proofs.Refusals.{wrong-length, right-length}
@@ -45,7 +46,7 @@ module _ (ws : List ℕ) (sides : Sides) (keys : List ℕ) where
     well = table-well ws t a
 
     pub sides-room : RoomSides sides
-    sides-room = record { each-room = omega (arith, well .sides-well .each-high) }
+    sides-room = well-room (well .sides-well)
 
     pub few-keys : length keys ≤ 64
     few-keys = well .size-high

@@ -13,16 +13,20 @@ use model::values::Sides;
 use word_ring::limit;
 use word_ring::place;
 
-// "Opening takes L and a list of n keys, stand 0's first, and writes a fresh ring over the lent buffer, whose old words
-// don't matter."
-pub fn open(words: &mut [u32], leaf: u32, keys: &[u32]) -> Answer
+// "Opening takes [A, then B,] and a list of n keys, stand 0's first, and writes a fresh ring over the lent buffer, whose
+// old words don't matter."
+pub fn open(words: &mut [u32], clockwise: u32, counter_clockwise: u32, keys: &[u32]) -> Answer
     ensures written { λ r. ⌜ written r (now (words .exit))
-        ≡ openBuffer (now (words .entry)) (tableOf (record { each = leaf }) (now (keys .entry))) ⌝ }
+        ≡ openBuffer (now (words .entry))
+        (tableOf (record { ahead = clockwise; behind = «counter_clockwise» }) (now (keys .entry))) ⌝ }
 {
     if words.len() != place::LENGTH {
         return Answer::WrongLength;
     }
-    let sides = Sides { each: leaf };
+    let sides = Sides {
+        ahead: clockwise,
+        behind: counter_clockwise,
+    };
     if !in_range(sides, keys) {
         return Answer::OpeningOutOfRange;
     }
@@ -33,7 +37,7 @@ pub fn open(words: &mut [u32], leaf: u32, keys: &[u32]) -> Answer
     Answer::Accepted
 }
 
-// "L is 1 to 8"; "table size n (1 to 64)"
+// "A clockwise and B counter-clockwise, each 1 to 8"; "table size n (1 to 64)"
 fn in_range(sides: Sides, keys: &[u32]) -> bool
     ensures value { λ r. ⌜ r ≡ inRange (tableOf sides (now (keys .entry))) ⌝ }
 {

@@ -22,7 +22,7 @@ pub record AnswersPlaced (n : ℕ) (ws script answers answers' : List ℕ) : Typ
 unfoldable pub replayBuffer : List ℕ → Table → List ℕ → Written
 replayBuffer old t script = writes old (openBuffer old t .answer) (playBufferAll (openBuffer old t .words) script)
 
--- the promise of a replay, for any old words, any L and keys, any script, and any number of places for the answers: r, a number, ws'
+-- the promise of a replay, for any old words, any A, B and keys, any script, and any number of places for the answers: r, a number, ws'
 -- and answers' are what it answers and leaves
 pub record Replayed (old : List ℕ) (t : Table) (script answers : List ℕ) (r : ℕ) (ws' answers' : List ℕ) : Type 0 where
   pub answer-and-words : record { answer = r; words = ws' } ≡ replayBuffer old t script

@@ -72,15 +72,17 @@ pub fn play_all(words: &mut [u32], script: &[u32], answers: &mut [u8]) -> Answer
 // are dropped.
 pub fn replay(
     words: &mut [u32],
-    leaf: u32,
+    clockwise: u32,
+    counter_clockwise: u32,
     keys: &[u32],
     script: &[u32],
     answers: &mut [u8],
 ) -> Answer
-    ensures replayed { λ r. ⌜ Replayed (now (words .entry)) (tableOf (record { each = leaf }) (now (keys .entry)))
+    ensures replayed { λ r. ⌜ Replayed (now (words .entry))
+        (tableOf (record { ahead = clockwise; behind = «counter_clockwise» }) (now (keys .entry)))
         (now (script .entry)) (now (answers .entry)) (numberOf r) (now (words .exit)) (now (answers .exit)) ⌝ }
 {
-    let opened = open(words, leaf, keys);
+    let opened = open(words, clockwise, counter_clockwise, keys);
     if answers::is_refusal(opened) {
         return opened;
     }

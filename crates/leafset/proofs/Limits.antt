@@ -83,10 +83,10 @@ module _ {S : Set} {m : ℕ → ℕ} {R : Set} {limit k : ℕ} (t : Taken S m R 
       (λ h. h ∙ sym (le-ltb (count 64 (nearer y)) k (beyond y (ltb-false (m y) limit h))))
 
 -- the members below the limit
-pub limit-near : (leaf : ℕ) (S : Set) (m : ℕ → ℕ) (limit : ℕ) → IsLimit leaf S m limit
-    → (r : Set) → ((y : ℕ) → r y ≡ (S y && ltb (m y) limit)) → (y : ℕ) → r y ≡ (S y && isNear leaf S m y)
-limit-near leaf S m limit f r e y = e y ∙ go (S y) (f y)
+pub limit-near : (many : ℕ) (S : Set) (m : ℕ → ℕ) (limit : ℕ) → IsLimit many S m limit
+    → (r : Set) → ((y : ℕ) → r y ≡ (S y && ltb (m y) limit)) → (y : ℕ) → r y ≡ (S y && isNear many S m y)
+limit-near many S m limit f r e y = e y ∙ go (S y) (f y)
   where
-    go : (b : Bool) → (b ≡ true → ltb (m y) limit ≡ isNear leaf S m y) → (b && ltb (m y) limit) ≡ (b && isNear leaf S m y)
+    go : (b : Bool) → (b ≡ true → ltb (m y) limit ≡ isNear many S m y) → (b && ltb (m y) limit) ≡ (b && isNear many S m y)
     go true g = g refl
     go false g = refl

@@ -15,16 +15,16 @@ use model::values::Key;
 use model::values::NodeNumber;
 use model::values::Sides;
 
-// The limit below which the spans of the `leaf` nearest members lie.
-fn limit(keys: &[u32], leaf: u32, way: Way, from: Key, set: u64) -> u32
+// The limit below which the spans of the `many` nearest members lie.
+fn limit(keys: &[u32], many: u32, way: Way, from: Key, set: u64) -> u32
     requires members { ⌜ Within (length (now keys)) set ⌝ }
-    requires enough { ⌜ leaf ≤ count 64 (ofBits set) ⌝ }
-    ensures limit { λ r. ⌜ IsLimit leaf (ofBits set) (spanTo way (from .0) (now (keys .entry))) r ⌝ }
+    requires enough { ⌜ many ≤ count 64 (ofBits set) ⌝ }
+    ensures limit { λ r. ⌜ IsLimit many (ofBits set) (spanTo way (from .0) (now (keys .entry))) r ⌝ }
 {
     let mut limit = 0;
     let mut left = set;
     let mut taken = 0;
-    while taken < leaf {
+    while taken < many {
         let y = leafset_nearest::nearest(keys, way, from, left);
         let at = y.0 as usize;
         limit = leafset_nearest::span(way, from, Key(keys[at])) + 1;
@@ -54,32 +54,31 @@ fn below(keys: &[u32], limit: u32, way: Way, from: Key, set: u64) -> u64
     out
 }
 
-// The `leaf` nearest members of the set.
-fn near(keys: &[u32], leaf: u32, way: Way, from: Key, set: u64) -> u64
+// The `many` nearest members of the set.
+fn near(keys: &[u32], many: u32, way: Way, from: Key, set: u64) -> u64
     requires members { ⌜ Within (length (now keys)) set ⌝ }
-    requires enough { ⌜ leaf ≤ count 64 (ofBits set) ⌝ }
+    requires enough { ⌜ many ≤ count 64 (ofBits set) ⌝ }
     ensures members { λ r. ⌜ ((y : ℕ)
-        → ofBits r y ≡ (ofBits set y && isNear leaf (ofBits set) (spanTo way (from .0) (now (keys .entry))) y)) ⌝ }
+        → ofBits r y ≡ (ofBits set y && isNear many (ofBits set) (spanTo way (from .0) (now (keys .entry))) y)) ⌝ }
 {
-    let limit = limit(keys, leaf, way, from, set);
+    let limit = limit(keys, many, way, from, set);
     below(keys, limit, way, from, set)
 }
 
-// "take x out of S; if fewer than 2 times L are left, all of them; else the L nearest clockwise and the L nearest
-// counter-clockwise"
+// "everything if fewer than A + B are left, else the A nearest clockwise and the B nearest the other way"
 pub fn leafset(keys: &[u32], sides: Sides, x: NodeNumber, set: u64) -> u64
     requires table { ⌜ InTable (now keys) (x .0) set ⌝ }
     requires sides { ⌜ RoomSides sides ⌝ }
     ensures value { λ r. ⌜ r ≡ toBits 64 (model.leafset (tableOf sides (now (keys .entry))) (x .0) (ofBits set)) ⌝ }
 {
     let left = sets::without(set, x);
-    if sets::size(left) < 2 * sides.each {
+    if sets::size(left) < sides.ahead + sides.behind {
         return left;
     }
     let at = x.0 as usize;
     let from = Key(keys[at]);
-    let ahead = near(keys, sides.each, Way::Clockwise, from, left);
-    let behind = near(keys, sides.each, Way::CounterClockwise, from, left);
+    let ahead = near(keys, sides.ahead, Way::Clockwise, from, left);
+    let behind = near(keys, sides.behind, Way::CounterClockwise, from, left);
     ahead | behind
 }
 

@@ -14,15 +14,22 @@ ghost use Rattle.mekvalgs.specs.Nodes.{nodeOf};
 use call_open::open;
 use model::values::NodeNumber;
 
-// Writes the initial ring of `leaf` and the keys.
+// Writes the initial ring of A, B and the keys.
 #[no_mangle]
-pub extern "C" fn mekvalgs_open(words: &mut [u32], leaf: u32, keys: &[u32]) -> u32
+pub extern "C" fn mekvalgs_open(
+    words: &mut [u32],
+    clockwise: u32,
+    counter_clockwise: u32,
+    keys: &[u32],
+) -> u32
     ensures answer { λ r. ⌜ r
-        ≡ openBuffer (now (words .entry)) (tableOf (record { each = leaf }) (now (keys .entry))) .answer ⌝ }
-    ensures words { λ r. ⌜ now (words .exit)
-        ≡ openBuffer (now (words .entry)) (tableOf (record { each = leaf }) (now (keys .entry))) .words ⌝ }
+        ≡ openBuffer (now (words .entry))
+        (tableOf (record { ahead = clockwise; behind = «counter_clockwise» }) (now (keys .entry))) .answer ⌝ }
+    ensures words { λ _. ⌜ now (words .exit)
+        ≡ openBuffer (now (words .entry))
+        (tableOf (record { ahead = clockwise; behind = «counter_clockwise» }) (now (keys .entry))) .words ⌝ }
 {
-    answers::number(open(words, leaf, keys))
+    answers::number(open(words, clockwise, counter_clockwise, keys))
 }
 
 // Plays an event word.
@@ -47,15 +54,17 @@ pub extern "C" fn mekvalgs_play_all(words: &mut [u32], script: &[u32], answers: 
 #[no_mangle]
 pub extern "C" fn mekvalgs_replay(
     words: &mut [u32],
-    leaf: u32,
+    clockwise: u32,
+    counter_clockwise: u32,
     keys: &[u32],
     script: &[u32],
     answers: &mut [u8],
 ) -> u32
-    ensures replayed { λ r. ⌜ Replayed (now (words .entry)) (tableOf (record { each = leaf }) (now (keys .entry)))
+    ensures replayed { λ r. ⌜ Replayed (now (words .entry))
+        (tableOf (record { ahead = clockwise; behind = «counter_clockwise» }) (now (keys .entry)))
         (now (script .entry)) (now (answers .entry)) r (now (words .exit)) (now (answers .exit)) ⌝ }
 {
-    answers::number(call_play::replay(words, leaf, keys, script, answers))
+    answers::number(call_play::replay(words, clockwise, counter_clockwise, keys, script, answers))
 }
 
 // The leafset of node x in its held set.

@@ -3,16 +3,17 @@ use mathlib.Core.Path.{_≡_, refl}
 use mathlib.Core.List.{List, [], _∷_}
 use Prim.Native.Nat.{ℕ}
 use Rattle.model.specs.Choice.{if_then_else_}
-use Rattle.model.specs.Sets.{noneNode, ofBits, members}
-use Rattle.model.specs.Leafset.{Table}
+use Rattle.model.specs.Sets.{noneNode, ofBits, count, members}
+use Rattle.model.specs.Leafset.{Table, leafset}
 use Rattle.model.specs.Ring.{Own, Message}
 use Rattle.model.specs.Types.{pongAskInv}
+use Rattle.model.specs.Words.{headWord, sidesOf}
 use Rattle.model.specs.Steps.{release, forget, notice, viewing, onPongAskInv, deliver}
 
 -- ---- "Ghosts in the candidate list"
 
 unfoldable five : Table
-five = record { sides = record { each = 1 }; keys = 10 ∷ 20 ∷ 30 ∷ 40 ∷ 50 ∷ [] }
+five = record { sides = record { ahead = 1; behind = 1 }; keys = 10 ∷ 20 ∷ 30 ∷ 40 ∷ 50 ∷ [] }
 
 -- node 0 holds 1 and 2, and has the candidates that are given by their bits; then, at 9, it gets a notice of z
 unfoldable told : ℕ → ℕ → Own
@@ -29,6 +30,15 @@ noticed S z = members 5 (told S z .held) ∷ members 5 (told S z .candidates) �
 pub brought-back : List ℕ
 brought-back = members 5 (deliver five 0 10 (told 0b11000 3) (viewing pongAskInv 1 0 (ofBits 0b01000)) .own .candidates)
 
+-- ---- "Uneven sides"
+
+-- keys 10 to 60: the leafset of node 0 in all the others, for A and B
+pub uneven : ℕ → ℕ → List ℕ
+uneven a b = members 6 (leafset six 0 (ofBits 0b111110))
+  where
+    six : Table
+    six = record { sides = record { ahead = a; behind = b }; keys = 10 ∷ 20 ∷ 30 ∷ 40 ∷ 50 ∷ 60 ∷ [] }
+
 -- the rows by name
 pub record Amended : Type 0 where
   -- "strikes its subject from the receiver's candidates, held or not": a candidate that is not held; one that is; one held that is none
@@ -37,13 +47,27 @@ pub record Amended : Type 0 where
   pub notice-held : noticed 0b11000 1 ≡ (2 ∷ []) ∷ (3 ∷ 4 ∷ []) ∷ []
   -- "Old views that name it .. may still bring it back later."
   pub view-brings-back : brought-back ≡ 3 ∷ 4 ∷ []
+  -- "everything if fewer than A + B are left, else the A nearest clockwise and the B nearest the other way"
+  pub three-and-one : uneven 3 1 ≡ 1 ∷ 2 ∷ 3 ∷ 5 ∷ []
+  pub one-and-three : uneven 1 3 ≡ 1 ∷ 3 ∷ 4 ∷ 5 ∷ []
+  pub three-and-two : uneven 3 2 ≡ 1 ∷ 2 ∷ 3 ∷ 4 ∷ 5 ∷ []
+  pub three-and-three : uneven 3 3 ≡ 1 ∷ 2 ∷ 3 ∷ 4 ∷ 5 ∷ []
+  -- "Word 0 has A in bits 0-3 and B in bits 22-25, so the bench case of document 01 opens with 10400031."
+  pub head-word : headWord (record { ahead = 1; behind = 1 }) 3 0 ≡ 0x10400031
+  pub head-sides : sidesOf 0x10C00031 ≡ record { ahead = 1; behind = 3 }
 
 pub amended : Amended
-unfolding members five told noticed brought-back release forget notice onPongAskInv deliver
+unfolding count members five told noticed brought-back uneven release forget notice onPongAskInv deliver leafset headWord
 amended =
     record {
       notice-candidate = refl;
       notice-held-candidate = refl;
       notice-held = refl;
       view-brings-back = refl;
+      three-and-one = refl;
+      one-and-three = refl;
+      three-and-two = refl;
+      three-and-three = refl;
+      head-word = refl;
+      head-sides = refl;
     }

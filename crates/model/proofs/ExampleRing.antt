@@ -1,4 +1,4 @@
--- The rings of the points P9 and P10 and of the leafset question: L = 1, five nodes, of which only node 0 runs. They are well-formed.
+-- The rings of the points P9 and P10 and of the leafset question: A = B = 1, five nodes, of which only node 0 runs. They are well-formed.
 use mathlib.Core.Path.{_≡_, refl, ap, _∙_}
 use Prim.Native.Nat.{ℕ, _^_, _≤_, _<_}
 use native.Mathlib.Omega.{arith}
@@ -24,7 +24,7 @@ holding S = record { held = ofBits S; candidates = empty; commit = λ z. if ofBi
 
 -- node 2 is outside the leafset of node 0 in the nodes 2, 3 and 4, and in these and node 1
 unfoldable pub five : Table
-five = record { sides = record { each = 1 }; keys = 10 ∷ 20 ∷ 30 ∷ 16777210 ∷ 15 ∷ [] }
+five = record { sides = record { ahead = 1; behind = 1 }; keys = 10 ∷ 20 ∷ 30 ∷ 16777210 ∷ 15 ∷ [] }
 
 -- node 0, which holds the nodes of S, and of them node 2 with the commit that is given and spare 1; and any other node
 unfoldable pub node0 : ℕ → ℕ → Node
@@ -44,7 +44,7 @@ table-well : WellFormedTable five
 unfolding five keysDiffer all
 table-well =
     record {
-      sides-well = record { each-low = omega arith; each-high = omega arith };
+      sides-well = record { ahead-low = omega arith; ahead-high = omega arith; behind-low = omega arith; behind-high = omega arith };
       size-low = omega arith;
       size-high = omega arith;
       key-high = λ s h. leb-true (key five s) 16777215 (all-out 5 (λ s. leb (key five s) 16777215) refl s h);

@@ -13,19 +13,27 @@ use Rattle.model.specs.Leafset.{Table, size}
 use Rattle.model.specs.Ring.{Node, Message, Ring, blank, messageAt}
 use Rattle.model.specs.WellFormed.{WellFormedSides, WellFormedTable, Spare, none, spare, WellFormedOwn, WellFormedNode, WellFormedMessage, WellFormed, nil, cons}
 use Rattle.model.specs.Types.{usesView, usesSubject, namesSpare, usesStamp}
-use Rattle.model.specs.Words.{isPair, encode, decode, sidesFit, inRange, nodeOrNone, pairFits, nodeFits, subjectFits, viewFits, messageFits, ringFits, readsAsRing}
+use Rattle.model.specs.Words.{isPair, encode, decode, between, sidesFit, inRange, nodeOrNone, pairFits, nodeFits, subjectFits, viewFits, messageFits, ringFits, readsAsRing}
 use Rattle.model.specs.declared.values.Sides.{Sides}
-use Rattle.model.proofs.Laws.{and-in, or-left, or-right, implies-in, not-in, not-out, between-in, between-low, between-high, every-in, if-law, decide, all-in}
+use Rattle.model.proofs.Laws.{and-left, and-right, and-in, or-left, or-right, implies-in, not-in, not-out, between-in, between-low, between-high, every-in, if-law, decide, all-in}
 use Rattle.model.proofs.Lists.{each-at}
 use Rattle.model.proofs.Words.{pair-low, pair-other, length-encode, format-in, reads-in}
 use Rattle.model.proofs.RoundTrip.{round-trip}
 
--- L, both ways
+-- A and B, both ways
 sides-in : (s : Sides) → WellFormedSides s → sidesFit s ≡ true
-sides-in s g = between-in 1 8 (s .each) (g .each-low) (g .each-high)
+sides-in s g = and-in (between-in 1 8 (s .ahead) (g .ahead-low) (g .ahead-high)) (between-in 1 8 (s .behind) (g .behind-low) (g .behind-high))
 
 pub sides-out : (s : Sides) → sidesFit s ≡ true → WellFormedSides s
-sides-out s e = record { each-low = between-low 1 8 (s .each) e; each-high = between-high 1 8 (s .each) e }
+sides-out s e =
+    let a = and-left (between 1 8 (s .ahead)) (between 1 8 (s .behind)) e in
+    let b = and-right (between 1 8 (s .ahead)) (between 1 8 (s .behind)) e in
+    record {
+      ahead-low = between-low 1 8 (s .ahead) a;
+      ahead-high = between-high 1 8 (s .ahead) a;
+      behind-low = between-low 1 8 (s .behind) b;
+      behind-high = between-high 1 8 (s .behind) b;
+    }
 
 table-fits : (t : Table) → WellFormedTable t → inRange t ≡ true
 unfolding inRange

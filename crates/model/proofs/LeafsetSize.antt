@@ -1,5 +1,5 @@
--- "the L nearest clockwise and the L nearest counter-clockwise, exactly 2 times L stands": the leafset in a set that has at least
--- 2 times L nodes without x.
+-- "the A nearest clockwise and the B nearest the other way": the leafset in a set that has at least
+-- A + B nodes without x.
 use mathlib.Core.Path.{_≡_, refl, sym, ap, _∙_}
 use Prim.Native.Nat.{ℕ, zero, suc, _+_, _*_, _≤_, _<_, min, zero-le}
 use native.Mathlib.Nat.{le-of-lt, le-of-eq, add-comm}
@@ -161,18 +161,18 @@ clockwise-lt a b = omega arith
 
 -- ---- the two sides of a leafset
 
--- A are L members of S, nearer to x by the distance d than any other member of S
-pub record Nearest (t : Table) (d : ℕ → ℕ → ℕ) (x : ℕ) (S A : Set) : Type 0 where
+-- A are `many` members of S, nearer to x by the distance d than any other member of S
+pub record Nearest (t : Table) (many : ℕ) (d : ℕ → ℕ → ℕ) (x : ℕ) (S A : Set) : Type 0 where
   pub within : (y : ℕ) → A y ≡ true → S y ≡ true
-  pub number : count (size t) A ≡ t .sides .each
+  pub number : count (size t) A ≡ many
   pub nearest : (y z : ℕ) → A y ≡ true → S z ≡ true → A z ≡ false → d (key t x) (key t y) < d (key t x) (key t z)
 
 -- the leafset of x in S is two sides without a common node
 pub record TwoSides (t : Table) (x : ℕ) (S : Set) : Type 0 where
   pub ahead : Set
   pub behind : Set
-  pub ahead-nearest : Nearest t clockwise x (without S x) ahead
-  pub behind-nearest : Nearest t counterClockwise x (without S x) behind
+  pub ahead-nearest : Nearest t (t .sides .ahead) clockwise x (without S x) ahead
+  pub behind-nearest : Nearest t (t .sides .behind) counterClockwise x (without S x) behind
   pub apart : (y : ℕ) → y < size t → ahead y ≡ true → behind y ≡ true → ⊥
   pub together : (y : ℕ) → leafset t x S y ≡ (ahead y || behind y)
 
@@ -214,15 +214,15 @@ module _ (t : Table) (g : WellFormedTable t) (x : ℕ) (hx : x < size t) (S : Se
   behind-inj : (y z : ℕ) → y < n → z < n → left y ≡ true → left z ≡ true → behind y ≡ behind z → y ≡ z
   behind-inj y z hy hz ly lz e = same-key y z hy hz (counter-inj a (key t y) (key t z) (small x hx) (small y hy) (small z hz) e)
 
-  -- the L nearest on one way
-  abbrev near : (ℕ → ℕ → ℕ) → Set
-  near d y = left y && isNear t d a left y
+  -- the `many` nearest on one way
+  abbrev near : ℕ → (ℕ → ℕ → ℕ) → Set
+  near many d y = left y && isNear t many d a left y
 
-  near-ahead : count n (near clockwise) ≡ min (t .sides .each) (count n left)
-  near-ahead = least-count left ahead n ahead-inj (t .sides .each) 16777216 (λ y l e. clockwise-lt a (key t y))
+  near-ahead : count n (near (t .sides .ahead) clockwise) ≡ min (t .sides .ahead) (count n left)
+  near-ahead = least-count left ahead n ahead-inj (t .sides .ahead) 16777216 (λ y l e. clockwise-lt a (key t y))
 
-  near-behind : count n (near counterClockwise) ≡ min (t .sides .each) (count n left)
-  near-behind = least-count left behind n behind-inj (t .sides .each) 16777216 (λ y l e. clockwise-lt (key t y) a)
+  near-behind : count n (near (t .sides .behind) counterClockwise) ≡ min (t .sides .behind) (count n left)
+  near-behind = least-count left behind n behind-inj (t .sides .behind) 16777216 (λ y l e. clockwise-lt (key t y) a)
 
   -- seen from a member y, any other member is nearer on one way or on the other
   past : (y z : ℕ) → y < n → z < n → left y ≡ true
@@ -244,8 +244,8 @@ module _ (t : Table) (g : WellFormedTable t) (x : ℕ) (hx : x < size t) (S : Se
       rw (lz, e, q, lt-ltb (behind z) (behind y) b))))
       (λ lz. rw lz)
 
-  -- nobody is among the L nearest on both ways
-  apart : (y : ℕ) → y < n → 2 * t .sides .each ≤ count n left → near clockwise y ≡ true → near counterClockwise y ≡ true → ⊥
+  -- nobody is among the nearest on both ways
+  apart : (y : ℕ) → y < n → t .sides .ahead + t .sides .behind ≤ count n left → near (t .sides .ahead) clockwise y ≡ true → near (t .sides .behind) counterClockwise y ≡ true → ⊥
   apart y hy enough p q =
       let ly : left y ≡ true = and-left (left y) _ p in
       let whole : count n left ≡ nearer t clockwise a left y + count n (λ z. left z && not (ltb (ahead z) (ahead y))) =
@@ -254,18 +254,18 @@ module _ (t : Table) (g : WellFormedTable t) (x : ℕ) (hx : x < size t) (S : Se
       count-add n (λ z. left z && ltb (behind z) (behind y)) (λ z. left z && eqb z y) (λ z. left z && not (ltb (ahead z) (ahead y))) (λ z l. past y z hy l ly) in
       let itself : count n (λ z. left z && eqb z y) ≤ 1 =
       count-one n (λ z. left z && eqb z y) (λ u v hu hv eu ev. eqb-true u y (and-right (left u) _ eu) ∙ sym (eqb-true v y (and-right (left v) _ ev))) in
-      let here : nearer t clockwise a left y < t .sides .each = ltb-true _ (t .sides .each) (and-right (left y) _ p) in
-      let there : nearer t counterClockwise a left y < t .sides .each = ltb-true _ (t .sides .each) (and-right (left y) _ q) in
+      let here : nearer t clockwise a left y < t .sides .ahead = ltb-true _ (t .sides .ahead) (and-right (left y) _ p) in
+      let there : nearer t counterClockwise a left y < t .sides .behind = ltb-true _ (t .sides .behind) (and-right (left y) _ q) in
       omega arith
 
-  -- a node among the L nearest by d is nearer than one that is not
-  near-nearest : (d : ℕ → ℕ → ℕ) (y z : ℕ) → near d y ≡ true → left z ≡ true → near d z ≡ false → d a (key t y) < d a (key t z)
-  near-nearest d y z p lz q =
+  -- a node among the nearest by d is nearer than one that is not
+  near-nearest : (many : ℕ) (d : ℕ → ℕ → ℕ) (y z : ℕ) → near many d y ≡ true → left z ≡ true → near many d z ≡ false → d a (key t y) < d a (key t z)
+  near-nearest many d y z p lz q =
       elim (decLt (d a (key t y)) (d a (key t z))) [
         | yes h ↦ h
         | no h ↦
-            (let few : nearer t d a left y < t .sides .each = ltb-true _ (t .sides .each) (and-right (left y) _ p) in
-            let many : t .sides .each ≤ nearer t d a left z = ltb-false _ (t .sides .each) (rw lz at q) in
+            (let few : nearer t d a left y < many = ltb-true _ many (and-right (left y) _ p) in
+            let enough : many ≤ nearer t d a left z = ltb-false _ many (rw lz at q) in
             let mono : nearer t d a left z ≤ nearer t d a left y =
             count-mono (λ v. left v && ltb (d a (key t v)) (d a (key t z))) (λ v. left v && ltb (d a (key t v)) (d a (key t y))) n
             (λ v l e.
@@ -274,30 +274,30 @@ module _ (t : Table) (g : WellFormedTable t) (x : ℕ) (hx : x < size t) (S : Se
             absurd (omega arith))
       ]
 
-  nearest-by : (d : ℕ → ℕ → ℕ) → count n (near d) ≡ min (t .sides .each) (count n left) → 2 * t .sides .each ≤ count n left → Nearest t d x left (near d)
-  nearest-by d e enough =
+  nearest-by : (many : ℕ) (d : ℕ → ℕ → ℕ) → count n (near many d) ≡ min many (count n left) → many ≤ count n left → Nearest t many d x left (near many d)
+  nearest-by many d e enough =
       record {
-        within = λ y p. and-left (left y) (isNear t d a left y) p;
+        within = λ y p. and-left (left y) (isNear t many d a left y) p;
         number = omega arith;
-        nearest = near-nearest d;
+        nearest = near-nearest many d;
       }
 
-  pub leafset-sides : 2 * t .sides .each ≤ count n left → TwoSides t x S
+  pub leafset-sides : t .sides .ahead + t .sides .behind ≤ count n left → TwoSides t x S
   unfolding leafset
   leafset-sides enough =
       record {
-        ahead = near clockwise;
-        behind = near counterClockwise;
-        ahead-nearest = nearest-by clockwise near-ahead enough;
-        behind-nearest = nearest-by counterClockwise near-behind enough;
+        ahead = near (t .sides .ahead) clockwise;
+        behind = near (t .sides .behind) counterClockwise;
+        ahead-nearest = nearest-by (t .sides .ahead) clockwise near-ahead (omega arith);
+        behind-nearest = nearest-by (t .sides .behind) counterClockwise near-behind (omega arith);
         apart = λ y l p q. apart y l enough p q;
         together = λ y.
-            ap (λ (few : Bool). left y && (few || isNear t clockwise a left y || isNear t counterClockwise a left y))
-            (le-ltb (count n left) (2 * t .sides .each) enough)
-            ∙ distribute (left y) (isNear t clockwise a left y) (isNear t counterClockwise a left y);
+            ap (λ (few : Bool). left y && (few || isNear t (t .sides .ahead) clockwise a left y || isNear t (t .sides .behind) counterClockwise a left y))
+            (le-ltb (count n left) (t .sides .ahead + t .sides .behind) enough)
+            ∙ distribute (left y) (isNear t (t .sides .ahead) clockwise a left y) (isNear t (t .sides .behind) counterClockwise a left y);
       }
 
-  pub leafset-size : 2 * t .sides .each ≤ count n left → count n (leafset t x S) ≡ 2 * t .sides .each
+  pub leafset-size : t .sides .ahead + t .sides .behind ≤ count n left → count n (leafset t x S) ≡ t .sides .ahead + t .sides .behind
   leafset-size enough =
       let s : TwoSides t x S = leafset-sides enough in
       let sum : count n (leafset t x S) ≡ count n (s .ahead) + count n (s .behind) =

@@ -1,5 +1,5 @@
 -- Computed examples: the points P1 to P10 of document 01 and its traps as one table, and the worked example of its bench.
-use Prim.Native.Nat.{ℕ, suc, _^_, _≤_, _<_}
+use Prim.Native.Nat.{ℕ, suc, _/_, _%_, _^_, _≤_, _<_}
 use mathlib.Core.Path.{_≡_, refl}
 use mathlib.Core.Bool.{true, false}
 use mathlib.Core.List.{List, [], _∷_}
@@ -30,25 +30,25 @@ computed = tt
 
 -- ---- "Points to play over (P: proved)"
 
--- keys 10, 20, 30 and 16777210 with L = 1
+-- keys 10, 20, 30 and 16777210 with A = B = 1
 pub four : Leafset.Table
-four = record { sides = record { each = 1 }; keys = 10 ∷ 20 ∷ 30 ∷ 16777210 ∷ [] }
+four = record { sides = record { ahead = 1; behind = 1 }; keys = 10 ∷ 20 ∷ 30 ∷ 16777210 ∷ [] }
 
 -- the leafset at key 10 in the set of nodes that is given by its bits
 pub near10 : ℕ → List ℕ
 near10 S = Sets.members 4 (Leafset.leafset four 0 (Sets.ofBits S))
 
 -- type 7 from node 0, key 100, is delivered at node x of keys 100, 130, 90 and 110, which holds the nodes that are given by their bits:
--- what it sends, for each L from 1 to 8
+-- what it sends, for each A and B from 1 to 8
 pub asked : ℕ → ℕ → List (List Ring.Message)
-asked x S = Sets.tabulate 8 λ i. Steps.deliver (record { sides = record { each = suc i }; keys = 100 ∷ 130 ∷ 90 ∷ 110 ∷ [] }) x 9 (holding S) m .sent
+asked x S = Sets.tabulate 64 λ i. Steps.deliver (record { sides = record { ahead = suc (i / 8); behind = suc (i % 8) }; keys = 100 ∷ 130 ∷ 90 ∷ 110 ∷ [] }) x 9 (holding S) m .sent
   where
     m : Ring.Message
     m = record { type = 7; sender = 0; receiver = x; subject = 64; stamp = 0; view = Sets.empty }
 
--- one message for each of these L: type 8 from node x to node 0, with that subject
+-- one message for each of these: type 8 from node x to node 0, with that subject
 pub offered : ℕ → ℕ → List (List Ring.Message)
-offered x y = replicate 8 (record { type = 8; sender = x; receiver = 0; subject = y; stamp = 0; view = Sets.empty } ∷ [])
+offered x y = replicate 64 (record { type = 8; sender = x; receiver = 0; subject = y; stamp = 0; view = Sets.empty } ∷ [])
 
 -- what an own record says of the nodes of a table of five
 pub record Shown : Type 0 where
@@ -147,7 +147,7 @@ points =
 
 pub input : List ℕ
 input =
-    0x31 ∷ 0x00 ∷ 0x00 ∷ 0x10 ∷ 0x0A ∷ 0 ∷ 0 ∷ 0x20 ∷ 0x14 ∷ 0 ∷ 0 ∷ 0x20 ∷ 0x1E ∷ 0 ∷ 0 ∷ 0x20
+    0x31 ∷ 0x00 ∷ 0x40 ∷ 0x10 ∷ 0x0A ∷ 0 ∷ 0 ∷ 0x20 ∷ 0x14 ∷ 0 ∷ 0 ∷ 0x20 ∷ 0x1E ∷ 0 ∷ 0 ∷ 0x20
     ∷ 0 ∷ 0 ∷ 0 ∷ 0x90 ∷ 1 ∷ 0 ∷ 0 ∷ 0x90 ∷ 0x40 ∷ 0 ∷ 0 ∷ 0xC0 ∷ 0 ∷ 0 ∷ 0 ∷ 0xE0 ∷ 0 ∷ 0 ∷ 0 ∷ 0xE0 ∷ 0 ∷ 0 ∷ 0 ∷ 0xE0 ∷ []
 
 pub output : Bench.Printed

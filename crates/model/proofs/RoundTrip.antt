@@ -18,7 +18,7 @@ use Rattle.model.specs.Types.{usesSubject, namesSpare}
 use Rattle.model.specs.Words.{isPair, headWord, keyWord, clockWord, pairWord, spareWord, messageWord, stampWord, viewWord, nodeWords, pairWords, messageWords, nodePlace, pairPlace, messagePlace, wordAt, encode, decodeTable, decodeOwn, decodeNode, decodeMessage, decode}
 use Rattle.model.specs.WellFormed.{WellFormedTable, Spare, none, spare, WellFormedNode, WellFormedMessage, WellFormed}
 use Rattle.model.proofs.Fields.{field}
-use Rattle.model.proofs.Words.{encode-at, node-at, pair-at, message-at, pair-in, pair-low, pair-other}
+use Rattle.model.proofs.Words.{well-room, HeadRead, head-reads, encode-at, node-at, pair-at, message-at, pair-in, pair-low, pair-other}
 use Rattle.model.proofs.Laws.{clash, decide, is-false, tabulate-cong, tabulate-getD}
 use Rattle.model.proofs.Types.{type-room}
 use Rattle.model.proofs.Bits.{bit<, is-bit, toBits<, bits-back}
@@ -63,22 +63,8 @@ module _ (r : Ring) (g : WellFormed r) where
   unfolding ws wordAt
   word0 = encode-at r 0 (lit< tt)
 
-  word-leaf : bits 0 4 (getD ws 0 0) ≡ r .table .sides .each
-  unfolding headWord
-  word-leaf =
-      field 0 4 (2 ^ 24 + length (r .messages) * 2 ^ 7 + size (r .table)) (r .table .sides .each) 0 (word0 ∙ omega arith) (lit< tt) (omega (arith, gt .sides-well .each-high))
-
-  word-size : bits 4 7 (getD ws 0 0) ≡ size (r .table)
-  unfolding headWord
-  word-size =
-      field 4 7 (2 ^ 17 + length (r .messages)) (size (r .table)) (r .table .sides .each)
-      (word0 ∙ omega arith) (omega (arith, gt .sides-well .each-high)) (omega (arith, gt .size-high))
-
-  word-count : bits 11 11 (getD ws 0 0) ≡ length (r .messages)
-  unfolding headWord
-  word-count =
-      field 11 11 (2 ^ 6) (length (r .messages)) (size (r .table) * 16 + r .table .sides .each)
-      (word0 ∙ omega arith) (omega (arith, gt .sides-well .each-high, gt .size-high)) (omega (arith, g .count-high))
+  head-read : HeadRead (getD ws 0 0) (r .table .sides) (size (r .table)) (length (r .messages))
+  head-read = head-reads (r .table .sides) (well-room (gt .sides-well)) (omega (arith, gt .size-high)) (omega (arith, g .count-high)) word0
 
   -- ---- nodes
 
@@ -102,8 +88,8 @@ module _ (r : Ring) (g : WellFormed r) where
   table-back : decodeTable ws ≡ r .table
   unfolding decodeTable
   table-back =
-      ap₂ (λ a b. record { sides = record { each = a }; keys = b }) word-leaf
-      (ap (λ k. tabulate k (λ s. bits 0 24 (getD ws (nodePlace s) 0))) word-size
+      ap₂ (λ a b. record { sides = a; keys = b }) (head-read .sides-back)
+      (ap (λ k. tabulate k (λ s. bits 0 24 (getD ws (nodePlace s) 0))) (head-read .size-back)
       ∙ tabulate-cong (λ s. bits 0 24 (getD ws (nodePlace s) 0)) (key (r .table)) (size (r .table)) key-back
       ∙ tabulate-getD 0 (r .table .keys))
 
@@ -304,7 +290,7 @@ module _ (r : Ring) (g : WellFormed r) where
 
   messages-back : tabulate (bits 11 11 (getD ws 0 0)) (decodeMessage ws) ≡ r .messages
   messages-back =
-      ap (λ (k : ℕ). tabulate k (decodeMessage ws)) word-count
+      ap (λ (k : ℕ). tabulate k (decodeMessage ws)) (head-read .count-back)
       ∙ tabulate-cong (decodeMessage ws) (messageAt r) (length (r .messages)) message-back
       ∙ tabulate-getD blank (r .messages)
 

@@ -1,7 +1,7 @@
 -- The theorems about the definitions, by name. Each says its sentence; the argument is in the module that is cited.
 use mathlib.Core.Path.{_≡_, refl, sym, ap, _∙_}
 use mathlib.Core.Logic.{_↔_}
-use Prim.Native.Nat.{ℕ, _*_, _≤_, _<_}
+use Prim.Native.Nat.{ℕ, _+_, _≤_, _<_}
 use mathlib.Core.Bool.{Bool, true, false, _&&_}
 use mathlib.Core.List.{List}
 use lib.Dec.{ltb}
@@ -99,19 +99,19 @@ no-other d e a b i = events.no-other d e a b i
 
 -- ---- leafsets
 
--- "the L nearest clockwise and the L nearest counter-clockwise": where 2 times L nodes are left, the leafset is two sides without a
--- common node. Each has exactly L nodes, and these are nearer on their way than any other that is left.
+-- "the A nearest clockwise and the B nearest the other way": where A + B nodes are left, the leafset is two sides without a
+-- common node, one of exactly A nodes and one of exactly B, and these are nearer on their way than any other that is left.
 pub leafset-sides :
     (t : Table) → WellFormedTable t → (x : ℕ) → x < size t → (S : Set)
-    → 2 * t .sides .each ≤ count (size t) (without S x)
+    → t .sides .ahead + t .sides .behind ≤ count (size t) (without S x)
     → TwoSides t x S
 leafset-sides t g x h S enough = size-of.leafset-sides t g x h S enough
 
--- so it has "exactly 2 times L stands" (001, section 4)
+-- so it has exactly A + B nodes
 pub leafset-size :
     (t : Table) → WellFormedTable t → (x : ℕ) → x < size t → (S : Set)
-    → 2 * t .sides .each ≤ count (size t) (without S x)
-    → count (size t) (leafset t x S) ≡ 2 * t .sides .each
+    → t .sides .ahead + t .sides .behind ≤ count (size t) (without S x)
+    → count (size t) (leafset t x S) ≡ t .sides .ahead + t .sides .behind
 leafset-size t g x h S enough = size-of.leafset-size t g x h S enough
 
 -- ---- the ring's words
@@ -192,7 +192,7 @@ list-reaches start r p words = preserved.list-reaches p words
 pub connectivity-preserved : ConnectivityPreserved
 connectivity-preserved = preserved.connectivity-preserved
 
--- demand 3 in document 01's words: a list "starts from the ring that an accepted opening writes, for any L and keys"
+-- demand 3 in document 01's words: a list "starts from the ring that an accepted opening writes", for any A, B and keys
 pub opening-preserves :
     (old : List ℕ) (t : Table) → openBuffer old t .answer ≡ 0
     → (words : List ℕ) → Unbroken (openBuffer old t .words) words (initial t)

@@ -1,6 +1,6 @@
 -- Laws of the ring's words: the word at a place, and that words that read as a ring are those of the ring that they decode to.
-use mathlib.Core.Path.{_≡_, sym, ap, _∙_, subst}
-use Prim.Native.Nat.{ℕ, _+_, _-_, _*_, _/_, _%_, _<_}
+use mathlib.Core.Path.{_≡_, sym, ap, ap₂, _∙_, subst}
+use Prim.Native.Nat.{ℕ, _+_, _-_, _*_, _/_, _%_, _^_, _<_}
 use native.Mathlib.Omega.{arith}
 use native.Mathlib.Decide.{decLt}
 use mathlib.Core.Bool.{true, false, not, _&&_}
@@ -8,20 +8,42 @@ use mathlib.Core.List.{List, [], _∷_}
 use lib.ListN.{length, getD}
 use lib.Seq.{ext-getD}
 use lib.Arith.{digits-mod}
-use lib.Dec.{ltb, eqb}
+use lib.Dec.{ltb, eqb, lit<}
 use borrow.Author.Tests.{le-ltb, lt-ltb, ltb-true, eqb-true, eqb-false, eq-eqb, ne-eqb}
 use Rattle.model.specs.Leafset.{Table, size}
 use Rattle.model.specs.Ring.{Ring}
-use Rattle.model.specs.WellFormed.{Other, nil, cons}
+use Rattle.model.specs.WellFormed.{WellFormedSides, Other, nil, cons}
+use Rattle.model.specs.Fields.{bits}
 use Rattle.model.specs.Structs.{RoomSides}
-use Rattle.model.specs.Words.{sidesOf, isPair, ofNode, ofPair, ofMessage, nodePlace, pairPlace, messagePlace, wordAt, ringLength, encode, decode, ringFits, formatFits, readsAsRing}
+use Rattle.model.specs.declared.values.Sides.{Sides}
+use Rattle.model.specs.Words.{sidesOf, headWord, isPair, ofNode, ofPair, ofMessage, nodePlace, pairPlace, messagePlace, wordAt, ringLength, encode, decode, ringFits, formatFits, readsAsRing}
 use Rattle.model.proofs.Laws.{and-left, and-right, and-in, not-in, not-out, all-in, all-out, every-in, every-out, length-tabulate, getD-tabulate}
 use Rattle.model.proofs.Lists.{first, rest}
-use Rattle.model.proofs.Fields.{bits<}
+use Rattle.model.proofs.Fields.{field, bits<}
 
--- L has room where it was read
+-- A and B have room where they were read, and where they are well-formed
 pub sides-room : (w : ℕ) → RoomSides (sidesOf w)
-sides-room w = record { each-room = bits< 0 4 w }
+sides-room w = record { ahead-room = bits< 0 4 w; behind-room = bits< 22 4 w }
+
+pub well-room : {s : Sides} → WellFormedSides s → RoomSides s
+well-room g = record { ahead-room = omega (arith, g .ahead-high); behind-room = omega (arith, g .behind-high) }
+
+-- the parts of word 0, read back
+pub record HeadRead (w : ℕ) (s : Sides) (n m : ℕ) : Type 0 where
+  pub sides-back : sidesOf w ≡ s
+  pub size-back : bits 4 7 w ≡ n
+  pub count-back : bits 11 11 w ≡ m
+
+pub head-reads : {w n m : ℕ} (s : Sides) → RoomSides s → n < 2 ^ 7 → m < 2 ^ 11 → w ≡ headWord s n m → HeadRead w s n m
+unfolding headWord
+head-reads {w} {n} {m} s room hn hm e =
+    record {
+      sides-back = ap₂ {C = Sides} (λ (a b : ℕ). record { ahead = a; behind = b })
+          (field 0 4 (2 ^ 24 + s .behind * 2 ^ 18 + m * 2 ^ 7 + n) (s .ahead) 0 (e ∙ omega arith) (lit< tt) (room .ahead-room))
+          (field 22 4 4 (s .behind) (m * 2 ^ 11 + n * 2 ^ 4 + s .ahead) (e ∙ omega arith) (omega (arith, room .ahead-room)) (room .behind-room));
+      size-back = field 4 7 (2 ^ 17 + s .behind * 2 ^ 11 + m) n (s .ahead) (e ∙ omega arith) (room .ahead-room) hn;
+      count-back = field 11 11 (2 ^ 6 + s .behind) m (n * 2 ^ 4 + s .ahead) (e ∙ omega arith) (omega (arith, room .ahead-room)) hm;
+    }
 
 -- ---- the word at a place of an encoded ring
 

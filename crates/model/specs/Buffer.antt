@@ -25,7 +25,7 @@ notARing ws = record { number = 6; applies = not (readsAsRing ws) }
 abbrev pub ringRefusals : List ℕ → List Refusal
 ringRefusals ws = wrongLength ws ∷ notARing ws ∷ []
 
--- "2. Opening: n or L out of range."
+-- "2. Opening: n or [A or B] out of range."
 abbrev pub outOfRange : Table → Refusal
 outOfRange t = record { number = 2; applies = not (inRange t) }
 

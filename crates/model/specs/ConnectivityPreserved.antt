@@ -46,7 +46,7 @@ isHarmless r (Lose i) = true
 
 -- A list starts from a ring that was reached: lent words, with the ring that the rules give for them.
 pub data Reached : List ℕ → Ring → Type 0 where
-  -- "It starts from the ring that an accepted opening writes, for any L and keys", over any old words
+  -- "It starts from the ring that an accepted opening writes", for any A, B and keys, over any old words
   opened : (old : List ℕ) (t : Table) → openBuffer old t .answer ≡ 0 → Reached (openBuffer old t .words) (initial t)
   -- "Each word is played on what the one before left, a refused one changing nothing, and nobody else writes the ring meanwhile."
   played : {ws : List ℕ} {r : Ring} → Reached ws r → (w : ℕ) → Reached (playBuffer ws w .words) (playWord r w .ring)

@@ -1,5 +1,5 @@
 -- Leafsets, the choice of a spare, and successors: what a node computes from the table and a set.
-use Prim.Native.Nat.{ℕ, _*_}
+use Prim.Native.Nat.{ℕ, _+_}
 use mathlib.Core.Bool.{Bool, not, _&&_, _||_}
 use mathlib.Core.List.{List}
 use lib.ListN.{length, getD}
@@ -8,7 +8,7 @@ use Rattle.model.specs.Key.{clockwise, counterClockwise, distance}
 use Rattle.model.specs.Sets.{Set, without, count, some, lowest}
 use Rattle.model.specs.declared.values.Sides.{Sides}
 
--- "Opening takes L and a list of n keys, stand 0's first": what never changes of a ring
+-- "Opening takes [A, B] and a list of n keys, stand 0's first": what never changes of a ring
 pub record Table : Type 0 where
   pub sides : Sides
   pub keys : List ℕ
@@ -25,18 +25,17 @@ module _ (t : Table) where
   abbrev pub nearer : (ℕ → ℕ → ℕ) → ℕ → Set → ℕ → ℕ
   nearer d a S y = count (size t) (λ z. S z && ltb (d a (key t z)) (d a (key t y)))
 
-  -- y is one of the L of S nearest to the key a, by the distance d
-  abbrev pub isNear : (ℕ → ℕ → ℕ) → ℕ → Set → ℕ → Bool
-  isNear d a S y = ltb (nearer d a S y) (t .sides .each)
+  -- y is one of the `many` of S nearest to the key a, by the distance d
+  abbrev pub isNear : ℕ → (ℕ → ℕ → ℕ) → ℕ → Set → ℕ → Bool
+  isNear many d a S y = ltb (nearer d a S y) many
 
-  -- "take x out of S; if fewer than 2 times L are left, all of them;
-  -- else the L nearest clockwise and the L nearest counter-clockwise"
+  -- "take x out of S"; "everything if fewer than A + B are left, else the A nearest clockwise and the B nearest the other way"
   unfoldable pub leafset : ℕ → Set → Set
   leafset x S y =
       left y
-      && (ltb (count (size t) left) (2 * t .sides .each)
-      || isNear clockwise (key t x) left y
-      || isNear counterClockwise (key t x) left y)
+      && (ltb (count (size t) left) (t .sides .ahead + t .sides .behind)
+      || isNear (t .sides .ahead) clockwise (key t x) left y
+      || isNear (t .sides .behind) counterClockwise (key t x) left y)
     where
       left : Set
       left = without S x

@@ -10,9 +10,13 @@ use Rattle.model.specs.declared.values.Sides.{Sides}
 use Rattle.model.specs.declared.node.NodeRecord.{NodeRecord}
 use Rattle.model.specs.declared.message.MessageRecord.{MessageRecord}
 
--- the table of L and a lent list of keys
+-- the table of A, B and a lent list of keys
 abbrev pub tableOf : Sides → List ℕ → Table
 tableOf sides keys = record { sides = sides; keys = keys }
+
+-- for what does not depend on A and B
+abbrev pub anySides : Sides
+anySides = record { ahead = 0; behind = 0 }
 
 abbrev pub stampAt : NodeRecord → ℕ → ℕ
 stampAt q z = getD (q .commit) z (record { 0 = 0 }) .0
@@ -44,7 +48,8 @@ messageOf m =
 -- the arrays are whole, and the parts have room in their bits
 
 pub record RoomSides (s : Sides) : Type 0 where
-  pub each-room : s .each < 2 ^ 4
+  pub ahead-room : s .ahead < 2 ^ 4
+  pub behind-room : s .behind < 2 ^ 4
 
 pub record RoomNode (q : NodeRecord) : Type 0 where
   pub commit-room : (z : ℕ) → stampAt q z < 2 ^ 24

@@ -11,10 +11,12 @@ use Rattle.model.specs.Types.{usesView, usesSubject, namesSpare, usesSta
 use Rattle.model.specs.Words.{isType, keysDiffer}
 use Rattle.model.specs.declared.values.Sides.{Sides}
 
--- "L is 1 to 8"
+-- "A clockwise and B counter-clockwise, each 1 to 8"
 pub record WellFormedSides (s : Sides) : Type 0 where
-  pub each-low : 1 ≤ s .each
-  pub each-high : s .each ≤ 8
+  pub ahead-low : 1 ≤ s .ahead
+  pub ahead-high : s .ahead ≤ 8
+  pub behind-low : 1 ≤ s .behind
+  pub behind-high : s .behind ≤ 8
 
 -- "n (1 to 64)", "a key of 24 bits", "keys differ"
 pub record WellFormedTable (t : Table) : Type 0 where

@@ -18,9 +18,9 @@ isPair t x z = ltb x (size t) && ltb z (size t) && not (eqb x z)
 
 -- ---- writing
 
--- "Word 0, kind 1: L in bits 0-3, table size n (1 to 64) in 4-10, message count m (0 to 1,024) in 11-21."
+-- "Word 0, kind 1: .. table size n (1 to 64) in 4-10, message count m (0 to 1,024) in 11-21."; "Word 0 has A in bits 0-3 and B in bits 22-25"
 unfoldable pub headWord : Sides → ℕ → ℕ → ℕ
-headWord sides n m = ofKind 1 (m * 2 ^ 11 + n * 2 ^ 4 + sides .each)
+headWord sides n m = ofKind 1 (sides .behind * 2 ^ 22 + m * 2 ^ 11 + n * 2 ^ 4 + sides .ahead)
 
 -- "kind 2, key in 0-23, running in bit 24; kind 5, clock in 0-23"
 unfoldable pub keyWord : ℕ → Bool → ℕ
@@ -102,9 +102,9 @@ encode r = tabulate ringLength (wordAt r)
 
 -- ---- reading: what the named bits say, whatever the others
 
--- L, of word 0
+-- A and B, of word 0
 abbrev pub sidesOf : ℕ → Sides
-sidesOf w = record { each = bits 0 4 w }
+sidesOf w = record { ahead = bits 0 4 w; behind = bits 22 4 w }
 
 module _ (ws : List ℕ) where
   abbrev pub at : ℕ → ℕ
@@ -154,11 +154,11 @@ module _ (ws : List ℕ) where
 abbrev pub between : ℕ → ℕ → ℕ → Bool
 between low high k = leb low k && leb k high
 
--- "L is 1 to 8"
+-- "A clockwise and B counter-clockwise, each 1 to 8"
 abbrev pub sidesFit : Sides → Bool
-sidesFit s = between 1 8 (s .each)
+sidesFit s = between 1 8 (s .ahead) && between 1 8 (s .behind)
 
--- ".. n or L out of range"; "table size n (1 to 64)"
+-- "Refusal 2 covers both numbers"; "table size n (1 to 64)"
 unfoldable pub inRange : Table → Bool
 inRange t = every (sidesFit (t .sides) ∷ between 1 64 (size t) ∷ [])
 

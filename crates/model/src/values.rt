@@ -1,4 +1,4 @@
-// Keys, stamps, node numbers and L: numbers that are never mixed up.
+// Keys, stamps, node numbers, A and B: numbers that are never mixed up.
 
 // A place on the ring of 16,777,216 places.
 pub struct Key(pub u32);
@@ -13,7 +13,8 @@ impl NodeNumber {
     pub const NONE: NodeNumber = NodeNumber(64);
 }
 
-// L: how many nodes a leafset has on each side of its own.
+// How many nodes a leafset has on the sides of its own: A clockwise, B counter-clockwise.
 pub struct Sides {
-    pub each: u32,
+    pub ahead: u32,
+    pub behind: u32,
 }

@@ -8,7 +8,7 @@ use Rattle.model.specs.declared.node.NodeRecord.{NodeRecord}
 use Rattle.sets.specs.Within.{InTable}
 use Rattle.records.specs.Effects.{OwnFits}
 
--- the table's keys and L, the node me of it, and the own record of that node
+-- the table's keys, A and B, the node me of it, and the own record of that node
 pub record Lent (keys : List ℕ) (sides : Sides) (me : ℕ) (own : NodeRecord) : Type 0 where
   pub table : InTable keys me (own .held)
   pub sides-room : RoomSides sides

@@ -12,7 +12,7 @@ use word_ring::HeadWord;
 use word_ring::KeyWord;
 use word_ring::place;
 
-// L.
+// A and B.
 pub fn sides(words: &[u32]) -> Sides
     requires length { ⌜ length (now words) ≡ ringLength ⌝ }
     ensures value { λ r. ⌜ r ≡ decodeTable (now (words .entry)) .sides ⌝ }

@@ -16,7 +16,7 @@ use Rattle.model.specs.Play.{setMessages, removeMessage}
 use Rattle.model.specs.Structs.{messageOf}
 use Rattle.model.specs.declared.message.MessageRecord.{MessageRecord}
 use Rattle.model.proofs.Fields.{field}
-use Rattle.model.proofs.Words.{message-at}
+use Rattle.model.proofs.Words.{head-reads, message-at}
 use Rattle.sets.proofs.Bits.{toBits-ofBits}
 use Rattle.ring_head.specs.Parts.{Encodes, RoomTable}
 use Rattle.ring_head.proofs.Holds.{Holds, holds, head-at, messages-written}
@@ -58,15 +58,11 @@ module _ (ρ : Ring) (ws : List ℕ) (n m : ℕ) (is : Encodes ws n m ρ) (few :
   counted-long = length-set ws 0 _
 
   counted-head : getD (counted ws c) 0 0 ≡ headWord (ρ .table .sides) (size (ρ .table)) c
-  unfolding headWord
   counted-head =
       let r : RoomTable (ρ .table) = is .room in
       let e : getD ws 0 0 ≡ headWord (ρ .table .sides) (size (ρ .table)) (length (ρ .messages)) = h .word 0 (lit< tt) ∙ head-at ρ in
-      let l : bits 0 4 (getD ws 0 0) ≡ ρ .table .sides .each =
-      field 0 4 (2 ^ 24 + length (ρ .messages) * 2 ^ 7 + size (ρ .table)) (ρ .table .sides .each) 0 (e ∙ omega arith) (lit< tt) (r .sides-room .each-room) in
-      let s : bits 4 7 (getD ws 0 0) ≡ size (ρ .table) =
-      field 4 7 (2 ^ 17 + length (ρ .messages)) (size (ρ .table)) (ρ .table .sides .each) (e ∙ omega arith) (r .sides-room .each-room) (omega (arith, r .size-room)) in
-      getD-set-same ws 0 _ 0 (omega (arith, h .long)) ∙ rw (l, s)
+      let b = head-reads (ρ .table .sides) (r .sides-room) (omega (arith, r .size-room)) (omega (arith, is .count, few)) e in
+      getD-set-same ws 0 _ 0 (omega (arith, h .long)) ∙ rw (b .sides-back, b .size-back)
 
   counted-other : (i : ℕ) → 0 < i → getD (counted ws c) i 0 ≡ getD ws i 0
   counted-other i l = getD-set-other ws 0 i _ 0 (omega arith)

@@ -18,16 +18,17 @@ pub fn call(command: Command, words: &mut [u32], list: &[u32], places: &mut [u8]
 }
 
 fn opened(words: &mut [u32], command: Command, list: &[u32]) -> Outcome {
-    let n = memory::at_most(command.b, list);
-    outcome(open(words, command.a, &list[..n]), 0)
+    let n = memory::at_most(command.c, list);
+    outcome(open(words, command.a, command.b, &list[..n]), 0)
 }
 
 // The value is the digest of all places.
 fn replayed(words: &mut [u32], command: Command, list: &[u32], places: &mut [u8]) -> Outcome {
-    let n = memory::at_most(command.b, list);
+    let n = memory::at_most(command.c, list);
     let rest = &list[n..];
-    let end = memory::at_most(command.c, rest);
-    let answer = call_play::replay(words, command.a, &list[..n], &rest[..end], places);
+    let end = memory::at_most(command.d, rest);
+    let keys = &list[..n];
+    let answer = call_play::replay(words, command.a, command.b, keys, &rest[..end], places);
     outcome(answer, memory::digest_bytes(places))
 }
 

@@ -1,4 +1,4 @@
-// Commands: five words each, the number, a, b, c, and how many words of the buffer are lent to the call.
+// Commands: six words each, the number, a, b, c, d, and how many words of the buffer are lent to the call.
 use bench_script::loading;
 use libc::STDIN_FILENO;
 
@@ -7,6 +7,7 @@ pub struct Command {
     pub a: u32,
     pub b: u32,
     pub c: u32,
+    pub d: u32,
     pub lent: u32,
 }
 
@@ -17,7 +18,7 @@ impl Command {
     // Words a up to b of the list become c.
     pub const FILL_LIST: u32 = 1;
 
-    // Opens with L = a and the first b words of the list.
+    // Opens with A = a, B = b and the first c words of the list.
     pub const OPEN: u32 = 2;
 
     // Plays the word a.
@@ -38,7 +39,7 @@ impl Command {
     // Writes the event of kind a with the parts b and c.
     pub const WRITE: u32 = 8;
 
-    // Replays: opens as above, and plays the c words of the list after the keys.
+    // Replays: opens as above, and plays the d words of the list after the keys.
     pub const REPLAY: u32 = 9;
 
     // Every other number plays words a up to b of the list by one call, which is lent the first c places.
@@ -51,17 +52,18 @@ pub enum Next {
 
 // The next command of standard input.
 pub fn read() -> Next {
-    let mut bytes = [0u8; 20];
-    if io::read_full(STDIN_FILENO, &mut bytes) < 20 {
+    let mut bytes = [0u8; 24];
+    if io::read_full(STDIN_FILENO, &mut bytes) < 24 {
         return Next::End;
     }
-    let mut words = [0u32; 5];
+    let mut words = [0u32; 6];
     loading::load(&bytes, &mut words);
     Next::Command(Command {
         number: words[0],
         a: words[1],
         b: words[2],
         c: words[3],
-        lent: words[4],
+        d: words[4],
+        lent: words[5],
     })
 }

@@ -37,15 +37,16 @@ bit-flag low w = go (bits low 1 w) (mod-lt (w / 2 ^ low) (lit< tt))
 pub lowest : (k w : ℕ) → bits 0 k w ≡ w % 2 ^ k
 lowest k w = ap (λ (u : ℕ). u % 2 ^ k) (omega arith)
 
-pub head-format : (w : ℕ) → eqb w (headWord (sidesOf w) (bits 4 7 w) (bits 11 11 w)) ≡ eqb (w / 2 ^ 22) 64
+pub head-format : (w : ℕ) → eqb w (headWord (sidesOf w) (bits 4 7 w) (bits 11 11 w)) ≡ eqb (w / 2 ^ 26) 4
 unfolding headWord
-head-format w = of-kind 22 1 64 w (bits 11 11 w * 2 ^ 11 + bits 4 7 w * 2 ^ 4 + bits 0 4 w) parts refl
+head-format w = of-kind 26 1 4 w (bits 22 4 w * 2 ^ 22 + bits 11 11 w * 2 ^ 11 + bits 4 7 w * 2 ^ 4 + bits 0 4 w) parts refl
   where
-    parts : bits 11 11 w * 2 ^ 11 + bits 4 7 w * 2 ^ 4 + bits 0 4 w ≡ w % 2 ^ 22
+    parts : bits 22 4 w * 2 ^ 22 + bits 11 11 w * 2 ^ 11 + bits 4 7 w * 2 ^ 4 + bits 0 4 w ≡ w % 2 ^ 26
     parts =
+        let z : w % 2 ^ 26 ≡ w / 2 ^ 22 % 2 ^ 4 * 2 ^ 22 + w % 2 ^ 22 = mod-mul w {m = 2 ^ 4} {c = 2 ^ 22} (lit< tt) (lit< tt) in
         let a : w % 2 ^ 22 ≡ w / 2 ^ 11 % 2 ^ 11 * 2 ^ 11 + w % 2 ^ 11 = mod-mul w {m = 2 ^ 11} {c = 2 ^ 11} (lit< tt) (lit< tt) in
         let b : w % 2 ^ 11 ≡ w / 2 ^ 4 % 2 ^ 7 * 2 ^ 4 + w % 2 ^ 4 = mod-mul w {m = 2 ^ 7} {c = 2 ^ 4} (lit< tt) (lit< tt) in
-        rw (lowest 4 w, a, b) (omega arith)
+        rw (lowest 4 w, z, a, b) (omega arith)
 
 -- a mark above 24 bits
 pub mark-above : (w : ℕ) → bit (flag 24 w) * 2 ^ 24 + bits 0 24 w ≡ w % 2 ^ 25
@@ -70,9 +71,9 @@ pub xor-above : (low a b : ℕ) → eqb (bitXor a b / 2 ^ low) 0 ≡ eqb (a / 2 
 xor-above low a b = ap (λ (u : ℕ). eqb u 0) (xor-shr a b low) ∙ xor-test (a / 2 ^ low) (b / 2 ^ low)
 
 -- word 0, as the code joins its tests
-pub head-tests : (w : ℕ) → (eqb (w / 2 ^ 22) 64 && sidesFit (sidesOf w) && leb 1 (bits 4 7 w) && leb (bits 4 7 w) 64 && leb (bits 11 11 w) 1024) ≡ headReads w
+pub head-tests : (w : ℕ) → (eqb (w / 2 ^ 26) 4 && sidesFit (sidesOf w) && leb 1 (bits 4 7 w) && leb (bits 4 7 w) 64 && leb (bits 11 11 w) 1024) ≡ headReads w
 unfolding headReads
-head-tests w = regroup (eqb (w / 2 ^ 22) 64) (sidesFit (sidesOf w)) (leb 1 (bits 4 7 w)) (leb (bits 4 7 w) 64) (leb (bits 11 11 w) 1024) ∙ rw (head-format w)
+head-tests w = regroup (eqb (w / 2 ^ 26) 4) (sidesFit (sidesOf w)) (leb 1 (bits 4 7 w)) (leb (bits 4 7 w) 64) (leb (bits 11 11 w) 1024) ∙ rw (head-format w)
   where
     regroup : (a b d e f : Bool) → (a && b && d && e && f) ≡ every (a ∷ b ∷ (d && e) ∷ f ∷ [])
     regroup false b d e f = refl

@@ -4,8 +4,8 @@ ghost use Rattle.valid_nodes.specs.Nodes.{headReads};
 use word_ring::HeadWord;
 use word_ring::limit;
 
-// Above the count of messages stands nothing but the kind.
-const KIND: u32 = HeadWord::KIND * 0x40;
+// Above B stands nothing but the kind.
+const KIND: u32 = HeadWord::KIND * 4;
 
 const MOST: u32 = limit::MESSAGES as u32;
 
@@ -16,5 +16,5 @@ pub fn head_reads(w: u32) -> bool
     let sides = HeadWord(w).sides();
     let n = HeadWord(w).nodes();
     let m = HeadWord(w).messages();
-    (w >> 22 == KIND) & limit::sides_fit(sides) & (1 <= n) & (n <= 64) & (m <= MOST)
+    (w >> 26 == KIND) & limit::sides_fit(sides) & (1 <= n) & (n <= 64) & (m <= MOST)
 }

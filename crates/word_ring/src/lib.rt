@@ -21,7 +21,8 @@ fn mark(b: bool) -> u32
     if b { 1 } else { 0 }
 }
 
-// The first word: "L in bits 0-3, table size n (1 to 64) in 4-10, message count m (0 to 1,024) in 11-21".
+// The first word: "table size n (1 to 64) in 4-10, message count m (0 to 1,024) in 11-21", "A in bits 0-3 and B in bits
+// 22-25".
 pub struct HeadWord(pub u32);
 
 impl HeadWord {
@@ -33,13 +34,18 @@ impl HeadWord {
 
     pub const MESSAGES: u32 = 0x800;
 
+    pub const BEHIND: u32 = 0x40_0000;
+
     pub fn new(sides: Sides, nodes: u32, messages: u32) -> HeadWord
         requires bounds { ⌜ RoomSides sides × (nodes < 2 ^ 7) × (messages < 2 ^ 11) ⌝ }
         ensures value { λ r. ⌜ r .0 ≡ headWord sides nodes messages ⌝ }
     {
         HeadWord(
             HeadWord::EMPTY
-                + (messages * HeadWord::MESSAGES + nodes * HeadWord::NODES + sides.each),
+                + (sides.behind * HeadWord::BEHIND
+                    + messages * HeadWord::MESSAGES
+                    + nodes * HeadWord::NODES
+                    + sides.ahead),
         )
     }
 
@@ -47,7 +53,8 @@ impl HeadWord {
         ensures value { λ r. ⌜ r ≡ sidesOf (self .0) ⌝ }
     {
         Sides {
-            each: self.0 % 0x10,
+            ahead: self.0 % 0x10,
+            behind: self.0 / HeadWord::BEHIND % 0x10,
         }
     }
 

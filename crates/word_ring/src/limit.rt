@@ -5,7 +5,8 @@ use model::values::Sides;
 
 pub const MESSAGES: usize = 1_024;
 
-pub const LEAF: u32 = 8;
+// On each side of a leafset.
+pub const SIDE: u32 = 8;
 
 // The last place on the ring of keys.
 pub const KEY: u32 = 16_777_215;
@@ -13,9 +14,9 @@ pub const KEY: u32 = 16_777_215;
 // The last value of a clock: where it must rise, refusal 10.
 pub const CLOCK: u32 = 16_777_215;
 
-// "L is 1 to 8"
+// "A clockwise and B counter-clockwise, each 1 to 8"
 pub fn sides_fit(sides: Sides) -> bool
     ensures value { λ r. ⌜ r ≡ sidesFit sides ⌝ }
 {
-    (1 <= sides.each) & (sides.each <= LEAF)
+    ((1 <= sides.ahead) & (sides.ahead <= SIDE)) & ((1 <= sides.behind) & (sides.behind <= SIDE))
 }

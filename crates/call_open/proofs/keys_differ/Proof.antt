@@ -27,7 +27,7 @@ loop-again c =
 
 returns : tie.Need-returns Inv-loop μ-loop
 unfolding keysDiffer keyDiffers
-returns c leaf =
+returns c sides =
     let l = c .before .loop in
     let e : l .x ≡ length (c .before .before .before .args .keys .now) = omega arith in
     rw e at (l .inv .1)

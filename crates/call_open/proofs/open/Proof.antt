@@ -14,14 +14,14 @@ returns : tie.Need-returns
 unfolding openBuffer
 returns c =
     let a = c .before .before .before .args in
-    let no-length = refused-length (a .words .now) (record { each = a .leaf }) (a .keys .now) (c .if1 .taken) in
+    let no-length = refused-length (a .words .now) (record { ahead = a .clockwise; behind = a .counter-clockwise }) (a .keys .now) (c .if1 .taken) in
     refuses (a .words .now) _ WrongLength _ (ap isAccepted no-length) (sym no-length)
 
 returns-2 : tie.Need-returns-2
 unfolding openBuffer
 returns-2 c =
     let a = c .before .before .before .before .before .args in
-    let no-range = refused-range (a .words .now) (record { each = a .leaf }) (a .keys .now) (c .before .before .if1 .left) (sym (c .before .in-range .ensures) ∙ not-true _ (c .if2 .taken)) in
+    let no-range = refused-range (a .words .now) (record { ahead = a .clockwise; behind = a .counter-clockwise }) (a .keys .now) (c .before .before .if1 .left) (sym (c .before .in-range .ensures) ∙ not-true _ (c .if2 .taken)) in
     refuses (a .words .now) _ OpeningOutOfRange _ (ap isAccepted no-range) (sym no-range)
 
 returns-3 : tie.Need-returns-3
@@ -29,20 +29,20 @@ unfolding openBuffer
 returns-3 c =
     let a = c .before .before .before .before .before .before .before .before .args in
     let no-key =
-    refused-key (a .words .now) (record { each = a .leaf }) (a .keys .now) (c .before .before .before .before .before .if1 .left) (sym (c .before .before .before .before .in-range .ensures) ∙ not-false _ (c .before .before .before .if2 .left))
-    (sym (ap₂ _&&_ (c .before .before .keys-fit .ensures) (c .before .keys-differ .ensures (record { each = a .leaf }))) ∙ not-true _ (c .if3 .taken)) in
+    refused-key (a .words .now) (record { ahead = a .clockwise; behind = a .counter-clockwise }) (a .keys .now) (c .before .before .before .before .before .if1 .left) (sym (c .before .before .before .before .in-range .ensures) ∙ not-false _ (c .before .before .before .if2 .left))
+    (sym (ap₂ _&&_ (c .before .before .keys-fit .ensures) (c .before .keys-differ .ensures (record { ahead = a .clockwise; behind = a .counter-clockwise }))) ∙ not-true _ (c .if3 .taken)) in
     refuses (a .words .now) _ BadKey _ (ap isAccepted no-key) (sym no-key)
 
 write-requires : tie.Need-write-requires
 write-requires c κs =
     let a = c .before .before .before .before .before .before .before .before .before .args in
     let ok =
-    opened (a .words .now) (record { each = a .leaf }) (a .keys .now) (c .before .before .before .before .before .before .if1 .left) (sym (c .before .before .before .before .before .in-range .ensures) ∙ not-false _ (c .before .before .before .before .if2 .left))
-    (sym (ap₂ _&&_ (c .before .before .before .keys-fit .ensures) (c .before .before .keys-differ .ensures (record { each = a .leaf }))) ∙ not-false _ (c .before .if3 .left)) in (
+    opened (a .words .now) (record { ahead = a .clockwise; behind = a .counter-clockwise }) (a .keys .now) (c .before .before .before .before .before .before .if1 .left) (sym (c .before .before .before .before .before .in-range .ensures) ∙ not-false _ (c .before .before .before .before .if2 .left))
+    (sym (ap₂ _&&_ (c .before .before .before .keys-fit .ensures) (c .before .before .keys-differ .ensures (record { ahead = a .clockwise; behind = a .counter-clockwise }))) ∙ not-false _ (c .before .if3 .left)) in (
       c .before .before .before .before .before .before .if1 .left,
-      sides-room (a .words .now) (record { each = a .leaf }) (a .keys .now) ok,
-      few-keys (a .words .now) (record { each = a .leaf }) (a .keys .now) ok,
-      key-room (a .words .now) (record { each = a .leaf }) (a .keys .now) ok,
+      sides-room (a .words .now) (record { ahead = a .clockwise; behind = a .counter-clockwise }) (a .keys .now) ok,
+      few-keys (a .words .now) (record { ahead = a .clockwise; behind = a .counter-clockwise }) (a .keys .now) ok,
+      key-room (a .words .now) (record { ahead = a .clockwise; behind = a .counter-clockwise }) (a .keys .now) ok,
     )
 
 returns-4 : tie.Need-returns-4
@@ -50,8 +50,8 @@ unfolding openBuffer
 returns-4 c =
     let a = c .before .before .before .before .before .before .before .before .before .before .before .before .args in
     let ok =
-    opened (a .words .now) (record { each = a .leaf }) (a .keys .now) (c .before .before .before .before .before .before .before .before .before .if1 .left) (sym (c .before .before .before .before .before .before .before .before .in-range .ensures) ∙ not-false _ (c .before .before .before .before .before .before .before .if2 .left))
-    (sym (ap₂ _&&_ (c .before .before .before .before .before .before .keys-fit .ensures) (c .before .before .before .before .before .keys-differ .ensures (record { each = a .leaf }))) ∙ not-false _ (c .before .before .before .before .if3 .left)) in
+    opened (a .words .now) (record { ahead = a .clockwise; behind = a .counter-clockwise }) (a .keys .now) (c .before .before .before .before .before .before .before .before .before .if1 .left) (sym (c .before .before .before .before .before .before .before .before .in-range .ensures) ∙ not-false _ (c .before .before .before .before .before .before .before .if2 .left))
+    (sym (ap₂ _&&_ (c .before .before .before .before .before .before .keys-fit .ensures) (c .before .before .before .before .before .keys-differ .ensures (record { ahead = a .clockwise; behind = a .counter-clockwise }))) ∙ not-false _ (c .before .before .before .before .if3 .left)) in
     accepts (a .words .now) _ _ Accepted _ ok (sym ok) (c .before .before .write .ensures)
 
 pub open-spec : {M : Type 1} → statement M

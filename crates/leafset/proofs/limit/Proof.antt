@@ -12,11 +12,11 @@ use Rattle.leafset.proofs.limit.Statement.{statement}
 use Rattle.leafset.proofs.limit.Tie as tie
 
 abbrev Inv-loop : tie.InvT-loop
-Inv-loop keys leaf way from set limit₀ left₀ taken₀ limit left taken =
-    (taken ≤ leaf) × Taken (ofBits set) (spanTo way (from .0) keys) (ofBits left) limit taken
+Inv-loop keys many way from set limit₀ left₀ taken₀ limit left taken =
+    (taken ≤ many) × Taken (ofBits set) (spanTo way (from .0) keys) (ofBits left) limit taken
 
 abbrev μ-loop : tie.MeasureT-loop
-μ-loop keys leaf way from set limit₀ left₀ taken₀ limit left taken = leaf - taken
+μ-loop keys many way from set limit₀ left₀ taken₀ limit left taken = many - taken
 
 loop-holds : tie.Need-loop-holds Inv-loop μ-loop
 loop-holds c = (omega arith, taken-none (ofBits (c .before .args .set)) _ (λ y e. bit-below 64 (c .before .args .set) y (c .before .fits .set .fits) e))
@@ -47,7 +47,7 @@ loop-again c =
     )
 
 returns : tie.Need-returns Inv-loop μ-loop
-returns c = let e : c .before .loop .taken ≡ c .before .before .before .args .leaf = omega arith in rw (← e) (taken-limit (c .before .loop .inv .1))
+returns c = let e : c .before .loop .taken ≡ c .before .before .before .args .many = omega arith in rw (← e) (taken-limit (c .before .loop .inv .1))
 
 pub limit-spec : {M : Type 1} → statement M
 limit-spec =

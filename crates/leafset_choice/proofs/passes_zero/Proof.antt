@@ -1,4 +1,5 @@
 use borrow.Author.Needs.{needs}
+use Rattle.model.specs.Structs.{anySides}
 use Rattle.sets.proofs.Bits.{none-left, first-bit}
 use Rattle.leafset_choice.proofs.Choices.{successor-low, passes-found, passes-nobody}
 use Rattle.leafset_choice.proofs.passes_zero.Statement.{statement}
@@ -11,7 +12,7 @@ shared-slice-read-t15 : tie.Need-shared-slice-read-t15
 shared-slice-read-t15 c =
     let s = c .before .before .before .before .before .before .before .before in
     let f = first-bit (s .args .held) (s .fits .held .fits) (c .before .before .before .before .before .before .if1 .left) in
-    rw (c .before .before .before .before .before .successor .ensures (record { each = 0 })) (successor-low (record { each = 0 }) _ _ _ (s .pre .within) _ (f .member))
+    rw (c .before .before .before .before .before .successor .ensures anySides) (successor-low anySides _ _ _ (s .pre .within) _ (f .member))
 
 returns-2 : tie.Need-returns-2
 returns-2 c =

@@ -1,7 +1,7 @@
 use mathlib.Core.Path.{_∙_}
 use lib.ListN.{length-set}
 use borrow.Author.Needs.{needs}
-use Rattle.model.specs.Structs.{tableOf}
+use Rattle.model.specs.Structs.{tableOf, anySides}
 use Rattle.ring_initial.proofs.Opening.{opened}
 use Rattle.ring_initial.proofs.write.Statement.{statement}
 use Rattle.ring_initial.proofs.write.Tie as tie
@@ -14,10 +14,10 @@ write-nodes-requires c κs =
 write-pairs-requires : tie.Need-write-pairs-requires
 write-pairs-requires c κs =
     let p = c .before .before .before .before .before .before .before .before .before .before .before .before .pre in
-    (c .before .before .before .write-nodes .ensures (record { each = 0 }) .long ∙ simp length-set (c .before .before .before .before .before .before .before .before .clear .ensures .long ∙ p .0), p .2)
+    (c .before .before .before .write-nodes .ensures anySides .long ∙ simp length-set (c .before .before .before .before .before .before .before .before .clear .ensures .long ∙ p .0), p .2)
 
 same-length : tie.Need-same-length
-same-length c = c .before .before .write-pairs .ensures .long ∙ c .before .before .before .before .before .before .write-nodes .ensures (record { each = 0 }) .long ∙ simp length-set (c .before .before .before .before .before .before .before .before .before .before .before .clear .ensures .long)
+same-length c = c .before .before .write-pairs .ensures .long ∙ c .before .before .before .before .before .before .write-nodes .ensures anySides .long ∙ simp length-set (c .before .before .before .before .before .before .before .before .before .before .before .clear .ensures .long)
 
 returns : tie.Need-returns
 returns c =

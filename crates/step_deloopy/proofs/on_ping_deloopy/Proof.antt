@@ -3,6 +3,7 @@ use Prim.Native.Nat.{ℕ}
 use native.Mathlib.Omega.{arith}
 use lib.Dec.{eqb}
 use borrow.Author.Needs.{needs}
+use Rattle.model.specs.Structs.{anySides}
 use Rattle.model.specs.Steps as steps
 use Rattle.records.proofs.Changes.{unchanged}
 use Rattle.leafset_choice.proofs.Choices.{some-successor}
@@ -33,8 +34,8 @@ naming-requires c κs =
     let start = c .before .before .before .before .before .before .before .before in
     let a = start .args in
     let q = start .pre .0 in
-    let low = some-successor (record { each = 0 }) q (not-idle q (search needs) (eqb (a .message .subject .0) (a .me .0)) (c .before .before .before .if1 .left)) in
-    (omega arith, omega (arith, q .node, q .few), omega (arith, low, q .few, c .successor .ensures (record { each = 0 })), omega (arith, start .pre .2, q .node, q .few))
+    let low = some-successor anySides q (not-idle q (search needs) (eqb (a .message .subject .0) (a .me .0)) (c .before .before .before .if1 .left)) in
+    (omega arith, omega (arith, q .node, q .few), omega (arith, low, q .few, c .successor .ensures anySides), omega (arith, start .pre .2, q .node, q .few))
 
 returns-3 : tie.Need-returns-3
 unfolding steps.onPingDeloopy

@@ -3,6 +3,7 @@ use Prim.Native.Nat.{ℕ}
 use native.Mathlib.Omega.{arith}
 use borrow.Author.Tests.{not-true, not-false}
 use borrow.Author.Needs.{needs}
+use Rattle.model.specs.Structs.{anySides}
 use Rattle.model.specs.Steps as steps
 use Rattle.records.proofs.Changes.{unchanged}
 use Rattle.leafset_choice.proofs.Choices.{passes-some, some-successor}
@@ -16,8 +17,8 @@ returns c = λ sides time. rw (sym (c .before .before .passes-zero .ensures side
 naming-requires : tie.Need-naming-requires
 naming-requires c κs =
     let q = c .before .before .before .before .pre .0 in
-    let low = some-successor (record { each = 0 }) q (passes-some (record { each = 0 }) q (sym (c .before .before .passes-zero .ensures (record { each = 0 })) ∙ not-false _ (c .before .if1 .left))) in
-    (omega arith, omega (arith, q .node, q .few), omega (arith, low, q .few, c .successor .ensures (record { each = 0 })), omega (arith, low, q .node, q .few, c .successor .ensures (record { each = 0 })))
+    let low = some-successor anySides q (passes-some anySides q (sym (c .before .before .passes-zero .ensures anySides) ∙ not-false _ (c .before .if1 .left))) in
+    (omega arith, omega (arith, q .node, q .few), omega (arith, low, q .few, c .successor .ensures anySides), omega (arith, low, q .node, q .few, c .successor .ensures anySides))
 
 returns-2 : tie.Need-returns-2
 unfolding steps.timer4
