@@ -9,11 +9,10 @@ use Rattle.model.specs.Words.{decodeNode, decode, readsAsRing}
 use Rattle.model.specs.WellFormed.{Each, nil, cons}
 use Rattle.model.specs.Play.{nodeOff}
 use Rattle.model.specs.Buffer.{ringRefusals}
-use Rattle.model.specs.Questions.{connectionAnswer, groupsAnswer}
+use Rattle.model.specs.Questions.{nodesRefusals, connectionAnswer, groupsAnswer}
 use Rattle.model.proofs.Laws.{not-out-false}
 use Rattle.model.proofs.Lists.{first, rest}
 use Rattle.model.proofs.Answers.{none-applies, stays, passes}
-use Rattle.call_refusals.specs.Asked.{nodesRefusals}
 
 module _ (ws : List ℕ) where
   -- ---- refusals 1 and 6 come first

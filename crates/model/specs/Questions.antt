@@ -5,7 +5,7 @@ use mathlib.Core.List.{List, [], _∷_, _++_}
 use Rattle.model.specs.Choice.{if_then_else_}
 use Rattle.model.specs.Sets.{toBits}
 use Rattle.model.specs.Leafset.{leafset}
-use Rattle.model.specs.Ring.{holds}
+use Rattle.model.specs.Ring.{Ring, holds}
 use Rattle.model.specs.Answers.{Refusal, firstOf, isAccepted}
 use Rattle.model.specs.Words.{decode}
 use Rattle.model.specs.Buffer.{ringRefusals}
@@ -23,10 +23,12 @@ leafsetAnswer ws x = firstOf (leafsetRefusals ws x)
 unfoldable pub leafsetOf : List ℕ → ℕ → ℕ
 leafsetOf ws x = if isAccepted (leafsetAnswer ws x) then toBits 64 (leafset (decode ws .table) x (holds (decode ws) x)) else 0
 
--- "about two stands, which may be the same one"
+-- "about two stands, which may be the same one": 7 and 8 of either
+abbrev pub nodesRefusals : Ring → ℕ → ℕ → List Refusal
+nodesRefusals r a b = noNode r a ∷ noNode r b ∷ nodeOff r a ∷ nodeOff r b ∷ []
+
 abbrev pub connectionRefusals : List ℕ → ℕ → ℕ → List Refusal
-connectionRefusals ws a b =
-    ringRefusals ws ++ noNode (decode ws) a ∷ noNode (decode ws) b ∷ nodeOff (decode ws) a ∷ nodeOff (decode ws) b ∷ []
+connectionRefusals ws a b = ringRefusals ws ++ nodesRefusals (decode ws) a b
 
 unfoldable pub connectionAnswer : List ℕ → ℕ → ℕ → ℕ
 connectionAnswer ws a b = firstOf (connectionRefusals ws a b)
