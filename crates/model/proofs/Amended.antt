@@ -5,7 +5,7 @@ use Prim.Native.Nat.{ℕ}
 use Rattle.model.specs.Choice.{if_then_else_}
 use Rattle.model.specs.Sets.{noneNode, ofBits, count, members}
 use Rattle.model.specs.Leafset.{Table, leafset}
-use Rattle.model.specs.Ring.{Own, Message}
+use Rattle.model.specs.Ring.{Own}
 use Rattle.model.specs.Types.{pongAskInv}
 use Rattle.model.specs.Words.{headWord, sidesOf}
 use Rattle.model.specs.Steps.{release, forget, notice, viewing, onPongAskInv, deliver}

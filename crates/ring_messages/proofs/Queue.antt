@@ -15,7 +15,6 @@ use Rattle.model.specs.Words.{sidesOf, headWord, messageWord, stampWord, viewWo
 use Rattle.model.specs.Play.{setMessages, removeMessage}
 use Rattle.model.specs.Structs.{messageOf}
 use Rattle.model.specs.declared.message.MessageRecord.{MessageRecord}
-use Rattle.model.proofs.Fields.{field}
 use Rattle.model.proofs.Words.{head-reads, message-at}
 use Rattle.sets.proofs.Bits.{toBits-ofBits}
 use Rattle.ring_head.specs.Parts.{Encodes, RoomTable}
