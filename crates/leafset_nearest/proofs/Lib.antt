@@ -1,3 +1,4 @@
 pub mod Pick
 pub mod Spans
 pub mod Firsts
+pub mod Narrow

@@ -21,7 +21,7 @@ rank-on c d h = rw (le-leb c d h)
 pub rank-back : (c d : ℕ) → d < c → rank c d ≡ 2 * d + 1
 rank-back c d h = rw (lt-leb c d h)
 
-clockwise< : (a b : ℕ) → clockwise a b < places
+pub clockwise< : (a b : ℕ) → clockwise a b < places
 clockwise< a b = omega arith
 
 -- more than any span
