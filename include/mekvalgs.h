@@ -52,7 +52,7 @@ enum mekvalgs_answer {
 /* The kinds of event words. */
 enum mekvalgs_kind {
     MEKVALGS_ON = 9,
-    MEKVALGS_OFF = 10,
+    MEKVALGS_OFF = 10,     /* bit 12 set: polite, it first sends MEKVALGS_LEAVE to each held node */
     MEKVALGS_NOTICE = 11,  /* the node releases the other one, which is then no candidate either */
     MEKVALGS_CONTACT = 12,
     MEKVALGS_TIMER = 13,
@@ -73,7 +73,8 @@ enum mekvalgs_type {
     MEKVALGS_PING_REPLACE = 9,  /* uses subject and stamp */
     MEKVALGS_PONG_REPLACE = 10, /* uses subject and stamp: the replacement acknowledgement */
     MEKVALGS_PING_DELOOPY = 11, /* uses the subject */
-    MEKVALGS_PONG_DELOOPY = 12
+    MEKVALGS_PONG_DELOOPY = 12,
+    MEKVALGS_LEAVE = 13         /* the receiver releases the sender, which is then no candidate either */
 };
 
 /* The calls. */
@@ -111,11 +112,12 @@ uint32_t mekvalgs_connected(const uint32_t *words, size_t length, uint32_t a, ui
 uint32_t mekvalgs_groups(const uint32_t *words, size_t length, uint32_t *groups);
 
 /* The event of a word as three numbers: its kind; its node, or of deliver and lose the position; the other node of
- * notice and contact, the timer of timer, else 0. Answers 0, 4, 5; all three are 0 where refused. */
+ * notice and contact, the timer of timer, 1 of an off that is polite, else 0. Answers 0, 4, 5; all three are 0 where
+ * refused. */
 uint32_t mekvalgs_read_event(uint32_t word, uint32_t *kind, uint32_t *first, uint32_t *second);
 
 /* The word of the event with these three numbers. Answers 0, 4 (also where a kind without a third number is given
- * one that is not 0), 5; the word is 0 where refused. */
+ * one that is not 0, and off one that is neither 0 nor 1), 5; the word is 0 where refused. */
 uint32_t mekvalgs_write_event(uint32_t kind, uint32_t first, uint32_t second, uint32_t *word);
 
 /* The words of a ring, for reading between calls.
@@ -177,9 +179,10 @@ uint32_t mekvalgs_write_event(uint32_t kind, uint32_t first, uint32_t second, ui
 
 /* Messages on a radio.
  *
- * A buffer is a whole ring: all its nodes, and all messages in flight between them. An accepted contact, timer or
- * deliver puts its new messages at the end. Deliver and lose take one out, and those behind it move down one position.
- * So after a contact or a timer the new messages are those from the old m on, after a deliver those from the old m - 1.
+ * A buffer is a whole ring: all its nodes, and all messages in flight between them. An accepted contact, timer, polite
+ * off or deliver puts its new messages at the end. Deliver and lose take one out, and those behind it move down one
+ * position. So after the first three the new messages are those from the old m on, after a deliver those from the old
+ * m - 1.
  *
  * A program that keeps the ring and has a radio carry its messages reads the five words of each new one, sends them,
  * and leaves them where they are. When the message has arrived it plays deliver at the position that it has by then;

@@ -36,7 +36,7 @@ pub struct Tally {
     /// Answers to the events, by number, those on damaged buffers included.
     pub answers: [u64; 12],
     /// Accepted deliveries by type.
-    pub delivered: [u64; 13],
+    pub delivered: [u64; 14],
     pub tested: Tested,
 }
 
@@ -62,10 +62,11 @@ impl fmt::Display for Tally {
         writeln!(f, "{lists} lists of events by one call, of which {refused_lists} were refused")?;
         writeln!(f, "{damaged} damaged buffers, of which {valid} still read as a ring")?;
         writeln!(f, "answers 0 to 11: {answers:?}")?;
-        writeln!(f, "delivered, types 1 to 12: {:?}", &delivered[1..])?;
-        let Tested { starts, points, spans, acknowledged, released } = tested;
+        writeln!(f, "delivered, types 1 to 13: {:?}", &delivered[1..])?;
+        let Tested { starts, points, spans, acknowledged, released, leaving } = tested;
         writeln!(f, "demand 3: {points} points tested, against {starts} chosen points, {spans} pairs of points;")?;
-        write!(f, "  {acknowledged} of them with an acknowledgement in flight; {released} links released")
+        writeln!(f, "  {acknowledged} of them with an acknowledgement in flight; {released} links released;")?;
+        write!(f, "  {leaving} points not chosen for a type 13 from a running node alone")
     }
 }
 

@@ -163,12 +163,14 @@ fn scene(random: &mut Random, words: &[u32]) -> Damage {
     }
     let position = if random.percent(80) { 0 } else { random.below(m) };
     let mut pokes = Vec::new();
-    let kind = 1 + random.below(12) as u32;
+    let kind = 1 + random.below(13) as u32;
     let awaited = kind == 10 && z != x && z != y;
     let commit = if awaited { held(random, words, &mut pokes, x, z, y) } else { words[pair_at(x, z)] & LIMIT };
     let stamps = [commit, commit, commit.saturating_sub(1), (commit + 1).min(LIMIT), 0, LIMIT];
     let subject = match kind {
         8..=11 => z as u32,
+        // Of a type that uses none: it doesn't fit.
+        _ if random.percent(5) => y as u32,
         _ => 64,
     };
     let stamp = if kind == 9 || kind == 10 { random.pick(&stamps) } else { 0 };
@@ -194,7 +196,7 @@ fn held(random: &mut Random, words: &[u32], pokes: &mut Vec<Step>, x: usize, z: 
 /// The clock of x at its limit or one below, and an event there.
 fn last_tick(random: &mut Random, words: &[u32], x: usize) -> Damage {
     let clock = LIMIT - random.below(2) as u32;
-    let x_and_kind = random.pick(&[9 << 28, 10 << 28, 13 << 28, 13 << 28 | 1 << 12]) | x as u32;
+    let x_and_kind = random.pick(&[9 << 28, 10 << 28, 10 << 28 | 1 << 12, 13 << 28, 13 << 28 | 1 << 12]) | x as u32;
     let event = if look::is_running(words, x) { x_and_kind } else { 9 << 28 | x as u32 };
     Damage { pokes: vec![Step::Poke(2 + 2 * x, 5 << 28 | clock)], event: Some(event) }
 }

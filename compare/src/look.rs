@@ -34,3 +34,8 @@ pub fn holds(words: &[u32], x: usize, z: usize) -> bool {
 pub fn message_type(words: &[u32], position: usize) -> u32 {
     words[8_321 + 5 * position] & 15
 }
+
+/// The sender of the message at a position.
+pub fn sender(words: &[u32], position: usize) -> usize {
+    (words[8_321 + 5 * position] >> 4 & 63) as usize
+}

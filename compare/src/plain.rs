@@ -1,5 +1,5 @@
-//! Document 01 once more, simple and slow: the words are decoded to plain structs, the event is played on them, and they
-//! are encoded again. Written from the document's text alone, and not from the reference.
+//! Document 01 with document 02's notes, once more, simple and slow: the words are decoded to plain structs, the event is played on them, and they
+//! are encoded again. Written from their text alone, and not from the reference.
 //!
 //! A [`Slip`] makes it a wrong program, for the self-test of the harness.
 
@@ -7,7 +7,7 @@ use crate::ring::{Ring, Sides};
 use crate::LENGTH;
 use std::collections::BTreeSet;
 
-/// Wrong programs: what document 01 warns of, and slips at the edges of its rules.
+/// Wrong programs: what document 01 warns of, and slips at the edges of the rules.
 #[derive(Clone, Copy, PartialEq, Debug)]
 pub enum Slip {
     /// "Comparing stamps with 'not above'."
@@ -42,6 +42,18 @@ pub enum Slip {
     NoticeStrikesHeld,
     /// A notice strikes everybody from the candidates.
     NoticeStrikesAll,
+    /// Type 13 only strikes its sender from the candidates.
+    LeaveStrikesOnly,
+    /// Type 13 only lets go of its sender.
+    LeaveReleasesOnly,
+    /// Every off sends type 13.
+    LeaveAlways,
+    /// A polite off sends type 13 once nobody is held any more.
+    LeaveAfterClearing,
+    /// Type 13 only to held nodes that run.
+    LeaveToRunning,
+    /// A polite off raises the clock.
+    LeaveTicks,
     /// "One that always finds stands connected."
     AlwaysConnected,
     /// Groups count the nodes that are off, too.
@@ -56,6 +68,8 @@ pub enum Slip {
     OwnSpare,
     /// Reads as a ring with a view that holds its receiver.
     ReceiverInView,
+    /// Reads as a ring with a type 13 whose subject is its sender.
+    LeaveNamesSender,
     /// Reads as a ring with two equal keys.
     EqualKeys,
     /// Reads as a ring with a word that is not 0 where a node is paired with itself.
@@ -65,7 +79,7 @@ pub enum Slip {
 }
 
 impl Slip {
-    pub const ALL: [Slip; 26] = [
+    pub const ALL: [Slip; 33] = [
         Slip::StampNotAbove,
         Slip::CommitZero,
         Slip::AskerAsSpare,
@@ -82,6 +96,12 @@ impl Slip {
         Slip::TwiceClockwise,
         Slip::NoticeStrikesHeld,
         Slip::NoticeStrikesAll,
+        Slip::LeaveStrikesOnly,
+        Slip::LeaveReleasesOnly,
+        Slip::LeaveAlways,
+        Slip::LeaveAfterClearing,
+        Slip::LeaveToRunning,
+        Slip::LeaveTicks,
         Slip::AlwaysConnected,
         Slip::GroupsOfAll,
         Slip::FullPoolEarly,
@@ -89,6 +109,7 @@ impl Slip {
         Slip::CommitAboveClock,
         Slip::OwnSpare,
         Slip::ReceiverInView,
+        Slip::LeaveNamesSender,
         Slip::EqualKeys,
         Slip::Diagonal,
         Slip::LastWord,
@@ -290,13 +311,14 @@ impl State {
             (8, Some(s)) => s < n && s != sender && s != receiver,
             (9..=11, Some(s)) => s < n,
             (9..=11, None) => false,
+            (13, Some(s)) => s == sender && self.has(Slip::LeaveNamesSender),
             (_, subject) => subject.is_none(),
         };
         let stamp_fits = message.kind == 9 || message.kind == 10 || message.stamp == 0;
         let seen = |s: &usize| *s < n && (*s != receiver || self.has(Slip::ReceiverInView));
         let view_fits = message.view.is_empty() || message.kind == 4 && message.view.iter().all(seen);
         let ends_fit = sender < n && receiver < n && sender != receiver;
-        (1..=12).contains(&message.kind) && ends_fit && subject_fits && stamp_fits && view_fits
+        (1..=13).contains(&message.kind) && ends_fit && subject_fits && stamp_fits && view_fits
     }
 
     // Keys and leafsets.
@@ -346,7 +368,7 @@ impl State {
         let (x, y) = (bits(word, 0, 5) as usize, bits(word, 6, 11) as usize);
         match bits(word, 28, 31) {
             9 => self.on(x),
-            10 => self.off(x),
+            10 => self.off(x, bits(word, 12, 12) == 1),
             11 => self.notice(x, y),
             12 => self.contact(x, y),
             13 => self.timer(x, bits(word, 12, 14)),
@@ -389,14 +411,28 @@ impl State {
         Ok(())
     }
 
-    fn off(&mut self, x: usize) -> Result<(), u32> {
-        let node = self.nodes.get_mut(x).ok_or(7u32)?;
-        if !node.running {
+    fn off(&mut self, x: usize, polite: bool) -> Result<(), u32> {
+        if !self.nodes.get(x).ok_or(7u32)?.running {
             return Err(8);
         }
-        node.running = false;
-        node.pairs.fill(Pair::default());
+        if (polite || self.has(Slip::LeaveAlways)) && !self.has(Slip::LeaveAfterClearing) {
+            self.leave(x);
+        }
+        self.nodes[x].running = false;
+        self.nodes[x].pairs.fill(Pair::default());
         Ok(())
+    }
+
+    /// Type 13 to each held node.
+    fn leave(&mut self, x: usize) {
+        for y in self.held(x) {
+            if self.nodes[y].running || !self.has(Slip::LeaveToRunning) {
+                self.messages.push(Message::new(13, x, y));
+            }
+        }
+        if self.has(Slip::LeaveTicks) {
+            self.tick(x);
+        }
     }
 
     fn notice(&mut self, x: usize, subject: usize) -> Result<(), u32> {
@@ -529,7 +565,18 @@ impl State {
             10 => self.acknowledged(&message, now),
             11 => self.pass_on(x, message.subject.unwrap()),
             12 => self.nodes[x].pairs[a].candidate = true,
+            13 => self.left(x, a),
             _ => {}
+        }
+    }
+
+    /// On 13 from a at x.
+    fn left(&mut self, x: usize, a: usize) {
+        if !self.has(Slip::LeaveStrikesOnly) {
+            self.release(x, a);
+        }
+        if !self.has(Slip::LeaveReleasesOnly) {
+            self.nodes[x].pairs[a].candidate = false;
         }
     }
 
@@ -631,7 +678,8 @@ impl State {
 /// Refusals 4 and 5 of an event word.
 pub fn event_fault(word: u32) -> Option<u32> {
     let unnamed = match bits(word, 28, 31) {
-        9 | 10 => bits(word, 6, 27),
+        9 => bits(word, 6, 27),
+        10 => bits(word, 6, 11) + bits(word, 13, 27),
         11 | 12 => bits(word, 12, 27),
         13 => bits(word, 6, 11) + bits(word, 15, 27) + bits(word, 12, 14) / 5,
         14 | 15 => bits(word, 10, 27),

@@ -29,13 +29,13 @@ impl Mix {
     }
 
     /// How often each choice comes, beside the others.
-    fn weights(self) -> [(Choice, usize); 15] {
+    fn weights(self) -> [(Choice, usize); 16] {
         use Choice::*;
-        let [on, off, notice, wrong, contact, deliver, lose, anything] = match self {
-            Mix::Gentle => [2, 1, 10, 0, 30, 600, 15, 0],
-            Mix::Chaos => [30, 12, 15, 20, 80, 350, 60, 0],
-            Mix::Garbage => [30, 12, 15, 20, 80, 350, 60, 250],
-            Mix::Replacement => [6, 3, 6, 0, 60, 800, 10, 0],
+        let [on, off, leave, notice, wrong, contact, deliver, lose, anything] = match self {
+            Mix::Gentle => [2, 1, 1, 10, 0, 30, 600, 15, 0],
+            Mix::Chaos => [30, 6, 6, 15, 20, 80, 350, 60, 0],
+            Mix::Garbage => [30, 6, 6, 15, 20, 80, 350, 60, 250],
+            Mix::Replacement => [6, 2, 2, 6, 0, 60, 800, 10, 0],
         };
         let [timer_0, timer_1, timer_2, timer_3, timer_4, sweep, restart] = match self {
             Mix::Gentle => [40, 40, 20, 20, 15, 2, 0],
@@ -45,6 +45,7 @@ impl Mix {
         [
             (On, on),
             (Off, off),
+            (Leave, leave),
             (NoticeOfOff, notice),
             (NoticeOfAny, wrong),
             (Contact, contact),
@@ -66,6 +67,8 @@ impl Mix {
 enum Choice {
     On,
     Off,
+    /// A polite off.
+    Leave,
     NoticeOfOff,
     NoticeOfAny,
     Contact,
@@ -75,7 +78,7 @@ enum Choice {
     Anything,
     /// Timer 2 or 3 at every node of the circle.
     Sweep,
-    /// A node goes off and on again at once: it holds nobody, and those that hold it don't know.
+    /// A node goes off, politely or not, and on again at once: it holds nobody, and those that hold it don't know yet.
     Restart,
 }
 
@@ -177,6 +180,7 @@ impl Script {
         match choice {
             Choice::On => 9 << 28 | self.node(words, false),
             Choice::Off => 10 << 28 | self.node(words, true),
+            Choice::Leave => 10 << 28 | 1 << 12 | self.node(words, true),
             Choice::NoticeOfOff => self.notice_of_off(words),
             Choice::NoticeOfAny => self.of_two(11, words),
             Choice::Contact => self.of_two(12, words),
@@ -192,7 +196,7 @@ impl Script {
             Choice::Restart => {
                 let x = self.node(words, true);
                 self.waiting.push(9 << 28 | x);
-                10 << 28 | x
+                10 << 28 | (self.random.below(2) as u32) << 12 | x
             }
         }
     }

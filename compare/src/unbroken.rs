@@ -1,9 +1,10 @@
-//! Demand 3, judged in a run: from a point with no acknowledgement (type 10) in flight, as long as no on or off is
-//! accepted and each accepted notice names a node that is off, connected nodes stay connected.
+//! Demand 3, judged in a run: from a point with no acknowledgement (type 10) and no type 13 from a running node in flight,
+//! as long as no on or off is accepted and each accepted notice names a node that is off, connected nodes stay connected.
 
 use crate::look;
 
 const ACKNOWLEDGEMENT: u32 = 10;
+const LEAVE: u32 = 13;
 
 /// For each node the lowest one of its group; for a node that is off, itself.
 type Groups = [u8; 64];
@@ -14,7 +15,7 @@ type Links = [u64; 64];
 /// What was really tested.
 #[derive(Clone, Copy, Default)]
 pub struct Tested {
-    /// Points without acknowledgement in flight at which two or more nodes were connected.
+    /// Points that may be chosen at which two or more nodes were connected.
     pub starts: u64,
     /// Later points that were compared with such a point.
     pub points: u64,
@@ -24,6 +25,8 @@ pub struct Tested {
     pub acknowledged: u64,
     /// Running nodes released by running ones while such a span lasted.
     pub released: u64,
+    /// Points that may not be chosen only because a running node's type 13 is in flight.
+    pub leaving: u64,
 }
 
 impl Tested {
@@ -33,6 +36,7 @@ impl Tested {
         self.spans += other.spans;
         self.acknowledged += other.acknowledged;
         self.released += other.released;
+        self.leaving += other.leaving;
     }
 }
 
@@ -84,13 +88,21 @@ impl Unbroken {
         }
         self.links = links;
         let connects = (0..64).any(|a| groups[a] as usize != a);
-        if !acknowledged && connects {
+        let leaving = !acknowledged && leaves(words);
+        self.tested.leaving += leaving as u64;
+        if !acknowledged && !leaving && connects {
             self.tested.starts += 1;
             self.chosen += 1;
             self.groups = Some(groups);
         }
         None
     }
+}
+
+/// Whether a type 13 from a running node is in flight.
+fn leaves(words: &[u32]) -> bool {
+    let of_running = |&position: &usize| look::is_running(words, look::sender(words, position));
+    (0..look::messages(words)).filter(of_running).any(|position| look::message_type(words, position) == LEAVE)
 }
 
 fn links(words: &[u32]) -> Links {

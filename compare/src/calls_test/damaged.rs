@@ -15,7 +15,7 @@ pub fn write(book: &mut Book) {
     nodes(book);
     pairs(book);
     spares(book);
-    (0..12).for_each(|position| message(book, position));
+    (0..13).for_each(|position| message(book, position));
     nobody(book);
     every_kind_and_bit(book);
     smallest(book);
@@ -48,6 +48,7 @@ fn five(book: &mut Book) {
         Message::new(10, 2, 0).about(1).stamped(4),
         Message::new(11, 3, 0).about(3),
         Message::new(12, 0, 3),
+        Message::new(13, 1, 2),
     ];
     messages.into_iter().for_each(|message| book.send(message));
     probe(book, 0);
@@ -108,7 +109,7 @@ fn head(book: &mut Book) {
         right_field(book, 0, side, &[1, 8]);
     }
     wrong_field(book, 0, (4, 7), &[0, N - 1, N + 1, 64, 65, 127]);
-    wrong_field(book, 0, (11, 11), &[0, 11, 13, 1_024, 1_025, 2_047]);
+    wrong_field(book, 0, (11, 11), &[0, 12, 14, 1_024, 1_025, 2_047]);
 }
 
 /// Key and clock words.
@@ -177,7 +178,7 @@ fn message(book: &mut Book, position: usize) {
     let head = book.words()[at];
     let (from, to) = (head >> 4 & 63, head >> 10 & 63);
     wrong_frame(book, at, 23);
-    wrong_field(book, at, kind, &[0, 13, 15]);
+    wrong_field(book, at, kind, &[0, 14, 15]);
     wrong_field(book, at, sender, &[to, N, 63]);
     wrong_field(book, at, receiver, &[from, N, 63]);
     wrong_field(book, at, subject, &[N, 63, 65, 127]);
@@ -190,6 +191,7 @@ fn message(book: &mut Book, position: usize) {
             wrong_field(book, at, subject, &[64]);
             right_field(book, at, subject, &[0, 1, 2, 3, 4]);
         }
+        13 => wrong_field(book, at, subject, &[from, to]),
         _ => wrong_field(book, at, subject, &[0, 4]),
     }
     stamp(book, position);
@@ -234,7 +236,7 @@ fn nobody(book: &mut Book) {
         [1, 3 << 28].into_iter().for_each(|value| wrong(book, at, value));
         [1 << 31, 4 << 28 | 64].into_iter().for_each(|value| wrong(book, at + 1, value));
     }
-    for at in (8_381..8_386).chain([8_386, 13_435, LENGTH - 1]) {
+    for at in (8_386..8_391).chain([8_391, 13_435, LENGTH - 1]) {
         [1, 1 << 31].into_iter().for_each(|value| wrong(book, at, value));
     }
 }

@@ -1,4 +1,4 @@
-//! Reading and writing event words: document 01's rules, and the cases.
+//! Reading and writing event words: the documents' rules, and the cases.
 
 use super::book::Book;
 use super::events::*;
@@ -11,7 +11,8 @@ pub fn read(word: u32) -> (u32, u64) {
     }
     let kind = word >> 28;
     let (first, second) = match kind {
-        9 | 10 => (word & 63, 0),
+        9 => (word & 63, 0),
+        10 => (word & 63, word >> 12 & 1),
         11 | 12 => (word & 63, word >> 6 & 63),
         13 => (word & 63, word >> 12 & 7),
         _ => (word & 1_023, 0),
@@ -23,7 +24,7 @@ pub fn read(word: u32) -> (u32, u64) {
 pub fn write(kind: u32, first: u32, second: u32) -> (u32, u64) {
     let (fits, word) = match kind {
         9 => (first < 64, on(first)),
-        10 => (first < 64, off(first)),
+        10 => (first < 64, if second == 1 { leave(first) } else { off(first) }),
         11 => (first < 64 && second < 64, notice(first, second)),
         12 => (first < 64 && second < 64, contact(first, second)),
         13 => (first < 64 && second <= 4, timer(first, second)),
@@ -46,7 +47,7 @@ pub fn write_cases(book: &mut Book) {
 }
 
 fn readings(book: &mut Book) {
-    for word in [on(0), on(63), off(0), off(63), deliver(0), deliver(1_023), lose(0), lose(1_023)] {
+    for word in [on(0), on(63), off(0), off(63), leave(0), leave(63), deliver(0), deliver(1_023), lose(0), lose(1_023)] {
         book.read(word, 0);
     }
     for word in [notice(0, 1), notice(63, 62), notice(1, 0), contact(0, 1), contact(63, 62), contact(0, 63)] {
@@ -70,7 +71,10 @@ fn readings(book: &mut Book) {
 pub fn unnamed_bits() -> impl Iterator<Item = u32> {
     let events = [
         (on(1), 6..28),
-        (off(1), 6..28),
+        (off(1), 6..12),
+        (off(1), 13..28),
+        (leave(1), 6..12),
+        (leave(1), 13..28),
         (notice(1, 2), 12..28),
         (contact(1, 2), 12..28),
         (timer(1, 0), 6..12),
@@ -86,6 +90,8 @@ fn writings(book: &mut Book) {
         [0, 63].iter().for_each(|&x| book.write(kind, x, 0, 0));
         [64, 255].iter().for_each(|&x| book.write(kind, x, 0, 4));
     }
+    [0, 63].iter().for_each(|&x| book.write(10, x, 1, 0));
+    [64, 255].iter().for_each(|&x| book.write(10, x, 1, 4));
     for kind in [11, 12] {
         [(0, 1), (63, 62), (5, 63)].iter().for_each(|&(x, y)| book.write(kind, x, y, 0));
         [(64, 0), (0, 64), (255, 1), (63, 255)].iter().for_each(|&(x, y)| book.write(kind, x, y, 4));

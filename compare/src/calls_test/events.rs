@@ -8,6 +8,11 @@ pub fn off(x: u32) -> u32 {
     10 << 28 | x
 }
 
+/// A polite off.
+pub fn leave(x: u32) -> u32 {
+    off(x) | 1 << 12
+}
+
 pub fn notice(x: u32, subject: u32) -> u32 {
     11 << 28 | subject << 6 | x
 }

@@ -40,7 +40,7 @@ fn largest(book: &mut Book) {
 
 /// Each event that would send: a contact, and timers 0 to 4. Before 11 come 4, 5, 8 and 10.
 fn refused(book: &mut Book) {
-    [contact(0, 1), contact(5, 0), timer(5, 1)].into_iter().for_each(|word| book.play(word, 11));
+    [contact(0, 1), contact(5, 0), timer(5, 1), leave(0)].into_iter().for_each(|word| book.play(word, 11));
     [0, 2, 3, 4].into_iter().for_each(|k| book.play(timer(0, k), 11));
     [contact(0, 1) | 1 << 27, timer(0, 5)].into_iter().for_each(|word| book.play(word, 4));
     book.play(contact(0, 0), 5);
@@ -54,7 +54,7 @@ fn refused(book: &mut Book) {
 
 /// Events that send nothing, and deliveries: each takes its message out first, so that its answer has room.
 fn accepted(book: &mut Book) {
-    [on(9), notice(0, 9), timer(5, 0), timer(6, 1), timer(5, 2), timer(5, 3), timer(5, 4)]
+    [on(9), leave(9), on(9), notice(0, 9), timer(5, 0), timer(6, 1), timer(5, 2), timer(5, 3), timer(5, 4)]
         .into_iter()
         .for_each(|word| book.play(word, 0));
     [deliver(1_023), deliver(0), deliver(500)].into_iter().for_each(|word| book.play(word, 0));
@@ -80,12 +80,20 @@ fn smallest(book: &mut Book) {
     crowded(book, &[10, 20], 1_100);
 }
 
-/// A timer that sends two messages, with two places left, and with one.
+/// A timer and a polite off that send two messages, with two places left, and with one.
 fn last_places(book: &mut Book) {
     for (messages, answer) in [(1_021, 0), (1_022, 0), (1_023, 11), (1_024, 11)] {
         crowded(book, &[10, 20, 30], messages);
         book.hold(0, 1, 1, 64);
         book.hold(0, 2, 1, 64);
         book.play(timer(0, 0), answer);
+    }
+    // A polite off likewise, with the clock spent: it is no 10.
+    for (messages, answer) in [(1_022, 0), (1_023, 11), (1_024, 11)] {
+        crowded(book, &[10, 20, 30], messages);
+        book.hold(0, 1, 1, 64);
+        book.hold(0, 2, 1, 64);
+        book.set_clock(0, CLOCK_LIMIT);
+        book.play(leave(0), answer);
     }
 }

@@ -28,8 +28,8 @@ fn three(book: &mut Book) {
 }
 
 /// An acceptable event of each kind on the ring of three.
-fn acceptable() -> [u32; 7] {
-    [on(2), off(0), notice(0, 1), contact(0, 1), timer(0, 0), deliver(0), lose(1)]
+fn acceptable() -> [u32; 8] {
+    [on(2), off(0), leave(0), notice(0, 1), contact(0, 1), timer(0, 0), deliver(0), lose(1)]
 }
 
 /// 1, also where any other applies too.
@@ -80,7 +80,7 @@ fn not_events(book: &mut Book) {
 fn out_of_table(book: &mut Book) {
     three(book);
     for x in [3, 63] {
-        for word in [on(x), off(x), notice(x, 0), notice(0, x), contact(x, 0), contact(0, x)] {
+        for word in [on(x), off(x), leave(x), notice(x, 0), notice(0, x), contact(x, 0), contact(0, x)] {
             book.play(word, 7);
         }
         (0..=4).for_each(|k| book.play(timer(x, k), 7));
@@ -104,7 +104,7 @@ fn out_of_table(book: &mut Book) {
 /// 8.
 fn switched_off(book: &mut Book) {
     three(book);
-    for word in [off(2), notice(2, 0), contact(2, 0)] {
+    for word in [off(2), leave(2), notice(2, 0), contact(2, 0)] {
         book.play(word, 8);
     }
     (0..=4).for_each(|k| book.play(timer(2, k), 8));
@@ -139,8 +139,8 @@ fn spent_clock(book: &mut Book) {
     book.leafset(0, 0);
     book.connected(0, 1, 0);
     // To a node that is off, no clock must rise.
-    [deliver(1), off(1), lose(0), off(0)].into_iter().for_each(|word| book.play(word, 0));
-    book.play(on(0), 10);
+    [deliver(1), off(1), lose(0), leave(0)].into_iter().for_each(|word| book.play(word, 0));
+    [on(0), on(1)].into_iter().for_each(|word| book.play(word, 10));
     // One below the limit, the clock rises once more.
     three(book);
     (0..3).for_each(|x| book.set_clock(x, CLOCK_LIMIT - 1));

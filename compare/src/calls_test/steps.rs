@@ -13,6 +13,7 @@ pub fn write(book: &mut Book) {
     worked_example(book);
     leafsets(book);
     switching(book);
+    leaving(book);
     contact_and_notice(book);
     views(book);
     invitations(book);
@@ -88,6 +89,31 @@ fn switching(book: &mut Book) {
     book.play(on(0), 0);
     (0..=4).for_each(|k| book.play(timer(0, k), 0));
     book.play(off(0), 0);
+}
+
+/// A polite off, and type 13: to held nodes that run and to one that is off, rising; to one that holds the sender, has it as a
+/// candidate, both, or neither.
+fn leaving(book: &mut Book) {
+    six_holding(book, &[4, 1, 3, 5]);
+    book.candidate(0, 2);
+    book.hold(1, 0, 1, 4);
+    book.candidate(1, 0);
+    book.candidate(1, 5);
+    book.candidate(3, 0);
+    book.hold(5, 0, 1, 64);
+    book.play(off(4), 0);
+    book.play(leave(0), 0);
+    assert_eq!(look::messages(book.words()), 4);
+    assert_eq!(look::clock(book.words(), 0), 20);
+    (0..4).for_each(|_| book.play(deliver(0), 0));
+    assert!(!look::holds(book.words(), 1, 0) && !look::holds(book.words(), 5, 0));
+    // Holding nobody; then back again, and an old type 13 arrives.
+    book.play(on(0), 0);
+    book.play(leave(0), 0);
+    book.play(on(0), 0);
+    book.hold(1, 0, 1, 64);
+    receive(book, Message::new(13, 0, 1));
+    receive(book, Message::new(13, 2, 3));
 }
 
 /// Types 1 and 2, to nodes that run and to one that is off; a notice of a node held, or not, on or off.

@@ -46,7 +46,7 @@ const CALLS: [(&str, u32, &[u32]); 9] = [
 /// The answers that playing a word of each event kind can give.
 const EVENTS: [(&str, u32, &[u32]); 7] = [
     ("on", 9, &[0, 1, 4, 6, 7, 9, 10]),
-    ("off", 10, &[0, 1, 4, 6, 7, 8]),
+    ("off", 10, &[0, 1, 4, 6, 7, 8, 11]),
     ("notice", 11, &[0, 1, 4, 5, 6, 7, 8, 10]),
     ("contact", 12, &[0, 1, 4, 5, 6, 7, 8, 10, 11]),
     ("timer", 13, &[0, 1, 4, 6, 7, 8, 10, 11]),
@@ -68,7 +68,7 @@ impl Tally {
             && events.copied().eq(each(&EVENTS))
             && self.replayed.keys().copied().eq(REPLAYED)
             && self.listed.keys().copied().eq(LISTED)
-            && self.delivered.keys().copied().eq(1..=12)
+            && self.delivered.keys().copied().eq(1..=13)
             && self.timers.keys().copied().eq(0..=4)
     }
 }

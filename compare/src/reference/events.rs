@@ -7,7 +7,8 @@ use super::sets::{contains, members};
 #[derive(Clone, Copy)]
 pub enum Event {
     On(usize),
-    Off(usize),
+    /// Whether it is polite.
+    Off(usize, bool),
     Notice(usize, usize),
     Contact(usize, usize),
     Timer(usize, u32),
@@ -24,7 +25,7 @@ impl Event {
         let position = (word & 1023) as usize;
         let (event, named) = match word >> 28 {
             9 => (Event::On(x), 0x3F),
-            10 => (Event::Off(x), 0x3F),
+            10 => (Event::Off(x, word >> 12 & 1 == 1), 0x103F),
             11 => (Event::Notice(x, y), 0xFFF),
             12 => (Event::Contact(x, y), 0xFFF),
             13 if timer <= 4 => (Event::Timer(x, timer), 0x703F),
@@ -55,7 +56,7 @@ impl Place<'_> {
     pub fn play(&mut self, event: Event) -> Result<(), u32> {
         match event {
             Event::On(x) => self.on(x),
-            Event::Off(x) => self.off(x),
+            Event::Off(x, polite) => self.off(x, polite),
             Event::Notice(x, subject) => self.notice(x, subject),
             Event::Contact(x, y) => self.contact(x, y),
             Event::Timer(x, timer) => self.timer(x, timer),
@@ -97,9 +98,12 @@ impl Place<'_> {
         Ok(())
     }
 
-    fn off(&mut self, x: usize) -> Result<(), u32> {
+    fn off(&mut self, x: usize, polite: bool) -> Result<(), u32> {
         self.known(x)?;
         self.running(x)?;
+        let told = if polite { self.held(x) } else { 0 };
+        self.room_for(told.count_ones())?;
+        members(told).for_each(|y| self.send(Message::new(13, x, y), 0));
         self.switch_off(x);
         Ok(())
     }
@@ -110,9 +114,14 @@ impl Place<'_> {
         self.running(x)?;
         self.clock_can_rise(x)?;
         self.tick(x);
-        self.release(x, subject);
-        self.strike_candidate(x, subject);
+        self.forget(x, subject);
         Ok(())
+    }
+
+    /// What a notice of z does at x, and type 13 from z.
+    fn forget(&mut self, x: usize, z: usize) {
+        self.release(x, z);
+        self.strike_candidate(x, z);
     }
 
     fn contact(&mut self, x: usize, y: usize) -> Result<(), u32> {
@@ -235,7 +244,8 @@ impl Place<'_> {
             9 => self.requested(message, now),
             10 => self.acknowledged(message, now),
             11 => self.pass_on(message),
-            _ => self.add_candidate(x, a),
+            12 => self.add_candidate(x, a),
+            _ => self.forget(x, a),
         }
     }
 

@@ -63,7 +63,7 @@ impl Heads {
 fn heads_fit(messages: &[u32], n: usize) -> __m128i {
     let Heads { kind, sender, receiver, subject } = Heads::read(messages);
     let last = n as i8 - 1;
-    let types = up_to(_mm_sub_epi8(kind, bytes(1)), 11);
+    let types = up_to(_mm_sub_epi8(kind, bytes(1)), 12);
     let nodes = _mm_and_si128(up_to(sender, last), up_to(receiver, last));
     let ends = _mm_andnot_si128(_mm_cmpeq_epi8(sender, receiver), nodes);
     // Types 8 to 11 use the subject; of them only 8 may have none, and its subject is neither sender nor receiver.

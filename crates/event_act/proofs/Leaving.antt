@@ -34,6 +34,22 @@ starts Acts = false
 pub never-starts : {b : Becomes} → starts b ≡ false → b ≡ Starts → ⊥
 never-starts f e = clash (ap starts e) f
 
+-- any change
+pub change-fits : (c : Change) {n : ℕ} {e : Effect} → Leaves n (c .node .0) (c .time .0) (c .effect) e
+    → {ws : List ℕ} → readsAsRing ws ≡ true → takenLow (length (decode ws .messages)) (c .taken) → c .node .0 < size (decodeTable ws)
+    → c .time .0 < 2 ^ 24 → (c .becomes ≡ Starts → c .time .0 ≡ decode ws .node (c .node .0) .clock + 1) → Changes ws c
+change-fits c left reads low member room rises =
+    record {
+      reads = reads;
+      taken-low = low;
+      member = member;
+      time-room = room;
+      rises = rises;
+      own-room = left .own-fits .room;
+      first-fits = left .first-fits;
+      second-fits = left .second-fits;
+    }
+
 -- a node that acts
 module _ {ws : List ℕ} (reads : readsAsRing ws ≡ true) {x : NodeNumber} {a : Actor} (is : IsActor ws (x .0) a) (r : EffectRecord)
     (step : ℕ → Own → Effect) (left : Leaves (a .n) (x .0) (a .time .0) r (step (a .time .0) (ownOf (a .own)))) (t : Taken) where
@@ -41,17 +57,7 @@ module _ {ws : List ℕ} (reads : readsAsRing ws ≡ true) {x : NodeNumber} {a :
   acting = record { taken = t; node = x; becomes = Acts; time = a .time; effect = r }
 
   pub acting-fits : takenLow (length (decode ws .messages)) t → Changes ws acting
-  acting-fits low =
-      record {
-        reads = reads;
-        taken-low = low;
-        member = omega (arith, is .nodes, is .member);
-        time-room = is .time-room;
-        rises = λ e. absurd (never-starts refl e);
-        own-room = left .own-fits .room;
-        first-fits = left .first-fits;
-        second-fits = left .second-fits;
-      }
+  acting-fits low = change-fits acting left reads low (omega (arith, is .nodes, is .member)) (is .time-room) (λ e. absurd (never-starts refl e))
 
   pub acting-leaves : changed acting (decode ws) ≡ act (x .0) step (takenOut t (decode ws))
   acting-leaves =
@@ -68,17 +74,3 @@ module _ (c : Change) {n : ℕ} {o : Own} (left : Leaves n (c .node .0) (c .time
       (ap (λ (e : Effect). takenOut (c .taken) ρ .messages ++ e .sent) (left .effect)
       ∙ append-nil (takenOut (c .taken) ρ .messages)
       ∙ sym (node-messages (c .becomes) (c .node .0) (c .time .0) (ownOf (c .effect .own)) (takenOut (c .taken) ρ)))
-
-  pub silent-fits : {ws : List ℕ} → readsAsRing ws ≡ true → takenLow (length (decode ws .messages)) (c .taken) → c .node .0 < size (decodeTable ws)
-      → c .time .0 < 2 ^ 24 → (c .becomes ≡ Starts → c .time .0 ≡ decode ws .node (c .node .0) .clock + 1) → Changes ws c
-  silent-fits reads low member room rises =
-      record {
-        reads = reads;
-        taken-low = low;
-        member = member;
-        time-room = room;
-        rises = rises;
-        own-room = left .own-fits .room;
-        first-fits = left .first-fits;
-        second-fits = left .second-fits;
-      }

@@ -6,6 +6,7 @@ ghost use Rattle.model.specs.declared.event.Event.the-variants.{On, Off};
 ghost use Rattle.event_act.specs.Changes.{Decides};
 use event_act::decision;
 use event_act::decision::Becomes;
+use event_act::decision::Change;
 use event_act::decision::Decision;
 use event_act::decision::Taken;
 use model::answer::Answer;
@@ -31,16 +32,32 @@ pub fn on(words: &[u32], x: NodeNumber) -> Decision
     decision::silent(m, Taken::Nothing, x, Becomes::Starts, Stamp(clock + 1))
 }
 
-pub fn off(words: &[u32], x: NodeNumber) -> Decision
+// Polite, it first sends type 13 to each held node.
+pub fn off(words: &[u32], x: NodeNumber, polite: bool) -> Decision
     requires ring { ⌜ readsAsRing (now words) ≡ true ⌝ }
-    ensures decides { λ r. ⌜ Decides (now (words .entry)) (Off x) r ⌝ }
+    ensures decides { λ r. ⌜ Decides (now (words .entry)) (Off x polite) r ⌝ }
 {
-    if ring_head::nodes(words) <= x.0 as usize {
+    let n = ring_head::nodes(words);
+    if n <= x.0 as usize {
         return Decision::refused(Answer::OutOfTable);
     }
     if !ring_nodes::is_running(words, x) {
         return Decision::refused(Answer::NodeOff);
     }
     let m = ring_head::messages(words);
-    decision::silent(m, Taken::Nothing, x, Becomes::Stops, Stamp(0))
+    if !polite {
+        return decision::silent(m, Taken::Nothing, x, Becomes::Stops, Stamp(0));
+    }
+    let own = ring_pairs::load(words, n, x);
+    let effect = step_leave::leaving(own);
+    decision::decided(
+        m,
+        Change {
+            taken: Taken::Nothing,
+            node: x,
+            becomes: Becomes::Stops,
+            time: Stamp(0),
+            effect,
+        },
+    )
 }

@@ -18,7 +18,7 @@ pub fn decide(words: &[u32], e: Event) -> Decision
 {
     match e {
         Event::On(x) => event_on_off::on(words, x),
-        Event::Off(x) => event_on_off::off(words, x),
+        Event::Off(x, polite) => event_on_off::off(words, x, polite),
         Event::Notice(x, z) => event_contact::notice(words, x, z),
         Event::Contact(x, y) => event_contact::contact(words, x, y),
         Event::Timer(x, k) => event_timer::timer(words, x, k),

@@ -105,7 +105,7 @@ pub extern "C" fn mekvalgs_groups(words: &[u32], groups: &mut u32) -> u32
     answers::number(answer)
 }
 
-// The event of a word: its kind, its node or position, and its other node or timer.
+// The event of a word as three numbers, its kind first.
 #[no_mangle]
 pub extern "C" fn mekvalgs_read_event(
     word: u32,
@@ -125,7 +125,7 @@ pub extern "C" fn mekvalgs_read_event(
     answers::number(answer)
 }
 
-// The word of the event with that kind, node or position, and other node or timer.
+// The word of the event with these three numbers.
 #[no_mangle]
 pub extern "C" fn mekvalgs_write_event(kind: u32, first: u32, second: u32, word: &mut u32) -> u32
     ensures answer { λ r. ⌜ r ≡ partsAnswer (numbers kind first second) ⌝ }

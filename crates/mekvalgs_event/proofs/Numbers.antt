@@ -1,7 +1,7 @@
 -- Laws of events as three numbers: by their kind, and of what is read and written.
 use mathlib.Core.Path.{_≡_, refl, sym, ap, _∙_}
 use mathlib.Core.Logic.{_⊎_, ⊎-elim}
-use mathlib.Core.Bool.{Bool, true, false, _&&_, _||_}
+use mathlib.Core.Bool.{Bool, true, false, _&&_}
 use mathlib.Core.List.{[], _∷_}
 use Prim.Native.Nat.{ℕ, suc, _-_, _≤_, _<_}
 use native.Mathlib.Omega.{arith}
@@ -16,7 +16,7 @@ use Rattle.model.specs.declared.answer.Answer.{Answer}
 use Rattle.model.specs.declared.event.Event.{Event}
 use Rattle.model.specs.declared.event.Reading.the-variants.{Read, Refused}
 use Rattle.model.proofs.Laws.{and-left, and-right, between-low, between-high, is-false}
-use Rattle.mekvalgs_event.specs.Parts.{numbers, partsOf, readParts, eventOfParts, partsAre, partsAnswer, writeParts}
+use Rattle.mekvalgs_event.specs.Parts.{numbers, partsOf, readParts, eventOfParts, thirdFits, partsAre, partsAnswer, writeParts}
 use Rattle.mekvalgs_event.specs.declared.Parts.{Parts}
 
 -- ---- by the kind
@@ -33,9 +33,13 @@ module _ (k first second : ℕ) where
   abbrev p : Parts
   p = record { kind = k; first = first; second = second }
 
-  pub of-node : 9 ≤ k → k ≤ 10 → partsAre p ≡ (eqb second 0 && ltb first 64)
+  pub of-on : k ≡ 9 → partsAre p ≡ (eqb second 0 && ltb first 64)
   unfolding partsAre eventOfParts
-  of-node l h = either (λ k. partsAre (record { kind = k; first = first; second = second }) ≡ (eqb second 0 && ltb first 64)) 9 k l h refl refl
+  of-on e = rw e
+
+  pub of-off : k ≡ 10 → partsAre p ≡ (leb second 1 && ltb first 64)
+  unfolding partsAre eventOfParts
+  of-off e = rw e
 
   pub of-nodes : 11 ≤ k → k ≤ 12 → partsAre p ≡ (ltb first 64 && ltb second 64)
   unfolding partsAre eventOfParts
@@ -52,7 +56,7 @@ module _ (k first second : ℕ) where
   kind-fits : partsAre p ≡ true → between 9 15 k ≡ true
   unfolding partsAre
   kind-fits t =
-      and-left (between 9 15 k) (between 11 13 k || eqb second 0) (and-left (between 9 15 k && (between 11 13 k || eqb second 0)) (partsFit (eventOfParts p)) t)
+      and-left (between 9 15 k) (thirdFits p) (and-left (between 9 15 k && thirdFits p) (partsFit (eventOfParts p)) t)
 
   pub of-none : (k < 9) ⊎ (15 < k) → false ≡ partsAre p
   of-none out =
@@ -73,7 +77,10 @@ module _ (k first second : ℕ) where
     pub node-low : k ≤ 13 → first < 64
     node-low h =
         elim (decLt k 11) [
-          | yes l ↦ ltb-true first 64 (and-right (eqb second 0) (ltb first 64) (sym (of-node kind-low (omega arith)) ∙ t))
+          | yes l ↦ elim (ℕ-discrete k 9) [
+            | yes e ↦ ltb-true first 64 (and-right (eqb second 0) (ltb first 64) (sym (of-on e) ∙ t))
+            | no d ↦ ltb-true first 64 (and-right (leb second 1) (ltb first 64) (sym (of-off (omega (arith, kind-low))) ∙ t))
+          ]
           | no l ↦ elim (decLt k 13) [
             | yes m ↦ ltb-true first 64 (and-left (ltb first 64) (ltb second 64) (sym (of-nodes (omega arith) (omega arith)) ∙ t))
             | no m ↦ ltb-true first 64 (and-left (ltb first 64) (leb second 4) (sym (of-timer (omega arith)) ∙ t))
@@ -91,7 +98,7 @@ module _ (k first second : ℕ) where
 
   fits : partsAre p ≡ true → partsFit (eventOfParts p) ≡ true
   unfolding partsAre
-  fits t = and-right (between 9 15 k && (between 11 13 k || eqb second 0)) (partsFit (eventOfParts p)) t
+  fits t = and-right (between 9 15 k && thirdFits p) (partsFit (eventOfParts p)) t
 
   -- ---- writing
 

@@ -1,11 +1,12 @@
 -- The theorems about events as three numbers, by name.
 use mathlib.Core.Path.{_≡_, refl, sym, ap, _∙_}
-use mathlib.Core.Bool.{true}
-use Prim.Native.Nat.{ℕ}
+use mathlib.Core.Bool.{true, false}
+use Prim.Native.Nat.{ℕ, _≤_}
 use native.Mathlib.Omega.{arith}
-use native.Mathlib.Decide.{decLt}
-use lib.Dec.{ltb, eqb}
-use borrow.Author.Tests.{eqb-true}
+use native.Mathlib.Decide.{decLt, ℕ-discrete}
+use lib.Dec.{ltb, leb, eqb}
+use borrow.Author.Tests.{eqb-true, leb-true, ne-eqb}
+use Rattle.model.specs.Fields.{bit}
 use Rattle.model.specs.WellFormed.{nil, cons}
 use Rattle.model.specs.Answers.{firstOf}
 use Rattle.model.specs.Events.{wordOf, eventOf, partsFit, wordAnswer, readEvent, readingOf}
@@ -19,7 +20,7 @@ use Rattle.model.proofs.Events.{Writable, EventWord, reads-as}
 use Rattle.model.proofs.Theorems.{written-reads}
 use Rattle.mekvalgs_event.specs.Parts.{numbers, partsOf, readParts, eventOfParts, partsAre, partsRefusals, partsAnswer, writeParts}
 use Rattle.mekvalgs_event.specs.declared.Parts.{Parts}
-use Rattle.mekvalgs_event.proofs.Numbers.{either, of-node, of-position, kind-low, kind-high, write-given, read-given}
+use Rattle.mekvalgs_event.proofs.Numbers.{either, of-on, of-off, of-position, kind-low, kind-high, write-given, read-given}
 
 -- "The lowest number that applies is given, and none otherwise"
 pub lowest-at-parts : (p : Parts) → LowestOf (partsRefusals p) (partsAnswer p)
@@ -27,6 +28,10 @@ unfolding partsAnswer
 lowest-at-parts p = lowest-given 0 (partsRefusals p) refl
 
 -- ---- numbers that are an event's are the numbers of that event
+
+-- 1 or 0 as a mark, and back
+mark-back : (v : ℕ) → v ≤ 1 → bit (eqb v 1) ≡ v
+mark-back v h = elim (ℕ-discrete v 1) [ yes e ↦ rw e | no d ↦ rw (ne-eqb v 1 d) (omega arith) ]
 
 module _ (k first second : ℕ) (t : partsAre (numbers k first second) ≡ true) where
   abbrev Same : ℕ → Type 0
@@ -37,8 +42,15 @@ module _ (k first second : ℕ) (t : partsAre (numbers k first second) ≡ true)
   of-their-event =
       elim (decLt k 11) [
         | yes l ↦
-            let z : second ≡ 0 = eqb-true second 0 (and-left (eqb second 0) (ltb first 64) (sym (of-node k first second (kind-low k first second t) (omega arith)) ∙ t)) in
-            either Same 9 k (kind-low k first second t) (omega arith) (rw z) (rw z)
+            elim (ℕ-discrete k 9) [
+              | yes e ↦
+                  let z : second ≡ 0 = eqb-true second 0 (and-left (eqb second 0) (ltb first 64) (sym (of-on k first second e) ∙ t)) in
+                  rw (e, z)
+              | no d ↦
+                  let e : k ≡ 10 = omega (arith, kind-low k first second t) in
+                  let h : second ≤ 1 = leb-true second 1 (and-left (leb second 1) (ltb first 64) (sym (of-off k first second e) ∙ t)) in
+                  rw (e, mark-back second h)
+            ]
         | no l ↦ elim (decLt k 13) [
           | yes m ↦ either Same 11 k (omega arith) (omega arith) refl refl
           | no m ↦ elim (decLt k 14) [
@@ -55,7 +67,8 @@ module _ (k first second : ℕ) (t : partsAre (numbers k first second) ≡ true)
 event-of : (e : Event) → eventOfParts (partsOf e) ≡ e
 unfolding eventOfParts
 event-of (On x) = refl
-event-of (Off x) = refl
+event-of (Off x true) = refl
+event-of (Off x false) = refl
 event-of (Notice x z) = refl
 event-of (Contact x y) = refl
 event-of (Timer x k) = refl
@@ -65,7 +78,8 @@ event-of (Lose i) = refl
 numbers-are : (e : Event) → partsAre (partsOf e) ≡ partsFit e
 unfolding partsAre eventOfParts
 numbers-are (On x) = refl
-numbers-are (Off x) = refl
+numbers-are (Off x true) = refl
+numbers-are (Off x false) = refl
 numbers-are (Notice x z) = refl
 numbers-are (Contact x y) = refl
 numbers-are (Timer x k) = refl

@@ -1,10 +1,11 @@
--- An event as three numbers: its kind; its node or position; the other node or the timer, or 0.
+-- An event as three numbers: its kind; its node or position; the other node, the timer, or 1 for a polite off; or 0.
 use Prim.Native.Nat.{ℕ, _-_}
 use mathlib.Core.Bool.{Bool, not, _&&_, _||_}
 use mathlib.Core.List.{List, [], _∷_}
-use lib.Dec.{eqb}
+use lib.Dec.{leb, eqb}
 use lib.ListN.{getD}
 use Rattle.model.specs.Choice.{if_then_else_}
+use Rattle.model.specs.Fields.{bit}
 use Rattle.model.specs.Words.{between}
 use Rattle.model.specs.Answers.{Refusal, firstOf, isAccepted}
 use Rattle.model.specs.Events.{wordOf, eventOf, partsFit, sameNode, wordAnswer}
@@ -18,7 +19,7 @@ numbers kind first second = record { kind = kind; first = first; second = second
 
 abbrev pub partsOf : Event → Parts
 partsOf (On x) = numbers 9 (x .0) 0
-partsOf (Off x) = numbers 10 (x .0) 0
+partsOf (Off x polite) = numbers 10 (x .0) (bit polite)
 partsOf (Notice x z) = numbers 11 (x .0) (z .0)
 partsOf (Contact x y) = numbers 12 (x .0) (y .0)
 partsOf (Timer x k) = numbers 13 (x .0) k
@@ -32,7 +33,7 @@ readParts w = if isAccepted (wordAnswer w) then partsOf (eventOf w) else numbers
 -- the event of three numbers, of kind 9 to 15
 unfoldable pub eventOfParts : Parts → Event
 eventOfParts p =
-    getD (On x ∷ Off x ∷ Notice x other ∷ Contact x other ∷ Timer x (p .second) ∷ Deliver (p .first) ∷ []) (p .kind - 9) (Lose (p .first))
+    getD (On x ∷ Off x (eqb (p .second) 1) ∷ Notice x other ∷ Contact x other ∷ Timer x (p .second) ∷ Deliver (p .first) ∷ []) (p .kind - 9) (Lose (p .first))
   where
     x : NodeNumber
     x = record { 0 = p .first }
@@ -40,9 +41,13 @@ eventOfParts p =
     other : NodeNumber
     other = record { 0 = p .second }
 
--- the kind is an event's, only notice, contact and timer have a third number, and no part is too big
+-- only notice, contact and timer have a third number, and off: 1 or 0
+abbrev pub thirdFits : Parts → Bool
+thirdFits p = if eqb (p .kind) 10 then leb (p .second) 1 else between 11 13 (p .kind) || eqb (p .second) 0
+
+-- the kind is an event's, the third number fits it, and no part is too big
 unfoldable pub partsAre : Parts → Bool
-partsAre p = between 9 15 (p .kind) && (between 11 13 (p .kind) || eqb (p .second) 0) && partsFit (eventOfParts p)
+partsAre p = between 9 15 (p .kind) && thirdFits p && partsFit (eventOfParts p)
 
 -- "4. Not an event: kind, timer ..; when writing, a part too big. 5. Contact or notice where both stands are one."
 abbrev pub partsRefusals : Parts → List Refusal

@@ -12,8 +12,9 @@ use model::values::NodeNumber;
 use word_event::read_event;
 use word_event::word::EventWord;
 use word_event::write_event;
+use word_ring::mark;
 
-// The kind; the node or the position; the other node or the timer, 0 where the event has neither.
+// The kind; the node or the position; the other node, the timer, or 1 for a polite off; 0 where the event has none of them.
 pub struct Parts {
     pub kind: u32,
     pub first: u32,
@@ -64,7 +65,7 @@ fn of_event(e: Event) -> Parts
 {
     match e {
         Event::On(x) => make(EventWord::ON, x.0 as u32, 0),
-        Event::Off(x) => make(EventWord::OFF, x.0 as u32, 0),
+        Event::Off(x, polite) => make(EventWord::OFF, x.0 as u32, mark(polite)),
         Event::Notice(x, z) => make(EventWord::NOTICE, x.0 as u32, z.0 as u32),
         Event::Contact(x, y) => make(EventWord::CONTACT, x.0 as u32, y.0 as u32),
         Event::Timer(x, k) => make(EventWord::TIMER, x.0 as u32, k as u32),
@@ -89,7 +90,8 @@ fn fit(p: Parts) -> bool
 {
     let kind = p.kind;
     match kind {
-        EventWord::ON | EventWord::OFF => (p.second == 0) & (p.first < 64),
+        EventWord::ON => (p.second == 0) & (p.first < 64),
+        EventWord::OFF => (p.second <= 1) & (p.first < 64),
         EventWord::NOTICE | EventWord::CONTACT => (p.first < 64) & (p.second < 64),
         EventWord::TIMER => (p.first < 64) & (p.second <= 4),
         EventWord::DELIVER | EventWord::LOSE => (p.second == 0) & (p.first < EventWord::POSITIONS),
@@ -105,7 +107,7 @@ fn event(p: Parts) -> Event
     let kind = p.kind;
     match kind {
         EventWord::ON => Event::On(NodeNumber(p.first as u8)),
-        EventWord::OFF => Event::Off(NodeNumber(p.first as u8)),
+        EventWord::OFF => Event::Off(NodeNumber(p.first as u8), p.second == 1),
         EventWord::NOTICE => Event::Notice(NodeNumber(p.first as u8), NodeNumber(p.second as u8)),
         EventWord::CONTACT => Event::Contact(NodeNumber(p.first as u8), NodeNumber(p.second as u8)),
         EventWord::TIMER => Event::Timer(NodeNumber(p.first as u8), p.second as u8),

@@ -1,30 +1,40 @@
 -- What the notes of document 02 amend, by rows that are computed.
 use mathlib.Core.Path.{_≡_, refl}
-use mathlib.Core.List.{List, [], _∷_}
+use mathlib.Core.Bool.{Bool, true, false}
+use mathlib.Core.List.{List, [], _∷_, map}
 use Prim.Native.Nat.{ℕ}
+use lib.Dec.{eqb}
 use Rattle.model.specs.Choice.{if_then_else_}
 use Rattle.model.specs.Sets.{noneNode, ofBits, count, members}
 use Rattle.model.specs.Leafset.{Table, leafset}
-use Rattle.model.specs.Ring.{Own}
-use Rattle.model.specs.Types.{pongAskInv}
+use Rattle.model.specs.Ring.{Own, Ring, cleared}
+use Rattle.model.specs.Types.{pongAskInv, leave}
 use Rattle.model.specs.Words.{headWord, sidesOf}
-use Rattle.model.specs.Steps.{release, forget, notice, viewing, onPongAskInv, deliver}
+use Rattle.model.specs.Steps.{plain, viewing, release, forget, leaving, notice, onPongAskInv, onLeave, deliver}
+use Rattle.model.specs.Answers.{firstOf}
+use Rattle.model.specs.Events.{wordOf, eventOf, wordAnswer, readEvent}
+use Rattle.model.specs.Play.{after}
+use Rattle.model.specs.declared.event.Event.the-variants.{Off}
 
 -- ---- "Ghosts in the candidate list"
 
 unfoldable five : Table
 five = record { sides = record { ahead = 1; behind = 1 }; keys = 10 ∷ 20 ∷ 30 ∷ 40 ∷ 50 ∷ [] }
 
--- node 0 holds 1 and 2, and has the candidates that are given by their bits; then, at 9, it gets a notice of z
-unfoldable told : ℕ → ℕ → Own
-told S z = notice five 0 9 o z .own
-  where
-    o : Own
-    o = record { held = ofBits 0b00110; candidates = ofBits S; commit = λ y. if ofBits 0b00110 y then 5 else 0; spare = λ y. noneNode }
+-- node 0 holds 1 and 2, and has the candidates that are given by their bits
+unfoldable knowing : ℕ → Own
+knowing S = record { held = ofBits 0b00110; candidates = ofBits S; commit = λ y. if ofBits 0b00110 y then 5 else 0; spare = λ y. noneNode }
 
--- who is held then, and who is a candidate
+-- then, at 9, it gets a notice of z
+unfoldable told : ℕ → ℕ → Own
+told S z = notice five 0 9 (knowing S) z .own
+
+-- who is held, and who is a candidate
+known : Own → List (List ℕ)
+known o = members 5 (o .held) ∷ members 5 (o .candidates) ∷ []
+
 pub noticed : ℕ → ℕ → List (List ℕ)
-noticed S z = members 5 (told S z .held) ∷ members 5 (told S z .candidates) ∷ []
+noticed S z = known (told S z)
 
 -- after a notice of 3 an old type 4 from 1, whose view names 3, is delivered: the candidates then
 pub brought-back : List ℕ
@@ -38,6 +48,27 @@ uneven a b = members 6 (leafset six 0 (ofBits 0b111110))
   where
     six : Table
     six = record { sides = record { ahead = a; behind = b }; keys = 10 ∷ 20 ∷ 30 ∷ 40 ∷ 50 ∷ 60 ∷ [] }
+
+-- ---- "Leaving politely"
+
+-- at 9, node 0 gets type 13 from a
+pub left-by : ℕ → ℕ → List (List ℕ)
+left-by S a = known (deliver five 0 9 (knowing S) (plain leave a 0) .own)
+
+-- node 0 runs with clock 8, nodes 1 and 2 are off; then node 0 goes off, politely or not
+unfoldable gone : Bool → Ring
+gone polite = after r (Off (record { 0 = 0 }) polite)
+  where
+    r : Ring
+    r = record { table = five; node = λ x. if eqb x 0 then record { running = true; clock = 8; own = knowing 0b11000 } else record { running = false; clock = 0; own = cleared }; messages = [] }
+
+-- of each message its type, its ends and its subject
+pub sent : Bool → List (List ℕ)
+sent polite = map (λ m. m .type ∷ m .sender ∷ m .receiver ∷ m .subject ∷ []) (gone polite .messages)
+
+-- its clock, and what it knows then
+pub kept : Bool → List (List ℕ)
+kept polite = (gone polite .node 0 .clock ∷ []) ∷ known (gone polite .node 0 .own)
 
 -- the rows by name
 pub record Amended : Type 0 where
@@ -55,9 +86,23 @@ pub record Amended : Type 0 where
   -- "Word 0 has A in bits 0-3 and B in bits 22-25, so the bench case of document 01 opens with 10400031."
   pub head-word : headWord (record { ahead = 1; behind = 1 }) 3 0 ≡ 0x10400031
   pub head-sides : sidesOf 0x10C00031 ≡ record { ahead = 1; behind = 3 }
+  -- "The receiver of type 13 lets go of the sender and strikes it from the candidates": held and a candidate; held; a candidate; neither
+  pub leave-held-candidate : left-by 0b11010 1 ≡ (2 ∷ []) ∷ (3 ∷ 4 ∷ []) ∷ []
+  pub leave-held : left-by 0b11000 1 ≡ (2 ∷ []) ∷ (3 ∷ 4 ∷ []) ∷ []
+  pub leave-candidate : left-by 0b11000 3 ≡ (1 ∷ 2 ∷ []) ∷ (4 ∷ []) ∷ []
+  pub leave-neither : left-by 0b01000 4 ≡ (1 ∷ 2 ∷ []) ∷ (3 ∷ []) ∷ []
+  -- "first sends type 13 to each held stand, rising, and then acts as off": also to those that are off, and the clock stays
+  pub polite-sends : sent true ≡ (13 ∷ 0 ∷ 1 ∷ 64 ∷ []) ∷ (13 ∷ 0 ∷ 2 ∷ 64 ∷ []) ∷ []
+  pub plain-sends : sent false ≡ []
+  pub polite-keeps : kept true ≡ (8 ∷ []) ∷ [] ∷ [] ∷ []
+  -- "An off event with bit 12 set"; no other bit above the node's is named
+  pub polite-word : wordOf (Off (record { 0 = 2 }) true) ≡ 0xA0001002
+  pub polite-reads : readEvent 0xA0001002 .event ≡ Off (record { 0 = 2 }) true ∷ []
+  pub unnamed-below : wordAnswer 0xA0001040 ≡ 4
+  pub unnamed-above : wordAnswer 0xA0002000 ≡ 4
 
 pub amended : Amended
-unfolding count members five told noticed brought-back uneven release forget notice onPongAskInv deliver leafset headWord
+unfolding count members five knowing told known noticed brought-back uneven left-by gone sent kept release forget leaving notice onPongAskInv onLeave deliver after eventOf wordAnswer readEvent firstOf leafset headWord
 amended =
     record {
       notice-candidate = refl;
@@ -70,4 +115,15 @@ amended =
       three-and-three = refl;
       head-word = refl;
       head-sides = refl;
+      leave-held-candidate = refl;
+      leave-held = refl;
+      leave-candidate = refl;
+      leave-neither = refl;
+      polite-sends = refl;
+      plain-sends = refl;
+      polite-keeps = refl;
+      polite-word = refl;
+      polite-reads = refl;
+      unnamed-below = refl;
+      unnamed-above = refl;
     }

@@ -15,7 +15,7 @@ use Rattle.model.proofs.Laws.{if-law}
 
 pub refusals-refuse : (r : Ring) (e : Event) → Each (λ q. isAccepted (q .number) ≡ false) (refusals r e)
 refusals-refuse r (On x) = cons refl (cons refl (cons refl nil))
-refusals-refuse r (Off x) = cons refl (cons refl nil)
+refusals-refuse r (Off x polite) = cons refl (cons refl nil)
 refusals-refuse r (Notice x z) = cons refl (cons refl (cons refl (cons refl nil)))
 refusals-refuse r (Contact x y) = cons refl (cons refl (cons refl (cons refl nil)))
 refusals-refuse r (Timer x k) = cons refl (cons refl (cons refl nil))
@@ -29,7 +29,7 @@ left-refuses r = cons refl nil
 pub after-table : (r : Ring) (e : Event) → after r e .table ≡ r .table
 unfolding after act removeMessage
 after-table r (On x) = refl
-after-table r (Off x) = refl
+after-table r (Off x polite) = if-law (λ (q : Ring). q .table ≡ r .table) polite _ _ (λ e. refl) (λ e. refl)
 after-table r (Notice x z) = refl
 after-table r (Contact x y) = refl
 after-table r (Timer x k) = refl

@@ -1,4 +1,4 @@
--- Demand 3: from a point with no acknowledgement in flight, and while only harmless words are accepted, connected nodes stay so. Each word
+-- Demand 3: from a point with no acknowledgement and no type 13 from a running node in flight, and while only harmless words are accepted, connected nodes stay so. Each word
 -- is a step of Cut; the lent words follow the ring.
 use mathlib.Core.Path.{_≡_, refl, ap, _∙_}
 use mathlib.Core.Logic.{_↔_}
@@ -19,7 +19,7 @@ use Rattle.model.specs.Events.{eventOf}
 use Rattle.model.specs.Words.{encode, decode, readsAsRing}
 use Rattle.model.specs.Play.{after, playAnswer, playWord, playAll}
 use Rattle.model.specs.Buffer.{Written, playBuffer, playBufferAll}
-use Rattle.model.specs.ConnectivityPreserved.{NoAcknowledgement, Harmless, isHarmless, Reached, opened, played, wordsAt, readAt, answerAt, ringAt, AcceptedIsHarmless, Uncovered, isUncovered, uncovered, Unbroken, ConnectivityPreserved}
+use Rattle.model.specs.ConnectivityPreserved.{NoAcknowledgement, LeaversOff, Harmless, isHarmless, Reached, opened, played, wordsAt, readAt, answerAt, ringAt, AcceptedIsHarmless, Uncovered, isUncovered, uncovered, Unbroken, ConnectivityPreserved}
 use Rattle.model.specs.Connection.{Connected}
 use Rattle.model.specs.declared.event.Event.{Event}
 use Rattle.model.specs.declared.event.Event.the-variants.{On, Off, Notice, Contact, Timer, Deliver, Lose}
@@ -31,15 +31,15 @@ use Rattle.model.proofs.RoundTrip.{round-trip}
 use Rattle.model.proofs.Fits.{encoded-reads}
 use Rattle.model.proofs.WellFormedPlay.{word-well}
 use Rattle.model.proofs.Follows.{follows, opened-well, opened-words}
-use Rattle.model.proofs.Cut.{Step, Steps, stay, more, at-point, intact-steps, never-parted}
-use Rattle.model.proofs.Acting.{Requests, event-step, event-requests, initial-requests, unchanged}
+use Rattle.model.proofs.Cut.{Step, Steps, stay, more, at-point, leavers-steps, intact-steps, never-parted}
+use Rattle.model.proofs.Handlers.{Requests, event-step, event-requests, initial-requests, unchanged}
 
 -- ---- a word
 
 -- the test decides the definition
 harmless-decides : (r : Ring) (e : Event) → (isHarmless r e ≡ true) ↔ Harmless r e
 harmless-decides r (On x) = ((λ t. clash t refl), (λ h. absurd h))
-harmless-decides r (Off x) = ((λ t. clash t refl), (λ h. absurd h))
+harmless-decides r (Off x polite) = ((λ t. clash t refl), (λ h. absurd h))
 harmless-decides r (Notice x z) = (not-out (isRunning r (z .0)), (λ h. not-in h))
 harmless-decides r (Contact x y) = ((λ t. tt), (λ h. refl))
 harmless-decides r (Timer x k) = ((λ t. tt), (λ h. refl))
@@ -55,11 +55,11 @@ module _ (r : Ring) (well : WellFormed r) (q : Requests r) (w : ℕ) where
   unfolding playWord
   requests-word = if-law Requests (isAccepted (playAnswer r w)) (after r (eventOf w)) r (λ a. event-requests r well q (eventOf w)) (λ a. q)
 
-  step-word : HarmlessWord r w → Step r (playWord r w .ring)
+  step-word : LeaversOff r → HarmlessWord r w → Step r (playWord r w .ring)
   unfolding playWord
-  step-word harmless =
+  step-word off harmless =
       if-law (Step r) (isAccepted (playAnswer r w)) (after r (eventOf w)) r
-      (λ a. event-step r well q (eventOf w) (harmless (accepted-is (playAnswer r w) a)))
+      (λ a. event-step r well q off (eventOf w) (harmless (accepted-is (playAnswer r w) a)))
       (λ a. unchanged r)
 
 -- ---- a ring that was reached
@@ -111,18 +111,19 @@ module _ (start : List ℕ) (r : Ring) (reached : Reached start r) (words : List
 
   -- every word between two points is a step, where what is accepted is harmless
   steps-at :
-      (point later : ℕ) → point ≤ later → later ≤ length words
+      (point later : ℕ) → point ≤ later → later ≤ length words → LeaversOff (ring point)
       → ((k : ℕ) → point ≤ k → k < later → HarmlessWord (ring k) (getD words k 0))
       → Steps (ring point) (ring later)
-  steps-at point zero h l harmless = let e : point ≡ 0 = omega arith in rw e stay
-  steps-at point (suc k) h l harmless =
+  steps-at point zero h l off harmless = let e : point ≡ 0 = omega arith in rw e stay
+  steps-at point (suc k) h l off harmless =
       elim (ℕ-discrete point (suc k)) [
         | yes e ↦ rw e stay
         | no n ↦
             (let from : point ≤ k = omega arith in
+            let before : Steps (ring point) (ring k) = steps-at point k from (omega arith) off (λ j f h. harmless j f (omega arith)) in
             rw (next r words k l)
-            (more (steps-at point k from (omega arith) (λ j f h. harmless j f (omega arith)))
-            (step-word (ring k) (invariant-at k .well) (invariant-at k .requests) (getD words k 0) (harmless k from (omega arith)))))
+            (more before
+            (step-word (ring k) (invariant-at k .well) (invariant-at k .requests) (getD words k 0) (leavers-steps before off) (harmless k from (omega arith)))))
       ]
 
   -- ---- the lent words at the points
@@ -138,7 +139,7 @@ module _ (start : List ℕ) (r : Ring) (reached : Reached start r) (words : List
   harmless-at : (k : ℕ) → AcceptedIsHarmless start words k → HarmlessWord (ring k) (getD words k 0)
   harmless-at k h accepted = rw (ring-follows k) at (h (answers-follow k ∙ accepted))
 
-  -- ---- two points from one on at which no acknowledgement is in flight
+  -- ---- two points from one on at which no acknowledgement and no type 13 from a running node is in flight
 
   abbrev accepted : ℕ → Bool
   accepted i = isAccepted (answerAt start words i)
@@ -155,6 +156,7 @@ module _ (start : List ℕ) (r : Ring) (reached : Reached start r) (words : List
   module _
       (point : ℕ)
       (none : NoAcknowledgement (readAt start words point))
+      (off : LeaversOff (readAt start words point))
       (earlier later : ℕ)
       (from : point ≤ earlier)
       (on : earlier ≤ later)
@@ -164,12 +166,12 @@ module _ (start : List ℕ) (r : Ring) (reached : Reached start r) (words : List
           ((k : ℕ) → point ≤ k → k < later → AcceptedIsHarmless start words k)
           → (a b : ℕ) → Connected (readAt start words earlier) a b → Connected (readAt start words later) a b
       kept-later covered a b path =
+          let gone : LeaversOff (ring point) = rw (ring-follows point) at off in
+          let before : Steps (ring point) (ring earlier) = steps-at point earlier from (omega arith) gone (λ k f l. harmless-at k (covered k f (omega arith))) in
           rw (ring-follows later)
           (never-parted (λ y h. invariant-at later .well .node-well y .running-low h)
-          (intact-steps
-          (steps-at point earlier from (omega arith) (λ k f l. harmless-at k (covered k f (omega arith))))
-          (at-point (rw (ring-follows point) at none)))
-          (steps-at earlier later on within (λ k f l. harmless-at k (covered k (omega arith) l)))
+          (intact-steps before (at-point (rw (ring-follows point) at none)))
+          (steps-at earlier later on within (leavers-steps before gone) (λ k f l. harmless-at k (covered k (omega arith) l)))
           (rw (ring-follows earlier) at path))
 
       -- if nothing were listed, all would be harmless
@@ -204,8 +206,8 @@ module _ (start : List ℕ) (r : Ring) (reached : Reached start r) (words : List
         words-follow = λ i h. invariant-at i .encoded;
         ring-follows = λ i h. ring-follows i;
         answers-follow = λ i h. answers-follow i;
-        connection-kept = λ point in-list none harmless a b path later after-point within.
-            kept-later point none point later (le-refl point) after-point within (λ k from l. harmless k from (omega arith)) a b path;
+        connection-kept = λ point in-list none off harmless a b path later after-point within.
+            kept-later point none off point later (le-refl point) after-point within (λ k from l. harmless k from (omega arith)) a b path;
         connection-kept-later = kept-later;
         parting-is-uncovered = parting;
         uncovered-are = uncovered-are;

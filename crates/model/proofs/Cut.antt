@@ -8,9 +8,10 @@ use native.Mathlib.Decide.{ℕ-discrete}
 use mathlib.Core.Bool.{true, false, _&&_, _||_, Bool-discrete}
 use mathlib.Core.List.{List·Memᴰ}
 use Rattle.model.specs.Sets.{Set}
+use Rattle.model.specs.Types.{leave}
 use Rattle.model.specs.Ring.{Ring, Message, holds, isRunning}
 use Rattle.model.specs.Connection.{linked, Connected, itself, onward, connected}
-use Rattle.model.specs.ConnectivityPreserved.{NoAcknowledgement}
+use Rattle.model.specs.ConnectivityPreserved.{NoAcknowledgement, LeaversOff}
 use Rattle.model.proofs.Laws.{clash, and-left, and-right, and-in, or-left, or-right, or-case, decide, same-test}
 use Rattle.model.proofs.Connection.{InTable, starts, further, decides}
 
@@ -60,12 +61,13 @@ pub data Change (r s : Ring) : Type 0 where
       → ((a : Message) → Acknowledgement s a → Acknowledgement r a)
       → Change r s
 
--- besides, nobody starts or stops, no clock falls, and a pair that was not held before is young
+-- besides, nobody starts or stops, no clock falls, a pair that was not held before is young, and no type 13 is new
 pub record Step (r s : Ring) : Type 0 where
   pub running : (x : ℕ) → isRunning s x ≡ isRunning r x
   pub clocks : (x : ℕ) → clock r x ≤ clock s x
   pub change : Change r s
   pub newly : (x z : ℕ) → holds r x z ≡ false → holds s x z ≡ true → clock r x < commit s x z
+  pub leavers : (m : Message) → List·Memᴰ m (s .messages) → m .type ≡ leave → List·Memᴰ m (r .messages)
 
 -- ---- what holds of the acknowledgements in flight
 
@@ -213,6 +215,11 @@ module _ (r s : Ring) (step : Step r s) (sound : Sound r) where
 pub data Steps (r : Ring) : Ring → Type 0 where
   stay : Steps r r
   more : {s u : Ring} → Steps r s → Step s u → Steps r u
+
+-- who has said that it leaves stays off
+pub leavers-steps : {r s : Ring} → Steps r s → LeaversOff r → LeaversOff s
+leavers-steps stay off = off
+leavers-steps (more steps step) off = λ m h is. step .running (m .sender) ∙ leavers-steps steps off m (step .leavers m h is) is
 
 -- at the point no acknowledgement is in flight: every pair across a cut serves
 pub at-point : {r : Ring} → NoAcknowledgement r → Intact r

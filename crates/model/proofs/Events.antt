@@ -9,7 +9,7 @@ use lib.Dec.{ltb, eqb, lit<}
 use borrow.Author.Tests.{ltb-true, leb-true, eqb-true, eq-eqb}
 use Rattle.model.specs.Choice.{if_then_else_}
 use Rattle.model.specs.WellFormed.{Each, nil, cons}
-use Rattle.model.specs.Fields.{bits, kind, ofKind}
+use Rattle.model.specs.Fields.{bits, bit, flag, kind, ofKind}
 use Rattle.model.specs.Answers.{firstOf, isAccepted}
 use Rattle.model.specs.Events.{wordOf, eventOf, partsFit, sameNode, eventRefusals, eventAnswer, isEventWord, wordRefusals, wordAnswer, readEvent, readingOf}
 use Rattle.model.specs.declared.event.Event.{Event}
@@ -18,6 +18,7 @@ use Rattle.model.specs.declared.event.Reading.the-variants.{Read}
 use Rattle.model.proofs.Laws.{and-left, and-right, not-out-false}
 use Rattle.model.proofs.Lists.{first, rest}
 use Rattle.model.proofs.Fields.{field}
+use Rattle.model.proofs.Bits.{bit<, is-bit}
 use Rattle.model.proofs.Answers.{accepted-is, none-applies}
 
 -- ---- the named bits of an event's word
@@ -42,13 +43,20 @@ two-nodes k x z hk h l =
       high-back = field 6 6 (k * 2 ^ 16) z x (omega arith) h l;
     }
 
-node-and-timer : (x i : ℕ) → x < 64 → i ≤ 4 → TwoParts 13 12 3 x i
-node-and-timer x i h l =
+node-and-number : (k x i : ℕ) → k < 16 → x < 64 → i < 8 → TwoParts k 12 3 x i
+node-and-number k x i hk h l =
     record {
-      kind-back = kind-is 13 (i * 2 ^ 12 + x) (lit< tt) (omega arith);
-      low-back = field 0 6 (13 * 2 ^ 22 + i * 2 ^ 6) x 0 (omega arith) (lit< tt) h;
-      high-back = field 12 3 (13 * 2 ^ 13) i x (omega arith) (omega arith) (omega arith);
+      kind-back = kind-is k (i * 2 ^ 12 + x) hk (omega arith);
+      low-back = field 0 6 (k * 2 ^ 22 + i * 2 ^ 6) x 0 (omega arith) (lit< tt) h;
+      high-back = field 12 3 (k * 2 ^ 13) i x (omega arith) (omega arith) l;
     }
+
+-- a mark, whose number is the lowest bit there
+mark-back : (w : ℕ) (b : Bool) → bits 12 3 w ≡ bit b → flag 12 w ≡ b
+mark-back w b e = ap (λ (v : ℕ). eqb v 1) (lowest (bit b) e (bit< b)) ∙ is-bit b
+  where
+    lowest : (v : ℕ) → bits 12 3 w ≡ v → v < 2 → bits 12 1 w ≡ v
+    lowest v i h = omega arith
 
 -- the named bits of an event's word give that event
 event-of-word : (e : Event) → partsFit e ≡ true → eventOf (wordOf e) ≡ e
@@ -56,9 +64,9 @@ unfolding eventOf
 event-of-word (On x) t =
     let h = ltb-true (x .0) 64 t in
     rw (kind-is 9 (x .0) (lit< tt) (omega arith), low-is 9 6 (2 ^ 22) (x .0) refl h)
-event-of-word (Off x) t =
-    let h = ltb-true (x .0) 64 t in
-    rw (kind-is 10 (x .0) (lit< tt) (omega arith), low-is 10 6 (2 ^ 22) (x .0) refl h)
+event-of-word (Off x polite) t =
+    let p = node-and-number 10 (x .0) (bit polite) (lit< tt) (ltb-true (x .0) 64 t) (omega (arith, bit< polite)) in
+    rw (p .kind-back, p .low-back, mark-back _ polite (p .high-back))
 event-of-word (Notice x z) t =
     let p = two-nodes 11 (x .0) (z .0) (lit< tt) (ltb-true (x .0) 64 (and-left _ _ t)) (ltb-true (z .0) 64 (and-right (ltb (x .0) 64) _ t)) in
     rw (p .kind-back, p .low-back, p .high-back)
@@ -66,7 +74,7 @@ event-of-word (Contact x y) t =
     let p = two-nodes 12 (x .0) (y .0) (lit< tt) (ltb-true (x .0) 64 (and-left _ _ t)) (ltb-true (y .0) 64 (and-right (ltb (x .0) 64) _ t)) in
     rw (p .kind-back, p .low-back, p .high-back)
 event-of-word (Timer x i) t =
-    let p = node-and-timer (x .0) i (ltb-true (x .0) 64 (and-left _ _ t)) (leb-true i 4 (and-right (ltb (x .0) 64) _ t)) in
+    let p = node-and-number 13 (x .0) i (lit< tt) (ltb-true (x .0) 64 (and-left _ _ t)) (omega (arith, leb-true i 4 (and-right (ltb (x .0) 64) _ t))) in
     rw (p .kind-back, p .low-back, p .high-back)
 event-of-word (Deliver i) t =
     let h = ltb-true i 1024 t in

@@ -16,7 +16,7 @@ pub mod WellFormedPlay
 pub mod Connection
 pub mod Groups
 pub mod Cut
-pub mod Acting
+pub mod Handlers
 pub mod Follows
 pub mod ConnectivityPreserved
 pub mod LeafsetSize

@@ -55,7 +55,7 @@ lowest-at-opening ws t = lowest-given 0 (openRefusals ws t) refl
 -- the refusals of each event rise from 7 on
 rising-state : (r : Ring) (e : Event) → risingFrom 6 (stateRefusals r e) ≡ true
 rising-state r (On x) = refl
-rising-state r (Off x) = refl
+rising-state r (Off x polite) = refl
 rising-state r (Notice x z) = refl
 rising-state r (Contact x y) = refl
 rising-state r (Timer x k) = refl

@@ -32,10 +32,10 @@ column used S none e low k = ap (λ (R : Set). R k) (sym (bits-back 16 (λ k. us
     below : (k : ℕ) → used (usesOf k) ≡ true → k < 16
     below k u = elim (decLt k 16) [ yes h ↦ h | no d ↦ clash u (ap used (beyond k (omega arith)) ∙ none) ]
 
--- "types are 1 to 12"; "Type 4 uses the view; 8 and 11 the subject; 9 and 10 subject and stamp; the others none"; "Of the four that use the
+-- "types are 1 to 12", and 13; "Type 4 uses the view; 8 and 11 the subject; 9 and 10 subject and stamp; the others none"; "Of the four that use the
 -- subject, only type 8 may have 64 there"
 pub record TypesUse : Type 0 where
-  pub number : types ≡ 12
+  pub number : types ≡ 13
   pub view : (k : ℕ) → usesView k ≡ eqb k 4
   pub subject : (k : ℕ) → usesSubject k ≡ between 8 11 k
   pub stamp : (k : ℕ) → usesStamp k ≡ between 9 10 k

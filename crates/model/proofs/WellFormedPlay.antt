@@ -16,7 +16,7 @@ use Rattle.model.specs.Answers.{Refusal, firstOf, isAccepted}
 use Rattle.model.specs.Events.{eventOf, sameNode, wordRefusals}
 use Rattle.model.specs.Words.{between, sidesFit, inRange, keysDiffer}
 use Rattle.model.specs.Buffer.{wrongLength, openingRefusals, openAnswer}
-use Rattle.model.specs.Play.{setNode, removeMessage, act, after, refusals, leftRefusals, stateRefusals, playAnswer, playWord}
+use Rattle.model.specs.Play.{setNode, stopped, sendLeave, removeMessage, act, after, refusals, leftRefusals, stateRefusals, playAnswer, playWord}
 use Rattle.model.specs.declared.event.Event.{Event}
 use Rattle.model.specs.declared.event.Event.the-variants.{On, Off, Notice, Contact, Timer, Deliver, Lose}
 use Rattle.model.proofs.Fits.{sides-out}
@@ -25,7 +25,7 @@ use Rattle.model.proofs.Lists.{first, rest, each-at, each-append, each-
 use Rattle.model.proofs.Cases.{refusals-refuse, left-refuses}
 use Rattle.model.proofs.Answers.{accepted-is, none-applies}
 use Rattle.model.proofs.Events.{EventWord, event-word}
-use Rattle.model.proofs.WellFormedSteps.{WellFormedEffect, cleared-well, later-well, contact-well, notice-well, timer-well, deliver-well}
+use Rattle.model.proofs.WellFormedSteps.{WellFormedEffect, cleared-well, later-well, leaving-well, contact-well, notice-well, timer-well, deliver-well}
 
 -- ---- refusals
 
@@ -104,6 +104,27 @@ act-well r x step g running clock f =
       messages-well = each-append (g .messages-well) (e .sent-well);
     }
 
+stopped-well : (r : Ring) (x : ℕ) → WellFormedParts r → WellFormedNode (size (r .table)) x (stopped (r .node x))
+stopped-well r x g =
+    let gn : WellFormedNode (size (r .table)) x (r .node x) = g .node-well x in
+    record {
+      running-low = λ e. clash e refl;
+      clock-high = gn .clock-high;
+      clock-none = gn .clock-none;
+      own-well = cleared-well (size (r .table)) x (r .node x .clock);
+      off-held = λ e z. refl;
+      off-candidates = λ e z. refl;
+    }
+
+send-leave-well : (r : Ring) (x : ℕ) → WellFormedParts r → x < size (r .table) → WellFormedParts (sendLeave x r)
+send-leave-well r x g low =
+    record {
+      table-well = g .table-well;
+      node-well = g .node-well;
+      messages-well = each-append (g .messages-well)
+          (leaving-well (r .table) x (r .node x .clock) (r .node x .own) low (g .node-well x .own-well));
+    }
+
 after-well : (r : Ring) (e : Event) → WellFormedParts r → sameNode e ≡ false → NoneApplies (stateRefusals r e) → WellFormedParts (after r e)
 unfolding after removeMessage
 after-well r (On x) g d p =
@@ -112,17 +133,10 @@ after-well r (On x) g d p =
     (node-later (size (r .table)) (x .0) (r .node (x .0) .own) (r .node (x .0) .clock + 1) (below r (x .0) (first p))
     (unspent (r .node (x .0) .clock) (gn .clock-high) (first (rest (rest p))))
     (later-well (size (r .table)) (x .0) (r .node (x .0) .clock) (r .node (x .0) .clock + 1) (r .node (x .0) .own) (omega arith) (gn .own-well)))
-after-well r (Off x) g d p =
-    let gn : WellFormedNode (size (r .table)) (x .0) (r .node (x .0)) = g .node-well (x .0) in
-    set-node-well r (x .0) _ g
-    (record {
-      running-low = λ e. clash e refl;
-      clock-high = gn .clock-high;
-      clock-none = gn .clock-none;
-      own-well = cleared-well (size (r .table)) (x .0) (r .node (x .0) .clock);
-      off-held = λ e z. refl;
-      off-candidates = λ e z. refl;
-    })
+after-well r (Off x polite) g d p =
+    if-law (λ (q : Ring). WellFormedParts (setNode (x .0) (stopped (r .node (x .0))) q)) polite (sendLeave (x .0) r) r
+    (λ e. set-node-well (sendLeave (x .0) r) (x .0) _ (send-leave-well r (x .0) g (below r (x .0) (first p))) (stopped-well r (x .0) g))
+    (λ e. set-node-well r (x .0) _ g (stopped-well r (x .0) g))
 after-well r (Notice x z) g d p =
     act-well r (x .0) _ g (not-out-false (isRunning r (x .0)) (first (rest (rest p)))) (first (rest (rest (rest p))))
     (λ now pos high low o. notice-well (r .table) (g .table-well) now pos high (r .node (x .0) .own) (x .0) low o (z .0))

@@ -11,9 +11,9 @@ use Rattle.model.specs.Choice.{if_then_else_}
 use Rattle.model.specs.Sets.{Set, empty, with, without, union, members, some}
 use Rattle.model.specs.Leafset.{Table, size, leafset, closest, successor, passesZero}
 use Rattle.model.specs.Ring.{Own, Message, cleared}
-use Rattle.model.specs.Types.{Uses, nothingUsed, viewUsed, subjectUsed, spareUsed, subjectAndStampUsed, usedByType, usesOf, usesSubject, namesSpare, pingContact, pongContact, pingAskInv, pongAskInv, pingInvite, pongInvite, pingAskRepl, pongAskRepl, pingReplace, pongReplace, pingDeloopy, pongDeloopy}
+use Rattle.model.specs.Types.{Uses, nothingUsed, viewUsed, subjectUsed, spareUsed, subjectAndStampUsed, usedByType, usesOf, usesSubject, namesSpare, pingContact, pongContact, pingAskInv, pongAskInv, pingInvite, pongInvite, pingAskRepl, pongAskRepl, pingReplace, pongReplace, pingDeloopy, pongDeloopy, leave}
 use Rattle.model.specs.Words.{isType}
-use Rattle.model.specs.Steps.{Effect, stamped, naming, plain, viewing, setCandidates, setCommit, setSpare, addCandidates, addCandidate, hold, release, forget, contact, notice, timer0, timer1, timer2, timer3, timer4, timer, onPingContact, onPongContact, onPingAskInv, onPongAskInv, onPingInvite, onPongInvite, onPingAskRepl, onPongAskRepl, onPingReplace, onPongReplace, onPingDeloopy, onPongDeloopy, deliver}
+use Rattle.model.specs.Steps.{Effect, stamped, naming, plain, viewing, setCandidates, setCommit, setSpare, addCandidates, addCandidate, hold, release, forget, leaving, contact, notice, timer0, timer1, timer2, timer3, timer4, timer, onPingContact, onPongContact, onPingAskInv, onPongAskInv, onPingInvite, onPongInvite, onPingAskRepl, onPongAskRepl, onPingReplace, onPongReplace, onPingDeloopy, onPongDeloopy, onLeave, deliver}
 use Rattle.model.proofs.Laws.{clash, and-left, and-right, and-in, or-right, or-case, or-none-left, or-none-right, not-in, not-out, not-out-false, is-false, if-law, put-law}
 use Rattle.model.specs.WellFormed.{WellFormedTable, Other, Spare, none, spare, WellFormedOwn, WellFormedMessage, Each, nil, cons}
 use Rattle.model.proofs.Lists.{each-map, item, end, listed-at}
@@ -203,6 +203,16 @@ pub record WellFormedEffect (n x now : ℕ) (e : Effect) : Type 0 where
 each-sent : (n : ℕ) (S : Set) (make : ℕ → Message) → ((y : ℕ) → S y ≡ true → WellFormedMessage n (make y)) → Each (WellFormedMessage n) (map make (members n S))
 each-sent n S make f = each-map make (λ y m. f y (m .within)) (members-are n S)
 
+-- a message that uses nothing, to each of the held
+held-sent : (n me now : ℕ) (o : Own) → me < n → WellFormedOwn n me now o → (k : ℕ) → isType k ≡ true → usesOf k ≡ nothingUsed
+    → Each (WellFormedMessage n) (map (plain k me) (members n (o .held)))
+held-sent n me now o low g k p u = each-sent n (o .held) (plain k me) (λ y e. plain-well n k me y p low (g .held-other y e) u)
+
+pub leaving-well : (t : Table) (me now : ℕ) (o : Own) → me < size t → WellFormedOwn (size t) me now o
+    → Each (WellFormedMessage (size t)) (leaving t me now o .sent)
+unfolding leaving usedByType
+leaving-well t me now o low g = held-sent (size t) me now o low g leave refl refl
+
 module _ (t : Table) (gt : WellFormedTable t) (now : ℕ) (positive : 0 < now) (high : now ≤ 16777215) (o : Own) where
   module _ (me : ℕ) (low : me < size t) (g : WellFormedOwn (size t) me now o) where
     nothing-well : WellFormedEffect (size t) me now (record { own = o; sent = [] })
@@ -221,11 +231,7 @@ module _ (t : Table) (gt : WellFormedTable t) (now : ℕ) (positive : 0 < now) (
 
     timer0-well : WellFormedEffect (size t) me now (timer0 t me now o)
     unfolding timer0 usedByType
-    timer0-well =
-        record {
-          own-well = g;
-          sent-well = each-sent (size t) (o .held) (λ y. plain pingAskInv me y) (λ y e. plain-well (size t) pingAskInv me y refl low (g .held-other y e) refl);
-        }
+    timer0-well = record { own-well = g; sent-well = held-sent (size t) me now o low g pingAskInv refl refl }
 
     timer1-well : WellFormedEffect (size t) me now (timer1 t me now o)
     unfolding timer1 usedByType
@@ -432,6 +438,10 @@ module _ (t : Table) (gt : WellFormedTable t) (now : ℕ) (positive : 0 < now) (
     unfolding onPongDeloopy
     on-pong-deloopy-well = record { own-well = add-candidate-well (size t) me now o g a from; sent-well = nil }
 
+    on-leave-well : Good (onLeave t me now o m)
+    unfolding onLeave
+    on-leave-well = record { own-well = forget-well (size t) me now o g a; sent-well = nil }
+
     pub deliver-well : Good (deliver t me now o m)
     unfolding deliver
     deliver-well =
@@ -449,6 +459,7 @@ module _ (t : Table) (gt : WellFormedTable t) (now : ℕ) (positive : 0 < now) (
         (item (λ i. on-pong-replace-well)
         (item on-ping-deloopy-well
         (item (λ i. on-pong-deloopy-well)
-        end)))))))))))))
+        (item (λ i. on-leave-well)
+        end))))))))))))))
         (m .type)
         refl

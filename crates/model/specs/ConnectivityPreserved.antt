@@ -11,7 +11,7 @@ use Rattle.model.specs.Leafset.{Table}
 use Rattle.model.specs.Ring.{Ring, Message, initial, isRunning}
 use Rattle.model.specs.WellFormed.{Each}
 use Rattle.model.specs.Answers.{isAccepted}
-use Rattle.model.specs.Types.{pongReplace}
+use Rattle.model.specs.Types.{pongReplace, leave}
 use Rattle.model.specs.Events.{eventOf}
 use Rattle.model.specs.Play.{playWord, playAll}
 use Rattle.model.specs.Buffer.{openBuffer, playBuffer, playBufferAll}
@@ -24,10 +24,14 @@ use Rattle.model.specs.declared.event.Event.the-variants.{On, Off, Notic
 abbrev pub NoAcknowledgement : Ring → Type 0
 NoAcknowledgement r = (m : Message) → List·Memᴰ m (r .messages) → ¬ (m .type ≡ pongReplace)
 
--- neither on nor off; a notice names a node that is off in the ring on which it is played
+-- "no type 13 from a running stand is travelling": who says that it leaves is off
+abbrev pub LeaversOff : Ring → Type 0
+LeaversOff r = (m : Message) → List·Memᴰ m (r .messages) → m .type ≡ leave → isRunning r (m .sender) ≡ false
+
+-- neither on nor off, polite or not; a notice names a node that is off in the ring on which it is played
 abbrev pub Harmless : Ring → Event → Type 0
 Harmless r (On x) = ⊥
-Harmless r (Off x) = ⊥
+Harmless r (Off x polite) = ⊥
 Harmless r (Notice x z) = isRunning r (z .0) ≡ false
 Harmless r (Contact x y) = Unit
 Harmless r (Timer x k) = Unit
@@ -37,7 +41,7 @@ Harmless r (Lose i) = Unit
 -- a test for it
 abbrev pub isHarmless : Ring → Event → Bool
 isHarmless r (On x) = false
-isHarmless r (Off x) = false
+isHarmless r (Off x polite) = false
 isHarmless r (Notice x z) = not (isRunning r (z .0))
 isHarmless r (Contact x y) = true
 isHarmless r (Timer x k) = true
@@ -91,12 +95,13 @@ module _ (start words : List ℕ) where
     pub ring-follows : (i : ℕ) → i ≤ length words → readAt i ≡ ringAt r i
     -- "The answer of each call .. equal what those rules give"
     pub answers-follow : (i : ℕ) → i < length words → answerAt i ≡ playWord (ringAt r i) (getD words i 0) .answer
-    -- Take any point at which no replacement acknowledgement is in flight. Suppose that after it no on and no off is accepted, and
-    -- that each notice accepted after it names a node that is off. Then any two nodes connected at that point are connected at
+    -- Take any point at which no replacement acknowledgement is in flight, and no type 13 from a running node. Suppose that after it no
+    -- on and no off is accepted, and that each notice accepted after it names a node that is off. Then any two nodes connected at that point are connected at
     -- every later point of the list.
     pub connection-kept :
         (point : ℕ) → point ≤ length words
         → NoAcknowledgement (readAt point)
+        → LeaversOff (readAt point)
         → ((k : ℕ) → point ≤ k → k < length words → AcceptedIsHarmless k)
         → (a b : ℕ) → Connected (readAt point) a b
         → (later : ℕ) → point ≤ later → later ≤ length words
@@ -105,7 +110,7 @@ module _ (start words : List ℕ) where
     -- accepted between the point and the later one. Then any two nodes connected at the earlier one are connected at the later
     -- one, although acknowledgements may be in flight at the earlier one, and the two may have become connected only after the point.
     pub connection-kept-later :
-        (point : ℕ) → NoAcknowledgement (readAt point)
+        (point : ℕ) → NoAcknowledgement (readAt point) → LeaversOff (readAt point)
         → (earlier later : ℕ) → point ≤ earlier → earlier ≤ later → later ≤ length words
         → ((k : ℕ) → point ≤ k → k < later → AcceptedIsHarmless k)
         → (a b : ℕ) → Connected (readAt earlier) a b
@@ -114,7 +119,7 @@ module _ (start words : List ℕ) where
     -- between the point and the later one is accepted and not harmless: the list of these is not empty. The two need not both run
     -- at the later one, since switching off is such a word.
     pub parting-is-uncovered :
-        (point : ℕ) → NoAcknowledgement (readAt point)
+        (point : ℕ) → NoAcknowledgement (readAt point) → LeaversOff (readAt point)
         → (earlier later : ℕ) → point ≤ earlier → earlier ≤ later → later ≤ length words
         → (a b : ℕ) → Connected (readAt earlier) a b → ¬ Connected (readAt later) a b
         → 0 < length (uncovered point later)

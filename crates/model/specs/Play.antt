@@ -8,7 +8,7 @@ use Rattle.model.specs.Choice.{if_then_else_}
 use Rattle.model.specs.Sets.{put}
 use Rattle.model.specs.Leafset.{size}
 use Rattle.model.specs.Ring.{Own, Node, Message, Ring, cleared, isRunning, messageAt}
-use Rattle.model.specs.Steps.{Effect, contact, notice, timer, deliver}
+use Rattle.model.specs.Steps.{Effect, leaving, contact, notice, timer, deliver}
 use Rattle.model.specs.Answers.{Refusal, firstOf, isAccepted}
 use Rattle.model.specs.Events.{eventOf, wordRefusals}
 use Rattle.model.specs.declared.event.Event.{Event}
@@ -46,10 +46,14 @@ act x step r =
     effect : Effect
     effect = step now (r .node x .own)
 
+-- "first sends type 13 to each held stand, rising": the clock stays
+abbrev pub sendLeave : ℕ → Ring → Ring
+sendLeave x r = setMessages (r .messages ++ leaving (r .table) x (r .node x .clock) (r .node x .own) .sent) r
+
 -- the ring that an accepted event leaves
 unfoldable pub after : Ring → Event → Ring
 after r (On x) = setNode (x .0) (started (r .node (x .0))) r
-after r (Off x) = setNode (x .0) (stopped (r .node (x .0))) r
+after r (Off x polite) = setNode (x .0) (stopped (r .node (x .0))) (if polite then sendLeave (x .0) r else r)
 after r (Notice x z) = act (x .0) (λ now o. notice (r .table) (x .0) now o (z .0)) r
 after r (Contact x y) = act (x .0) (λ now o. contact (r .table) (x .0) now o (y .0)) r
 after r (Timer x k) = act (x .0) (λ now o. timer (r .table) (x .0) now o k) r
@@ -85,7 +89,7 @@ module _ (r : Ring) where
   -- the refusals of each event, in rising order
   abbrev pub refusals : Event → List Refusal
   refusals (On x) = noNode (x .0) ∷ alreadyRunning (x .0) ∷ clockSpent true (x .0) ∷ []
-  refusals (Off x) = noNode (x .0) ∷ nodeOff (x .0) ∷ []
+  refusals (Off x polite) = noNode (x .0) ∷ nodeOff (x .0) ∷ []
   refusals (Notice x z) = noNode (x .0) ∷ noNode (z .0) ∷ nodeOff (x .0) ∷ clockSpent true (x .0) ∷ []
   refusals (Contact x y) = noNode (x .0) ∷ noNode (y .0) ∷ nodeOff (x .0) ∷ clockSpent true (x .0) ∷ []
   refusals (Timer x k) = noNode (x .0) ∷ nodeOff (x .0) ∷ clockSpent true (x .0) ∷ []

@@ -8,7 +8,7 @@ use Rattle.model.specs.Choice.{if_then_else_}
 use Rattle.model.specs.Sets.{Set, empty, with, without, union, put, members, some, noneNode}
 use Rattle.model.specs.Leafset.{Table, size, leafset, closest, successor, passesZero}
 use Rattle.model.specs.Ring.{Own, Message}
-use Rattle.model.specs.Types.{pingContact, pongContact, pingAskInv, pongAskInv, pingInvite, pongInvite, pingAskRepl, pongAskRepl, pingReplace, pongReplace, pingDeloopy, pongDeloopy}
+use Rattle.model.specs.Types.{pingContact, pongContact, pingAskInv, pongAskInv, pingInvite, pongInvite, pingAskRepl, pongAskRepl, pingReplace, pongReplace, pingDeloopy, pongDeloopy, leave}
 
 -- what a step leaves: the own record, and the new messages, oldest first
 pub record Effect : Type 0 where
@@ -88,6 +88,10 @@ module _ (t : Table) (me now : ℕ) (o : Own) where
   -- a notice, as document 02's note 1 has it
   unfoldable pub notice : ℕ → Effect
   notice z = quiet (forget z o)
+
+  -- "An off event with bit 12 set first sends type 13 to each held stand, rising"
+  unfoldable pub leaving : Effect
+  leaving = send (toEach (o .held) (λ y. plain leave me y))
 
   -- "2. Timer 0: type 3 to each held stand."
   unfoldable pub timer0 : Effect
@@ -188,12 +192,17 @@ module _ (t : Table) (me now : ℕ) (o : Own) where
     unfoldable pub onPongDeloopy : Effect
     onPongDeloopy = quiet (addCandidate (m .sender) o)
 
+    -- "The receiver of type 13 lets go of the sender and strikes it from the candidates."
+    unfoldable pub onLeave : Effect
+    onLeave = quiet (forget (m .sender) o)
+
     unfoldable pub deliver : Effect
     deliver =
         getD
         (nothing
         ∷ onPingContact ∷ onPongContact ∷ onPingAskInv ∷ onPongAskInv ∷ onPingInvite ∷ onPongInvite
         ∷ onPingAskRepl ∷ onPongAskRepl ∷ onPingReplace ∷ onPongReplace ∷ onPingDeloopy ∷ onPongDeloopy
+        ∷ onLeave
         ∷ [])
         (m .type)
         nothing

@@ -42,6 +42,10 @@ pingDeloopy = 11
 abbrev pub pongDeloopy : ℕ
 pongDeloopy = 12
 
+-- "Type 13 joins the types valid in a ring"; no source names it
+abbrev pub leave : ℕ
+leave = 13
+
 -- what of a message a type uses; whether its subject is a spare: 64, or a node other than both ends
 pub record Uses : Type 0 where
   pub view : Bool
@@ -65,7 +69,7 @@ abbrev pub subjectAndStampUsed : Uses
 subjectAndStampUsed = record { view = false; subject = true; spare = false; stamp = true }
 
 -- "Type 4 uses the view; 8 and 11 the subject; 9 and 10 subject and stamp; the others none. Of the four that use the subject, only type 8
--- may have 64 there": a row a type, from type 1 on
+-- may have 64 there"; type 13 "uses no subject, stamp or view": a row a type, from type 1 on
 unfoldable pub usedByType : List Uses
 usedByType =
     nothingUsed  -- pingContact
@@ -80,6 +84,7 @@ usedByType =
     ∷ subjectAndStampUsed  -- pongReplace
     ∷ subjectUsed  -- pingDeloopy
     ∷ nothingUsed  -- pongDeloopy
+    ∷ nothingUsed  -- leave
     ∷ []
 
 -- how many types there are

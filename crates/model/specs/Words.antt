@@ -194,7 +194,7 @@ nodeFits t s x =
     ∷ (not (s .running) ⇒ all (size t) (λ z. not (s .own .held z) && not (s .own .candidates z)))
     ∷ [])
 
--- "types are 1 to 12"
+-- "types are 1 to 12", and 13
 abbrev pub isType : ℕ → Bool
 isType type = between 1 types type
 

@@ -5,7 +5,8 @@ use super::values::NodeNumber;
 // An event: the nodes, the timer or the message position that its word holds.
 pub enum Event {
     On(NodeNumber),
-    Off(NodeNumber),
+    // Whether it is polite.
+    Off(NodeNumber, bool),
     Notice(NodeNumber, NodeNumber),
     Contact(NodeNumber, NodeNumber),
     Timer(NodeNumber, u8),

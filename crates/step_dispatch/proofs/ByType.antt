@@ -11,7 +11,7 @@ use Rattle.model.specs.Ring.{Own, Message}
 use Rattle.model.specs.Types.{usesSubject, namesSpare}
 use Rattle.model.specs.declared.message.MessageRecord.{MessageRecord}
 use Rattle.records.specs.Effects.{Delivered}
-use Rattle.model.specs.Steps.{Effect, nothing, deliver, onPingContact, onPongContact, onPingAskInv, onPongAskInv, onPingInvite, onPongInvite, onPingAskRepl, onPongAskRepl, onPingReplace, onPongReplace, onPingDeloopy, onPongDeloopy}
+use Rattle.model.specs.Steps.{Effect, nothing, deliver, onPingContact, onPongContact, onPingAskInv, onPongAskInv, onPingInvite, onPongInvite, onPingAskRepl, onPongAskRepl, onPingReplace, onPongReplace, onPingDeloopy, onPongDeloopy, onLeave}
 
 -- a message of a type that uses the subject, no spare, names a node
 pub names-node : {n : ℕ} {m : MessageRecord} (k : ℕ) → usesSubject k ≡ true → namesSpare k ≡ false → Delivered n m → m .tag ≡ k → m .subject .0 < n
@@ -24,15 +24,16 @@ module _ (t : Table) (me now : ℕ) (o : Own) (m : Message) (P : Effect → Type
       ∷ onPingContact t me now o m ∷ onPongContact t me now o m ∷ onPingAskInv t me now o m ∷ onPongAskInv t me now o m
       ∷ onPingInvite t me now o m ∷ onPongInvite t me now o m ∷ onPingAskRepl t me now o m ∷ onPongAskRepl t me now o m
       ∷ onPingReplace t me now o m ∷ onPongReplace t me now o m ∷ onPingDeloopy t me now o m ∷ onPongDeloopy t me now o m
+      ∷ onLeave t me now o m
       ∷ []
 
   pub by-type : (k : ℕ) → m .type ≡ k → P (getD steps k (nothing t me now o)) → P (deliver t me now o m)
   unfolding deliver
   by-type k e p = subst (λ (j : ℕ). P (getD steps j (nothing t me now o))) (sym e) p
 
-  pub by-no-type : (m .type < 13 → m .type < 1) → P (nothing t me now o) → P (deliver t me now o m)
+  pub by-no-type : (m .type < 14 → m .type < 1) → P (nothing t me now o) → P (deliver t me now o m)
   by-no-type f p =
-      elim (decLt (m .type) 13) [
+      elim (decLt (m .type) 14) [
         | yes h ↦ let l = f h in by-type 0 (omega arith) p
         | no h ↦ by-type (m .type) refl (rw (List·getD-eq-default steps (nothing t me now o) {n = m .type} (omega arith)) p)
       ]

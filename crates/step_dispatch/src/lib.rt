@@ -71,6 +71,7 @@ pub fn deliver(
         ),
         MessageWord::PING_DELOOPY => step_deloopy::on_ping_deloopy(keys, me, own, message),
         MessageWord::PONG_DELOOPY => step_deloopy::on_pong_deloopy(own, message),
+        MessageWord::LEAVE => step_leave::on_leave(own, message),
         _ => EffectRecord::quiet(own),
     }
 }

@@ -31,7 +31,7 @@ pub fn read(word: u32) -> Outcome {
 fn spelt(e: Event) -> u64 {
     match e {
         Event::On(x) => digits(EventWord::ON, x.0 as u16, 0),
-        Event::Off(x) => digits(EventWord::OFF, x.0 as u16, 0),
+        Event::Off(x, polite) => digits(EventWord::OFF, x.0 as u16, word_ring::mark(polite) as u16),
         Event::Notice(x, z) => digits(EventWord::NOTICE, x.0 as u16, z.0 as u16),
         Event::Contact(x, y) => digits(EventWord::CONTACT, x.0 as u16, y.0 as u16),
         Event::Timer(x, k) => digits(EventWord::TIMER, x.0 as u16, k as u16),
@@ -57,7 +57,7 @@ fn event_of(command: Command) -> Event {
     let other = node(command.c);
     let position = (command.b % 65536) as u16;
     match kind {
-        EventWord::OFF => Event::Off(x),
+        EventWord::OFF => Event::Off(x, command.c % 2 == 1),
         EventWord::NOTICE => Event::Notice(x, other),
         EventWord::CONTACT => Event::Contact(x, other),
         EventWord::TIMER => Event::Timer(x, other.0),

@@ -27,7 +27,7 @@ const PONG_ASK_REPL: u16 = MessageWord::PONG_ASK_REPL as u16;
 
 const PING_DELOOPY: u16 = MessageWord::PING_DELOOPY as u16;
 
-const PONG_DELOOPY: u16 = MessageWord::PONG_DELOOPY as u16;
+const LEAVE: u16 = MessageWord::LEAVE as u16;
 
 // "Of the four that use the subject, only type 8 may have 64 there"
 fn subject_fits(tag: u16, subject: u16, n: u16) -> bool
@@ -49,7 +49,7 @@ fn first_fits(low: u16, high: u16, n: u16) -> bool
     let receiver = low >> 10;
     let subject = high % 128;
     (high >> 7 == KIND)
-        & ((PING_CONTACT <= tag) & (tag <= PONG_DELOOPY))
+        & ((PING_CONTACT <= tag) & (tag <= LEAVE))
         & (sender < n)
         & (receiver < n)
         & !(sender == receiver)

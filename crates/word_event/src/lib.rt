@@ -18,7 +18,7 @@ fn parts_fit(e: Event) -> bool
 {
     match e {
         Event::On(x) => x.0 < 64,
-        Event::Off(x) => x.0 < 64,
+        Event::Off(x, _) => x.0 < 64,
         Event::Notice(x, z) => (x.0 < 64) & (z.0 < 64),
         Event::Contact(x, y) => (x.0 < 64) & (y.0 < 64),
         Event::Timer(x, k) => (x.0 < 64) & (k <= 4),
@@ -33,7 +33,7 @@ fn same_node(e: Event) -> bool
 {
     match e {
         Event::On(_) => false,
-        Event::Off(_) => false,
+        Event::Off(_, _) => false,
         Event::Notice(x, z) => x.0 == z.0,
         Event::Contact(x, y) => x.0 == y.0,
         Event::Timer(_, _) => false,

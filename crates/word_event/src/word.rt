@@ -5,6 +5,7 @@ ghost use Rattle.model.specs.Fields.{ofKind};
 ghost use Rattle.model.specs.Events.{wordOf, eventOf};
 use model::event::Event;
 use model::values::NodeNumber;
+use word_ring::mark;
 
 pub struct EventWord(pub u32);
 
@@ -39,7 +40,10 @@ impl EventWord {
     {
         match e {
             Event::On(x) => EventWord::of_kind(EventWord::ON, wide(x)),
-            Event::Off(x) => EventWord::of_kind(EventWord::OFF, wide(x)),
+            Event::Off(x, polite) => EventWord::of_kind(
+                EventWord::OFF,
+                mark(polite) * 4096 + wide(x),
+            ),
             Event::Notice(x, z) => EventWord::of_kind(EventWord::NOTICE, wide(z) * 64 + wide(x)),
             Event::Contact(x, y) => EventWord::of_kind(EventWord::CONTACT, wide(y) * 64 + wide(x)),
             Event::Timer(x, k) => EventWord::of_kind(EventWord::TIMER, (k as u32) * 4096 + wide(x)),
@@ -54,11 +58,12 @@ impl EventWord {
     {
         let x = NodeNumber((self.0 % 64) as u8);
         let other = NodeNumber((self.0 / 64 % 64) as u8);
+        let polite = self.0 / 4096 % 2 == 1;
         let timer = (self.0 / 4096 % 8) as u8;
         let position = (self.0 % EventWord::POSITIONS) as u16;
         let kind = self.0 / 0x1000_0000;
         match kind {
-            EventWord::OFF => Event::Off(x),
+            EventWord::OFF => Event::Off(x, polite),
             EventWord::NOTICE => Event::Notice(x, other),
             EventWord::CONTACT => Event::Contact(x, other),
             EventWord::TIMER => Event::Timer(x, timer),

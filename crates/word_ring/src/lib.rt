@@ -14,7 +14,7 @@ use model::values::Sides;
 use model::values::Stamp;
 
 // A mark as a bit.
-fn mark(b: bool) -> u32
+pub fn mark(b: bool) -> u32
     ensures value { λ r. ⌜ r ≡ bit b ⌝ }
     ensures bound { λ r. ⌜ r ≤ 1 ⌝ }
 {
@@ -225,6 +225,8 @@ impl MessageWord {
     pub const PING_DELOOPY: u8 = 11;
 
     pub const PONG_DELOOPY: u8 = 12;
+
+    pub const LEAVE: u8 = 13;
 
     pub fn new(
         tag: u8,

@@ -21,7 +21,7 @@ use Rattle.event_act.specs.declared.decision.Change.{Change}
 use Rattle.event_act.specs.declared.decision.Taken.the-variants.{Message}
 use Rattle.event_act.specs.declared.decision.Becomes.the-variants.{Stays}
 use Rattle.event_act.proofs.Decides.{refused-before, decides}
-use Rattle.event_act.proofs.Leaving.{acting-fits, acting-leaves, silent-fits, silent-leaves, never-starts}
+use Rattle.event_act.proofs.Leaving.{acting-fits, acting-leaves, change-fits, silent-leaves, never-starts}
 use Rattle.event_message.proofs.Delivery
 use borrow.Author.Tests.{not-true, not-false}
 use borrow.Author.Needs.{needs}
@@ -61,7 +61,7 @@ returns-2 c =
     let done = c .silent .ensures (decode ws) (sym messages) in
     let change : Change = record { taken = Message k; node = message .result .receiver; becomes = Stays; time = record { 0 = 0 }; effect = done .effect } in
     decides ws (Deliver k) (Delivery.need-not-rise (message .ensures) low off) change
-    (silent-fits change (done .quiet 0) (start .pre) low (Delivery.loaded-well (message .ensures) low (start .pre) .receiver-low) (lit< tt) (λ e. absurd (never-starts refl e)))
+    (change-fits change (done .quiet 0) (start .pre) low (Delivery.loaded-well (message .ensures) low (start .pre) .receiver-low) (lit< tt) (λ e. absurd (never-starts refl e)))
     (silent-leaves change (done .quiet 0) (decode ws)
     ∙ Delivery.delivered-off (decode ws) k (messageOf (message .result)) (Delivery.is-message (message .ensures) low) (ap (λ (s : Node). s .running) (read-node ws y) ∙ off))
     _ (done .decided)

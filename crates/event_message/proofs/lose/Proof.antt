@@ -15,7 +15,7 @@ use Rattle.event_act.specs.declared.decision.Change.{Change}
 use Rattle.event_act.specs.declared.decision.Taken.the-variants.{Message}
 use Rattle.event_act.specs.declared.decision.Becomes.the-variants.{Stays}
 use Rattle.event_act.proofs.Decides.{refused-before, decides}
-use Rattle.event_act.proofs.Leaving.{silent-fits, silent-leaves, never-starts}
+use Rattle.event_act.proofs.Leaving.{change-fits, silent-leaves, never-starts}
 use borrow.Author.Needs.{needs}
 use Rattle.event_message.proofs.lose.Statement.{statement}
 use Rattle.event_message.proofs.lose.Tie as tie
@@ -43,7 +43,7 @@ returns-2 c =
     let done = c .silent .ensures (decode ws) (sym messages) in
     let change : Change = record { taken = Message k; node = record { 0 = 0 }; becomes = Stays; time = record { 0 = 0 }; effect = done .effect } in
     decides ws (Lose k) (next _ _ (Refusals.a-message ws k low) ∙ no-more) change
-    (silent-fits change (done .quiet 0) (start .pre) low (some-node ws (start .pre)) (lit< tt) (λ e. absurd (never-starts refl e)))
+    (change-fits change (done .quiet 0) (start .pre) low (some-node ws (start .pre)) (lit< tt) (λ e. absurd (never-starts refl e)))
     (silent-leaves change (done .quiet 0) (decode ws)) _ (done .decided)
 
 pub lose-spec : {M : Type 1} → statement M

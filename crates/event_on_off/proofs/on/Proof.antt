@@ -16,7 +16,7 @@ use Rattle.event_act.specs.declared.decision.Change.{Change}
 use Rattle.event_act.specs.declared.decision.Taken.the-variants.{Nothing}
 use Rattle.event_act.specs.declared.decision.Becomes.the-variants.{Starts}
 use Rattle.event_act.proofs.Decides.{refused-before, decides}
-use Rattle.event_act.proofs.Leaving.{silent-fits, silent-leaves}
+use Rattle.event_act.proofs.Leaving.{change-fits, silent-leaves}
 use borrow.Author.Needs.{needs}
 use Rattle.event_on_off.proofs.on.Statement.{statement}
 use Rattle.event_on_off.proofs.on.Tie as tie
@@ -75,7 +75,7 @@ returns-4 c =
     (next _ _ (Refusals.in-table ws x in-table)
     ∙ next _ _ (Refusals.stopped ws x (sym (c .before .before .before .before .before .is-running .ensures) ∙ c .before .before .before .before .if2 .left))
     ∙ next _ _ (Refusals.unspent ws x (λ e. c .before .before .if3 .left (clock ∙ e))) ∙ no-more)
-    change (silent-fits change (done .quiet 0) (start .pre) tt in-table (omega (arith, clock, clock-high ws (start .pre) x)) (λ e. now))
+    change (change-fits change (done .quiet 0) (start .pre) tt in-table (omega (arith, clock, clock-high ws (start .pre) x)) (λ e. now))
     (silent-leaves change (done .quiet 0) (decode ws)) _ (done .decided)
 
 pub on-spec : {M : Type 1} → statement M

@@ -7,7 +7,7 @@ use Rattle.mekvalgs_event.proofs.event.Statement.{statement}
 use Rattle.mekvalgs_event.proofs.event.Tie as tie
 
 -- what is left after on to deliver
-is-lose : (c : tie.After-struct-known10) → c .before .before .args .p .kind ≡ 15
+is-lose : (c : tie.After-struct-known11) → c .before .before .args .p .kind ≡ 15
 is-lose c =
     let p = c .before .before .args .p in
     let k : ℕ = p .kind in
@@ -30,43 +30,43 @@ cast-t6 c =
     let p = c .before .before .args .p in
     omega (arith, node-low (p .kind) (p .first) (p .second) (c .before .before .pre) (omega arith))
 
-cast-t8 : tie.Need-cast-t8
-cast-t8 c =
+cast-t9 : tie.Need-cast-t9
+cast-t9 c =
     let p = c .before .before .args .p in
     omega (arith, node-low (p .kind) (p .first) (p .second) (c .before .before .pre) (omega arith))
 
-cast-t10 : tie.Need-cast-t10
-cast-t10 c =
+cast-t11 : tie.Need-cast-t11
+cast-t11 c =
     let p = c .before .before .before .args .p in
     omega (arith, other-low (p .kind) (p .first) (p .second) (c .before .before .before .pre) (omega arith) (omega arith))
 
-cast-t12 : tie.Need-cast-t12
-cast-t12 c =
+cast-t13 : tie.Need-cast-t13
+cast-t13 c =
     let p = c .before .before .args .p in
     omega (arith, node-low (p .kind) (p .first) (p .second) (c .before .before .pre) (omega arith))
 
-cast-t14 : tie.Need-cast-t14
-cast-t14 c =
+cast-t15 : tie.Need-cast-t15
+cast-t15 c =
     let p = c .before .before .before .args .p in
     omega (arith, other-low (p .kind) (p .first) (p .second) (c .before .before .before .pre) (omega arith) (omega arith))
 
-cast-t16 : tie.Need-cast-t16
-cast-t16 c =
+cast-t17 : tie.Need-cast-t17
+cast-t17 c =
     let p = c .before .before .args .p in
     omega (arith, node-low (p .kind) (p .first) (p .second) (c .before .before .pre) (omega arith))
-
-cast-t18 : tie.Need-cast-t18
-cast-t18 c =
-    let p = c .before .before .before .args .p in
-    omega (arith, timer-low (p .kind) (p .first) (p .second) (c .before .before .before .pre) (omega arith))
 
 cast-t19 : tie.Need-cast-t19
 cast-t19 c =
-    let p = c .before .before .args .p in
-    omega (arith, position-low (p .kind) (p .first) (p .second) (c .before .before .pre) (omega arith))
+    let p = c .before .before .before .args .p in
+    omega (arith, timer-low (p .kind) (p .first) (p .second) (c .before .before .before .pre) (omega arith))
 
 cast-t20 : tie.Need-cast-t20
 cast-t20 c =
+    let p = c .before .before .args .p in
+    omega (arith, position-low (p .kind) (p .first) (p .second) (c .before .before .pre) (omega arith))
+
+cast-t21 : tie.Need-cast-t21
+cast-t21 c =
     let p = c .before .before .args .p in
     omega (arith, is-lose c, position-low (p .kind) (p .first) (p .second) (c .before .before .pre) (omega (arith, is-lose c)))
 
@@ -76,7 +76,7 @@ returns c = rw (c .before .match .keys1)
 
 returns-2 : tie.Need-returns-2
 unfolding eventOfParts
-returns-2 c = rw (c .before .match .keys2)
+returns-2 c = rw (c .before .before .match .keys2)
 
 returns-3 : tie.Need-returns-3
 unfolding eventOfParts
@@ -104,14 +104,14 @@ event-spec =
     (tie.spec
     cast-t4
     cast-t6
-    cast-t8
-    cast-t10
-    cast-t12
-    cast-t14
-    cast-t16
-    cast-t18
+    cast-t9
+    cast-t11
+    cast-t13
+    cast-t15
+    cast-t17
     cast-t19
     cast-t20
+    cast-t21
     returns
     returns-2
     returns-3

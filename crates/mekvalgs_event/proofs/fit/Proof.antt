@@ -1,39 +1,45 @@
 use mathlib.Core.Path.{sym}
 use mathlib.Core.Logic.{inl, inr}
 use native.Mathlib.Omega.{arith}
-use Rattle.mekvalgs_event.proofs.Numbers.{of-node, of-nodes, of-timer, of-position, of-none}
+use Rattle.mekvalgs_event.proofs.Numbers.{of-on, of-off, of-nodes, of-timer, of-position, of-none}
 use Rattle.mekvalgs_event.proofs.fit.Statement.{statement}
 use Rattle.mekvalgs_event.proofs.fit.Tie as tie
 
 returns : tie.Need-returns
 returns c =
     let p = c .before .before .before .args .p in
-    sym (of-timer (p .kind) (p .first) (p .second) (c .before .before .match .keys1))
+    sym (of-on (p .kind) (p .first) (p .second) (c .before .before .match .keys1))
 
 returns-2 : tie.Need-returns-2
 returns-2 c =
-    let p = c .before .before .before .before .before .args .p in
-    sym (of-node (p .kind) (p .first) (p .second) (omega arith) (omega arith))
+    let p = c .before .before .before .args .p in
+    sym (of-off (p .kind) (p .first) (p .second) (c .before .before .match .keys2))
 
 returns-3 : tie.Need-returns-3
 returns-3 c =
-    let p = c .before .before .before .before .before .before .args .p in
-    sym (of-nodes (p .kind) (p .first) (p .second) (omega arith) (omega arith))
+    let p = c .before .before .before .args .p in
+    sym (of-timer (p .kind) (p .first) (p .second) (c .before .before .match .keys3))
 
 returns-4 : tie.Need-returns-4
 returns-4 c =
-    let p = c .before .before .before .before .before .before .before .args .p in
-    sym (of-position (p .kind) (p .first) (p .second) (omega arith) (omega arith))
+    let p = c .before .before .before .before .before .args .p in
+    sym (of-nodes (p .kind) (p .first) (p .second) (omega arith) (omega arith))
 
 returns-5 : tie.Need-returns-5
 returns-5 c =
-    let p = c .before .before .args .p in
-    of-none (p .kind) (p .first) (p .second) (inl (omega arith))
+    let p = c .before .before .before .before .before .before .args .p in
+    sym (of-position (p .kind) (p .first) (p .second) (omega arith) (omega arith))
 
 returns-6 : tie.Need-returns-6
 returns-6 c =
-    let p = c .before .before .before .before .before .args .p in
+    let p = c .before .before .args .p in
+    let others = c .before .match .rest in
+    of-none (p .kind) (p .first) (p .second) (inl (omega (arith, others)))
+
+returns-7 : tie.Need-returns-7
+returns-7 c =
+    let p = c .before .before .before .before .args .p in
     of-none (p .kind) (p .first) (p .second) (inr (omega arith))
 
 pub fit-spec : {M : Type 1} → statement M
-fit-spec = tie.close (tie.spec returns returns-2 returns-3 returns-4 returns-5 returns-6)
+fit-spec = tie.close (tie.spec returns returns-2 returns-3 returns-4 returns-5 returns-6 returns-7)

@@ -8,7 +8,7 @@ returns : tie.Need-returns
 returns c = c .make .ensures ∙ ap partsOf (sym (c .before .before .before .e .given .1))
 
 returns-2 : tie.Need-returns-2
-returns-2 c = c .make2 .ensures ∙ ap partsOf (sym (c .before .before .before .e2 .given .1))
+returns-2 c = c .make2 .ensures ∙ rw (c .before .mark .ensures .0) (ap partsOf (sym (c .before .before .before .before .e2 .given .1)))
 
 returns-3 : tie.Need-returns-3
 returns-3 c = c .make3 .ensures ∙ ap partsOf (sym (c .before .before .before .before .e3 .given .1))
@@ -30,8 +30,8 @@ of-event-spec =
     tie.close
     (tie.spec
     (λ c. search needs) (λ c. search needs) (λ c κs. search needs) (λ c. search needs) (λ c. search needs)
+    (λ c κs. search needs) (λ c κs. search needs) (λ c. search needs) (λ c. search needs) (λ c. search needs)
     (λ c κs. search needs) (λ c. search needs) (λ c. search needs) (λ c. search needs) (λ c κs. search needs)
     (λ c. search needs) (λ c. search needs) (λ c. search needs) (λ c κs. search needs) (λ c. search needs)
-    (λ c. search needs) (λ c. search needs) (λ c κs. search needs) (λ c. search needs) (λ c. search needs)
-    (λ c κs. search needs) (λ c. search needs) (λ c. search needs) (λ c κs. search needs) returns returns-2 returns-3
-    returns-4 returns-5 returns-6 returns-7)
+    (λ c. search needs) (λ c κs. search needs) (λ c. search needs) (λ c. search needs) (λ c κs. search needs) returns
+    returns-2 returns-3 returns-4 returns-5 returns-6 returns-7)

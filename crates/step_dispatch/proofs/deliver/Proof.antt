@@ -64,9 +64,12 @@ returns-12 c =
     by-type _ _ _ _ _ (Leaves _ _ _ _) 12 (search needs) (c .on-pong-deloopy .ensures _ _ _ _ (start .pre .0 .own-fits) (start .pre .1 .1 .sender-low))
 
 returns-13 : tie.Need-returns-13
-returns-13 c =
+returns-13 c = by-type _ _ _ _ _ (Leaves _ _ _ _) 13 (search needs) (c .on-leave .ensures _ _ _ _ (c .before .before .before .pre .0 .own-fits))
+
+returns-14 : tie.Need-returns-14
+returns-14 c =
     let others = c .before .match .rest in
-    by-no-type _ _ _ _ _ (Leaves _ _ _ _) (λ h. except _ 1 (except _ 2 (except _ 3 (except _ 4 (except _ 5 (except _ 6 (except _ 7 (except _ 8 (except _ 9 (except _ 10 (except _ 11 (except _ 12 h (others .1)) (others .0 .1)) (others .0 .0 .1)) (others .0 .0 .0 .1)) (others .0 .0 .0 .0 .1)) (others .0 .0 .0 .0 .0 .1)) (others .0 .0 .0 .0 .0 .0 .1)) (others .0 .0 .0 .0 .0 .0 .0 .1)) (others .0 .0 .0 .0 .0 .0 .0 .0 .1)) (others .0 .0 .0 .0 .0 .0 .0 .0 .0 .1)) (others .0 .0 .0 .0 .0 .0 .0 .0 .0 .0 .1)) (others .0 .0 .0 .0 .0 .0 .0 .0 .0 .0 .0 .1)) (c .quiet .ensures _ _ _ _ (unchanged (c .before .before .before .pre .0 .own-fits)))
+    by-no-type _ _ _ _ _ (Leaves _ _ _ _) (λ h. except _ 1 (except _ 2 (except _ 3 (except _ 4 (except _ 5 (except _ 6 (except _ 7 (except _ 8 (except _ 9 (except _ 10 (except _ 11 (except _ 12 (except _ 13 h (others .1)) (others .0 .1)) (others .0 .0 .1)) (others .0 .0 .0 .1)) (others .0 .0 .0 .0 .1)) (others .0 .0 .0 .0 .0 .1)) (others .0 .0 .0 .0 .0 .0 .1)) (others .0 .0 .0 .0 .0 .0 .0 .1)) (others .0 .0 .0 .0 .0 .0 .0 .0 .1)) (others .0 .0 .0 .0 .0 .0 .0 .0 .0 .1)) (others .0 .0 .0 .0 .0 .0 .0 .0 .0 .0 .1)) (others .0 .0 .0 .0 .0 .0 .0 .0 .0 .0 .0 .1)) (others .0 .0 .0 .0 .0 .0 .0 .0 .0 .0 .0 .0 .1)) (c .quiet .ensures _ _ _ _ (unchanged (c .before .before .before .pre .0 .own-fits)))
   where
     except : (k n : ℕ) → k < suc n → (k ≡ n → ⊥) → k < n
     except k n h d = omega arith
@@ -78,5 +81,5 @@ deliver-spec =
     (λ c κs. search needs) (λ c κs. search needs) (λ c κs. search needs) (λ c κs. search needs)
     (λ c κs. search needs) (λ c κs. search needs) (λ c κs. search needs) (λ c κs. search needs)
     on-ping-replace-requires on-pong-replace-requires on-ping-deloopy-requires (λ c κs. search needs)
-    (λ c κs. search needs) returns returns-2 returns-3 returns-4 returns-5 returns-6 returns-7 returns-8
-    returns-9 returns-10 returns-11 returns-12 returns-13)
+    (λ c κs. search needs) (λ c κs. search needs) returns returns-2 returns-3 returns-4 returns-5 returns-6 returns-7 returns-8
+    returns-9 returns-10 returns-11 returns-12 returns-13 returns-14)

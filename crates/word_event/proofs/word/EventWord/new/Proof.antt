@@ -9,7 +9,7 @@ returns : tie.Need-returns
 returns c = c .of-kind .ensures ∙ ap (ofKind 9) (c .before .wide .ensures .0) ∙ ap wordOf (sym (c .before .before .before .e .given .1))
 
 returns-2 : tie.Need-returns-2
-returns-2 c = c .of-kind2 .ensures ∙ ap (ofKind 10) (c .before .wide2 .ensures .0) ∙ ap wordOf (sym (c .before .before .before .e2 .given .1))
+returns-2 c = c .of-kind2 .ensures ∙ rw (c .before .wide2 .ensures .0, c .before .before .mark .ensures .0) (ap wordOf (sym (c .before .before .before .before .e2 .given .1)))
 
 returns-3 : tie.Need-returns-3
 returns-3 c = c .of-kind3 .ensures ∙ rw (c .before .wide4 .ensures .0, c .before .before .wide3 .ensures .0) (ap wordOf (sym (c .before .before .before .before .e3 .given .1)))
@@ -31,8 +31,9 @@ new-spec =
     tie.close
     (tie.spec
     (λ c. search needs) (λ c κs. search needs) (λ c κs. search needs) (λ c. search needs)
-    (λ c κs. search needs) (λ c κs. search needs) (λ c. search needs) (λ c κs. search needs)
-    (λ c. search needs) (λ c κs. search needs) (λ c. search needs) (λ c κs. search needs) (λ c. search needs)
+    (λ c κs. search needs) (λ c. search needs) (λ c κs. search needs) (λ c. search needs)
+    (λ c κs. search needs) (λ c. search needs) (λ c κs. search needs) (λ c. search needs)
+    (λ c κs. search needs) (λ c. search needs) (λ c κs. search needs) (λ c. search needs)
     (λ c κs. search needs) (λ c. search needs) (λ c κs. search needs) (λ c. search needs)
     (λ c κs. search needs) (λ c. search needs) (λ c. search needs) (λ c. search needs) (λ c κs. search needs)
     (λ c. search needs) (λ c κs. search needs) (λ c. search needs) (λ c. search needs) (λ c κs. search needs)

@@ -14,10 +14,10 @@ use Rattle.model.specs.Sets.{Set, with, put, members, some, noneNode}
 use Rattle.model.specs.Leafset.{Table, size, leafset, passesZero}
 use Rattle.model.specs.Ring.{Ring, Own, Node, Message, blank, isRunning, holds, messageAt, initial}
 use Rattle.model.specs.WellFormed.{Spare, none, spare, WellFormedMessage, WellFormed, Each, nil, cons}
-use Rattle.model.specs.Types.{pingReplace, pongReplace}
-use Rattle.model.specs.Steps.{Effect, stamped, plain, setCandidates, setCommit, hold, release, forget, invited, outside, contact, notice, timer0, timer1, timer2, timer3, timer4, timer, onPingContact, onPongContact, onPingAskInv, onPongAskInv, onPingInvite, onPongInvite, onPingAskRepl, onPongAskRepl, onPingReplace, onPongReplace, onPingDeloopy, onPongDeloopy, deliver}
-use Rattle.model.specs.Play.{setNode, setMessages, removeMessage, act, after}
-use Rattle.model.specs.ConnectivityPreserved.{Harmless}
+use Rattle.model.specs.Types.{pingReplace, pongReplace, leave}
+use Rattle.model.specs.Steps.{Effect, stamped, plain, setCandidates, setCommit, hold, release, forget, invited, outside, leaving, contact, notice, timer0, timer1, timer2, timer3, timer4, timer, onPingContact, onPongContact, onPingAskInv, onPongAskInv, onPingInvite, onPongInvite, onPingAskRepl, onPongAskRepl, onPingReplace, onPongReplace, onPingDeloopy, onPongDeloopy, onLeave, deliver}
+use Rattle.model.specs.Play.{setNode, setMessages, sendLeave, stopped, removeMessage, act, after}
+use Rattle.model.specs.ConnectivityPreserved.{LeaversOff, Harmless}
 use Rattle.model.specs.declared.event.Event.{Event}
 use Rattle.model.specs.declared.event.Event.the-variants.{On, Off, Notice, Contact, Timer, Deliver, Lose}
 use Rattle.model.proofs.Laws.{clash, and-left, and-right, or-left, or-right, or-case, not-out, if-law, put-law, put-each, put-here, put-else}
@@ -107,9 +107,14 @@ module _ (r : Ring) (x : ℕ) where
   abbrev Asks : Effect → Type 0
   Asks e = (m : Message) → List·Memᴰ m (e .sent) → m .type ≡ pingReplace → (m .sender ≡ x) × (m .stamp ≡ now)
 
+  -- x does not say that it leaves
+  abbrev Remains : Effect → Type 0
+  Remains e = (m : Message) → List·Memᴰ m (e .sent) → ¬ (m .type ≡ leave)
+
   -- what an effect has to meet
   record Law (e : Effect) : Type 0 where
     asks : Asks e
+    remains : Remains e
     change : (ms : List Message) → Part ms (r .messages) → Change r (acted ms e)
     newly : NewlyIn (e .own)
 
@@ -154,6 +159,7 @@ module _ (r : Ring) (x : ℕ) where
           newly = λ a z.
               put-each (λ b n. holds r b z ≡ false → n .own .held z ≡ true → clock r b < n .own .commit z) (r .node) x (actor e)
               (λ f h. omega (arith, law .newly z f h)) (λ b d f h. clash h f) a;
+          leavers = λ m h is. elim (List·Memᴰ·append-cases ms h) [ inl o ↦ part m o | inr s ↦ absurd (law .remains m s is) ];
         }
 
     acted-requests : Asks e → Requests r → Requests (acted ms e)
@@ -170,16 +176,16 @@ module _ (r : Ring) (x : ℕ) where
 
   -- an effect that releases nothing and sends no acknowledgement
   quietly :
-      (e : Effect) → Asks e
+      (e : Effect) → Asks e → Remains e
       → ((z : ℕ) → isRunning r z ≡ true → own .held z ≡ true → KeptIn (e .own) z)
       → ((m : Message) → List·Memᴰ m (e .sent) → ¬ (m .type ≡ pongReplace))
       → NewlyIn (e .own)
       → Law e
-  quietly e asks k n newly = record { asks = asks; change = λ ms part. quiet (kept ms part e k) (acks-old ms part e n); newly = newly }
+  quietly e asks remains k n newly = record { asks = asks; remains = remains; change = λ ms part. quiet (kept ms part e k) (acks-old ms part e n); newly = newly }
 
   -- an effect that sends nothing
   silently : (p : Own) → ((z : ℕ) → isRunning r z ≡ true → own .held z ≡ true → KeptIn p z) → NewlyIn p → Law (record { own = p; sent = [] })
-  silently p k newly = quietly (record { own = p; sent = [] }) (λ m. absent) k (λ m. absent) newly
+  silently p k newly = quietly (record { own = p; sent = [] }) (λ m. absent) (λ m. absent) k (λ m. absent) newly
 
   -- where the held set stays, nothing is held anew
   none-new : NewlyIn own
@@ -190,9 +196,9 @@ module _ (r : Ring) (x : ℕ) where
   abbrev t : Table
   t = r .table
 
-  -- a message that is neither a request nor an acknowledgement
+  -- a message that is neither a request nor an acknowledgement, and does not say that its sender leaves
   abbrev isPlain : ℕ → Bool
-  isPlain k = not (eqb k pingReplace) && not (eqb k pongReplace)
+  isPlain k = not (eqb k pingReplace) && not (eqb k pongReplace) && not (eqb k leave)
 
   abbrev Plain : Message → Type 0
   Plain m = isPlain (m .type) ≡ true
@@ -203,7 +209,8 @@ module _ (r : Ring) (x : ℕ) where
   -- the record stays but for the candidates, and each message is plain
   calm : (S : Set) (sent : List Message) → ((m : Message) → List·Memᴰ m sent → Plain m) → Law (record { own = setCandidates S own; sent = sent })
   calm S sent f =
-      quietly (record { own = setCandidates S own; sent = sent }) (λ m h e. absurd (plain-not pingReplace m refl (f m h) e)) (λ z rz h. (h, inl refl)) (λ m h. plain-not pongReplace m refl (f m h)) none-new
+      quietly (record { own = setCandidates S own; sent = sent }) (λ m h e. absurd (plain-not pingReplace m refl (f m h) e)) (λ m h. plain-not leave m refl (f m h))
+      (λ z rz h. (h, inl refl)) (λ m h. plain-not pongReplace m refl (f m h)) none-new
 
   calm-none : (S : Set) → Law (record { own = setCandidates S own; sent = [] })
   calm-none S = calm S [] (λ m. absent)
@@ -298,7 +305,9 @@ module _ (r : Ring) (x : ℕ) where
   -- requests: their stamp is now
   law-timer3 : Law (timer3 t x now own)
   unfolding timer3
-  law-timer3 = quietly _ (λ m h nine. let q = out m h in rw (q .1) (refl, refl)) (λ z rz h. (h, inl refl)) (λ m h ten. let q = out m h in no-ten (q .0) (sym (ap (λ (a : Message). a .type) (q .1)) ∙ ten)) none-new
+  law-timer3 =
+      quietly _ (λ m h nine. let q = out m h in rw (q .1) (refl, refl)) (λ m h is. no-other m leave h (λ i. omega arith) is)
+      (λ z rz h. (h, inl refl)) (λ m h is. no-other m pongReplace h (λ i. omega arith) is) none-new
     where
       request : ℕ → Message
       request z = stamped pingReplace x (own .spare z) z now
@@ -309,8 +318,8 @@ module _ (r : Ring) (x : ℕ) where
       out : (m : Message) → List·Memᴰ m (map request to) → (z : ℕ) × (m ≡ request z)
       out m h = map-out request to m h
 
-      no-ten : (z : ℕ) → request z .type ≡ pongReplace → ⊥
-      no-ten z e = omega arith
+      no-other : (m : Message) (k : ℕ) → List·Memᴰ m (map request to) → ¬ (pingReplace ≡ k) → ¬ (m .type ≡ k)
+      no-other m k h other is = other (sym (ap (λ (a : Message). a .type) (out m h .1)) ∙ is)
 
   law-timer4 : Law (timer4 t x now own)
   unfolding timer4
@@ -323,6 +332,13 @@ module _ (r : Ring) (x : ℕ) where
       (item law-timer0 (item law-timer1 (item law-timer2 (item law-timer3 (item law-timer4 end)))))
 
   -- ---- the delivery of m
+
+  -- what the step of a message meets, and what it meets where all who have said that they leave are off
+  abbrev Laws : Effect → Type 0
+  Laws e = Asks e × (LeaversOff r → Law e)
+
+  always : {e : Effect} → Law e → Laws e
+  always l = (l .asks, λ off. l)
 
   module _
       (well : WellFormed r)
@@ -373,7 +389,7 @@ module _ (r : Ring) (x : ℕ) where
       -- a request answered: the commit to z is now, and the acknowledgement is the one message sent
       law-on-ping-replace : m .type ≡ pingReplace → Law (onPingReplace t x now own m)
       unfolding onPingReplace
-      law-on-ping-replace nine = tested (own .held z) (λ held. record { asks = asks; change = change held; newly = commit-newly own z none-new }) nothing
+      law-on-ping-replace nine = tested (own .held z) (λ held. record { asks = λ a h nine. absurd (no-other a pingReplace h (λ i. omega arith) nine); remains = λ a h is. no-other a leave h (λ i. omega arith) is; change = change held; newly = commit-newly own z none-new }) nothing
         where
           acknowledgement : Message
           acknowledgement = stamped pongReplace x y z (m .stamp)
@@ -381,11 +397,8 @@ module _ (r : Ring) (x : ℕ) where
           answer : Effect
           answer = record { own = setCommit z now own; sent = acknowledgement ∷ [] }
 
-          asks : Asks answer
-          asks a h e = absurd (ten (sym (ap (λ (b : Message). b .type) (List·Memᴰ·eq-of-singleton h)) ∙ e))
-            where
-              ten : acknowledgement .type ≡ pingReplace → ⊥
-              ten i = omega arith
+          no-other : (a : Message) (k : ℕ) → List·Memᴰ a (acknowledgement ∷ []) → ¬ (pongReplace ≡ k) → ¬ (a .type ≡ k)
+          no-other a k h other is = other (sym (ap (λ (b : Message). b .type) (List·Memᴰ·eq-of-singleton h)) ∙ is)
 
           change : own .held z ≡ true → (ms : List Message) → Part ms (r .messages) → Change r (acted ms answer)
           change held ms part =
@@ -421,7 +434,7 @@ module _ (r : Ring) (x : ℕ) where
       spare-differs high h (spare k d) = d
 
       law-trade : m .type ≡ pongReplace → own .spare z ≡ y → own .commit z < m .stamp → Law (record { own = trade; sent = [] })
-      law-trade ten spare-is old = record { asks = λ a. absent; change = change; newly = trade-newly }
+      law-trade ten spare-is old = record { asks = λ a. absent; remains = λ a. absent; change = change; newly = trade-newly }
         where
           effect : Effect
           effect = record { own = trade; sent = [] }
@@ -464,24 +477,33 @@ module _ (r : Ring) (x : ℕ) where
       unfolding onPongDeloopy
       law-on-pong-deloopy = calm-none _
 
-      law-deliver : Law (deliver t x now own m)
+      asks-on-leave : Asks (onLeave t x now own m)
+      unfolding onLeave
+      asks-on-leave a = absent
+
+      law-on-leave : isRunning r y ≡ false → Law (onLeave t x now own m)
+      unfolding onLeave forget
+      law-on-leave off = law-released _ y off
+
+      laws-deliver : Laws (deliver t x now own m)
       unfolding deliver
-      law-deliver =
-          listed-at (λ k e. m .type ≡ k → Law e) (record { own = own; sent = [] }) (λ k e. nothing)
-          (item (λ e. nothing)
-          (item (λ e. law-on-ping-contact)
-          (item (λ e. law-on-pong-contact)
-          (item (λ e. law-on-ping-ask-inv)
-          (item (λ e. law-on-pong-ask-inv)
-          (item (λ e. law-on-ping-invite)
-          (item (λ e. law-on-pong-invite)
-          (item (λ e. law-on-ping-ask-repl)
-          (item (λ e. law-on-pong-ask-repl)
-          (item law-on-ping-replace
-          (item law-on-pong-replace
-          (item (λ e. law-on-ping-deloopy)
-          (item (λ e. law-on-pong-deloopy)
-          end)))))))))))))
+      laws-deliver =
+          listed-at (λ k e. m .type ≡ k → Laws e) (record { own = own; sent = [] }) (λ k e. always nothing)
+          (item (λ e. always nothing)
+          (item (λ e. always law-on-ping-contact)
+          (item (λ e. always law-on-pong-contact)
+          (item (λ e. always law-on-ping-ask-inv)
+          (item (λ e. always law-on-pong-ask-inv)
+          (item (λ e. always law-on-ping-invite)
+          (item (λ e. always law-on-pong-invite)
+          (item (λ e. always law-on-ping-ask-repl)
+          (item (λ e. always law-on-pong-ask-repl)
+          (item (λ e. always (law-on-ping-replace e))
+          (item (λ e. always (law-on-pong-replace e))
+          (item (λ e. always law-on-ping-deloopy)
+          (item (λ e. always law-on-pong-deloopy)
+          (item (λ e. (asks-on-leave, λ off. law-on-leave (off m (mem 12 e) e)))
+          end))))))))))))))
           (m .type)
           refl
 
@@ -495,6 +517,7 @@ thinned r ms part =
       clocks = λ a. omega arith;
       change = quiet (λ a z ra rz h. (h, inl refl)) (λ m a. (part m (a .0), a .1));
       newly = λ a z f h. clash h f;
+      leavers = λ m h is. part m h;
     }
 
 pub unchanged : (r : Ring) → Step r r
@@ -509,6 +532,18 @@ placed-requests r x s later q m h nine =
 abbrev all-stay : (r : Ring) → Part (r .messages) (r .messages)
 all-stay r m h = h
 
+-- a node says that it leaves
+leaving-types : (t : Table) (x now : ℕ) (o : Own) (m : Message) → List·Memᴰ m (leaving t x now o .sent) → m .type ≡ leave
+unfolding leaving
+leaving-types t x now o m h = ap (λ (a : Message). a .type) (map-out (plain leave x) (members (size t) (o .held)) m h .1)
+
+leave-requests : (r : Ring) (x : ℕ) → Requests r → Requests (sendLeave x r)
+leave-requests r x q m h nine =
+    elim (List·Memᴰ·append-cases (r .messages) h) [
+      | inl o ↦ q m o nine
+      | inr s ↦ absurd (let other : leave ≡ pingReplace = sym (leaving-types (r .table) x _ _ m s) ∙ nine in omega arith)
+    ]
+
 module _ (r : Ring) (well : WellFormed r) (q : Requests r) where
   module _ (i : ℕ) where
     abbrev m : Message
@@ -517,8 +552,8 @@ module _ (r : Ring) (well : WellFormed r) (q : Requests r) where
     abbrev delivered : Effect
     delivered = deliver (r .table) (m .receiver) (clock r (m .receiver) + 1) (r .node (m .receiver) .own) m
 
-    law-delivered : isRunning r (m .receiver) ≡ true → Law r (m .receiver) delivered
-    law-delivered on = law-deliver r (m .receiver) well q m refl on (message-in (r .messages) i)
+    laws-delivered : isRunning r (m .receiver) ≡ true → Laws r (m .receiver) delivered
+    laws-delivered on = laws-deliver r (m .receiver) well q m refl on (message-in (r .messages) i)
 
     left : List Message
     left = take i (r .messages) ++ drop (suc i) (r .messages)
@@ -528,29 +563,32 @@ module _ (r : Ring) (well : WellFormed r) (q : Requests r) where
     unfolding left
     left-over = left-part i (r .messages)
 
-  pub event-step : (e : Event) → Harmless r e → Step r (after r e)
+  pub event-step : LeaversOff r → (e : Event) → Harmless r e → Step r (after r e)
   unfolding after act removeMessage left
-  event-step (On x) h = absurd h
-  event-step (Off x) h = absurd h
-  event-step (Notice x z) h = acted-step r (x .0) (r .messages) (all-stay r) _ (law-notice r (x .0) (z .0) h)
-  event-step (Contact x y) h = acted-step r (x .0) (r .messages) (all-stay r) _ (law-contact r (x .0) (y .0))
-  event-step (Timer x k) h = acted-step r (x .0) (r .messages) (all-stay r) _ (law-timer r (x .0) k)
-  event-step (Deliver i) h =
+  event-step off (On x) h = absurd h
+  event-step off (Off x polite) h = absurd h
+  event-step off (Notice x z) h = acted-step r (x .0) (r .messages) (all-stay r) _ (law-notice r (x .0) (z .0) h)
+  event-step off (Contact x y) h = acted-step r (x .0) (r .messages) (all-stay r) _ (law-contact r (x .0) (y .0))
+  event-step off (Timer x k) h = acted-step r (x .0) (r .messages) (all-stay r) _ (law-timer r (x .0) k)
+  event-step off (Deliver i) h =
       if-law (Step r) (isRunning r (m i .receiver)) (acted r (m i .receiver) (left i) (delivered i)) (setMessages (left i) r)
-      (λ on. acted-step r (m i .receiver) (left i) (left-over i) (delivered i) (law-delivered i on))
-      (λ off. thinned r (left i) (left-over i))
-  event-step (Lose i) h = thinned r (left i) (left-over i)
+      (λ on. acted-step r (m i .receiver) (left i) (left-over i) (delivered i) (laws-delivered i on .1 off))
+      (λ stopped. thinned r (left i) (left-over i))
+  event-step off (Lose i) h = thinned r (left i) (left-over i)
 
   pub event-requests : (e : Event) → Requests (after r e)
   unfolding after act removeMessage left
   event-requests (On x) = placed-requests r (x .0) _ (omega arith) q
-  event-requests (Off x) = placed-requests r (x .0) _ (omega arith) q
+  event-requests (Off x polite) =
+      if-law (λ (s : Ring). Requests (setNode (x .0) (stopped (r .node (x .0))) s)) polite (sendLeave (x .0) r) r
+      (λ e. placed-requests (sendLeave (x .0) r) (x .0) _ (omega arith) (leave-requests r (x .0) q))
+      (λ e. placed-requests r (x .0) _ (omega arith) q)
   event-requests (Notice x z) = acted-requests r (x .0) (r .messages) (all-stay r) _ (asks-notice r (x .0) (z .0)) q
   event-requests (Contact x y) = acted-requests r (x .0) (r .messages) (all-stay r) _ (law-contact r (x .0) (y .0) .asks) q
   event-requests (Timer x k) = acted-requests r (x .0) (r .messages) (all-stay r) _ (law-timer r (x .0) k .asks) q
   event-requests (Deliver i) =
       if-law Requests (isRunning r (m i .receiver)) (acted r (m i .receiver) (left i) (delivered i)) (setMessages (left i) r)
-      (λ on. acted-requests r (m i .receiver) (left i) (left-over i) (delivered i) (law-delivered i on .asks) q)
+      (λ on. acted-requests r (m i .receiver) (left i) (left-over i) (delivered i) (laws-delivered i on .0) q)
       (λ off a h. q a (left-over i a h))
   event-requests (Lose i) = λ a h. q a (left-over i a h)
 
