@@ -46,7 +46,9 @@ enum mekvalgs_answer {
     MEKVALGS_NODE_OFF = 8,             /* at a node that is off, or a question about one */
     MEKVALGS_ALREADY_RUNNING = 9,      /* on, for a running node */
     MEKVALGS_CLOCK_SPENT = 10,         /* the clock is 16,777,215 and must rise */
-    MEKVALGS_POOL_FULL = 11            /* more than 1,024 messages would be left */
+    MEKVALGS_POOL_FULL = 11,           /* more than 1,024 messages would be left */
+    MEKVALGS_KEY_OUT_OF_RANGE = 12,    /* route: the key is above 16,777,215 */
+    MEKVALGS_LIST_TOO_SHORT = 13       /* route: the list has fewer than 64 places */
 };
 
 /* The kinds of event words. */
@@ -110,6 +112,14 @@ uint32_t mekvalgs_connected(const uint32_t *words, size_t length, uint32_t a, ui
 
 /* The number of connected groups of running nodes. Answers 0, 1, 6; 0 groups where refused. */
 uint32_t mekvalgs_groups(const uint32_t *words, size_t length, uint32_t *groups);
+
+/* The route from node start to the node nearest to the key: from each node on to the nearest of the running nodes that it
+ * holds, as long as that one is nearer; of two equally near, the clockwise one from the key is. Its nodes are written to
+ * the first places of route, start first; places behind the last one stay. end is the last node, hops how often it goes on.
+ * Answers 0, 1, 6, 7, 8, 12, 13 (64 places are needed however small n is). Where refused, end is MEKVALGS_NONE, hops is 0, and
+ * route stays whole. */
+uint32_t mekvalgs_route(const uint32_t *words, size_t length, uint32_t start, uint32_t key, uint8_t *route,
+                        size_t places, uint32_t *end, uint32_t *hops);
 
 /* The event of a word as three numbers: its kind; its node, or of deliver and lose the position; the other node of
  * notice and contact, the timer of timer, 1 of an off that is polite, else 0. Answers 0, 4, 5; all three are 0 where

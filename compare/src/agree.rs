@@ -5,6 +5,7 @@ use crate::damage::damage;
 use crate::look;
 use crate::random::Random;
 use crate::ring::Ring;
+use crate::routes::{self, Route};
 use crate::script::{Mix, Script};
 use crate::unbroken::Tested;
 use std::fmt;
@@ -15,6 +16,8 @@ pub struct Plan {
     pub seed: u64,
     pub events: u64,
     pub damaged: u64,
+    /// Routes at least.
+    pub routes: u64,
     pub mixes: Vec<Mix>,
     /// Scripts have from 1 to this number of nodes.
     pub nodes: usize,
@@ -37,6 +40,9 @@ pub struct Tally {
     pub answers: [u64; 12],
     /// Accepted deliveries by type.
     pub delivered: [u64; 14],
+    /// On rings as the events left them, and on damaged buffers.
+    pub routes: routes::Tally,
+    pub damaged_routes: routes::Tally,
     pub tested: Tested,
 }
 
@@ -51,19 +57,22 @@ impl Tally {
         self.refused_lists += other.refused_lists;
         self.answers.iter_mut().zip(other.answers).for_each(|(sum, count)| *sum += count);
         self.delivered.iter_mut().zip(other.delivered).for_each(|(sum, count)| *sum += count);
+        self.routes.add(&other.routes);
+        self.damaged_routes.add(&other.damaged_routes);
         self.tested.add(other.tested);
     }
 }
 
 impl fmt::Display for Tally {
     fn fmt(&self, f: &mut fmt::Formatter) -> fmt::Result {
-        let Tally { scripts, events, damaged, valid, questions, lists, refused_lists, answers, delivered, tested } = self;
+        let Tally { scripts, events, damaged, valid, questions, lists, refused_lists, answers, delivered, .. } = self;
         writeln!(f, "{scripts} scripts, {events} events, {questions} questions")?;
         writeln!(f, "{lists} lists of events by one call, of which {refused_lists} were refused")?;
         writeln!(f, "{damaged} damaged buffers, of which {valid} still read as a ring")?;
         writeln!(f, "answers 0 to 11: {answers:?}")?;
         writeln!(f, "delivered, types 1 to 13: {:?}", &delivered[1..])?;
-        let Tested { starts, points, spans, acknowledged, released, leaving } = tested;
+        writeln!(f, "{}\non damaged buffers: {}", self.routes, self.damaged_routes)?;
+        let Tested { starts, points, spans, acknowledged, released, leaving } = self.tested;
         writeln!(f, "demand 3: {points} points tested, against {starts} chosen points, {spans} pairs of points;")?;
         writeln!(f, "  {acknowledged} of them with an acknowledgement in flight; {released} links released;")?;
         write!(f, "  {leaving} points not chosen for a type 13 from a running node alone")
@@ -98,7 +107,10 @@ pub fn run(plan: &Plan, rings: &[&dyn Ring]) -> (Tally, Option<Found>) {
 fn run_thread(plan: &Plan, rings: &[&dyn Ring], first: u64, stop: &AtomicBool) -> (Tally, Option<Found>) {
     let mut tally = Tally::default();
     let mut script = first;
-    while tally.events < plan.events / plan.threads && !stop.load(Ordering::Relaxed) {
+    let fulfilled = |tally: &Tally| {
+        tally.events >= plan.events / plan.threads && tally.routes.count() >= plan.routes.div_ceil(plan.threads)
+    };
+    while !fulfilled(&tally) && !stop.load(Ordering::Relaxed) {
         let mix = plan.mixes[script as usize % plan.mixes.len()];
         // Each n in turn, small and large ones mixed.
         let n = 1 + 37 * (script as usize / plan.mixes.len()) % plan.nodes;
@@ -117,8 +129,9 @@ struct Play<'a> {
     script: Script,
     random: Random,
     case: Case,
-    /// Damaged buffers for each 1,000 events.
+    /// Damaged buffers and routes for each 1,000 events.
     damage_rate: u64,
+    route_rate: u64,
 }
 
 impl<'a> Play<'a> {
@@ -131,6 +144,7 @@ impl<'a> Play<'a> {
             random: Random::new(plan.seed, 2 * number + 1),
             case: Case { sides, keys, steps: Vec::new() },
             damage_rate: plan.damaged * 1_000 / plan.events.max(1),
+            route_rate: plan.routes * 1_000 / plan.events.max(1),
         }
     }
 
@@ -154,12 +168,19 @@ impl<'a> Play<'a> {
                 let before = self.runner.words().to_vec();
                 self.play_list(&before, tally)?;
             }
-            let damages = self.damage_rate / 1_000 + (self.random.below(1_000) < self.damage_rate as usize % 1_000) as u64;
-            for _ in 0..damages {
+            for _ in 0..self.times(self.damage_rate) {
                 self.damage(tally)?;
+            }
+            for _ in 0..self.times(self.route_rate) {
+                self.route(&mut tally.routes)?;
             }
         }
         Ok(())
+    }
+
+    /// How often something is done after an event, by its rate for each 1,000.
+    fn times(&mut self, rate: u64) -> u64 {
+        rate / 1_000 + (self.random.below(1_000) < rate as usize % 1_000) as u64
     }
 
     fn play(&mut self, word: u32, tally: &mut Tally) -> Result<(), Fault> {
@@ -188,6 +209,16 @@ impl<'a> Play<'a> {
         self.runner.step(question)?;
         self.case.steps.pop();
         tally.questions += 1;
+        Ok(())
+    }
+
+    /// A route, on the case for as long as it is asked for.
+    fn route(&mut self, tally: &mut routes::Tally) -> Result<(), Fault> {
+        let route = Route::any(&mut self.random, self.runner.words(), self.case.keys.len());
+        self.case.steps.push(Step::Route(route));
+        let (routed, list) = self.runner.route(route)?;
+        self.case.steps.pop();
+        tally.note(self.runner.words(), route.key, routed, &list);
         Ok(())
     }
 
@@ -223,6 +254,9 @@ impl<'a> Play<'a> {
         self.play_on_damaged(damage.event, &before, tally)?;
         if self.random.percent(20) {
             self.ask(tally)?;
+        }
+        if self.route_rate > 0 && self.random.percent(20) {
+            self.route(&mut tally.damaged_routes)?;
         }
         self.case.steps.truncate(length);
         self.runner.restore(&before);

@@ -1,7 +1,8 @@
 //! A case: an opening and steps, played on one or more implementations at once.
 
 use crate::look;
-use crate::ring::{Ring, Sides};
+use crate::ring::{Ring, Routed, Sides};
+use crate::routes::Route;
 use crate::unbroken::Unbroken;
 use crate::LENGTH;
 use std::fmt;
@@ -15,6 +16,7 @@ pub enum Step {
     Leafset(u32),
     Connected(u32, u32),
     Groups,
+    Route(Route),
 }
 
 /// A list of event words for one call, and the number of places for their answers.
@@ -38,8 +40,18 @@ impl List {
     fn play(&self, ring: &dyn Ring, words: &mut [u32]) -> Outcome {
         let mut answers = vec![0xA5; self.places];
         let answer = ring.play_all(words, &self.words[..self.length], &mut answers);
-        (answer, answers.iter().fold(0, |digest: u64, &place| (digest ^ place as u64).wrapping_mul(0x100_0000_01B3)))
+        (answer, digest(&answers))
     }
+}
+
+fn digest(bytes: &[u8]) -> u64 {
+    bytes.iter().fold(0, |digest: u64, &byte| (digest ^ byte as u64).wrapping_mul(0x100_0000_01B3))
+}
+
+/// A digest of all that a route gives, with end and hops in its lowest two bytes.
+fn value(routed: Routed, list: &[u8]) -> u64 {
+    let (end, hops) = (routed.end.to_le_bytes(), routed.hops.to_le_bytes());
+    digest(&[list, &end, &hops].concat()) << 16 | (end[0] as u64) << 8 | hops[0] as u64
 }
 
 impl fmt::Display for List {
@@ -59,6 +71,7 @@ impl fmt::Display for Step {
             Step::Leafset(x) => write!(f, "leafset({x})"),
             Step::Connected(a, b) => write!(f, "connected({a},{b})"),
             Step::Groups => write!(f, "groups()"),
+            Step::Route(route) => write!(f, "{route}"),
         }
     }
 }
@@ -82,7 +95,7 @@ impl fmt::Display for Case {
     }
 }
 
-/// The answer of a call, with the value that comes beside it: 0 for a play, a digest of the answers for a list.
+/// The answer of a call, with the value that comes beside it: 0 for a play, a digest for a list and for a route.
 type Outcome = (u32, u64);
 
 /// What a run found.
@@ -176,12 +189,25 @@ impl<'a> Runner<'a> {
                 let (answer, number) = ring.groups(words);
                 (answer, number as u64)
             })?,
+            Step::Route(route) => (self.route(route)?.0.answer, 0),
             Step::Poke(at, value) => {
                 self.buffers.iter_mut().for_each(|words| words[at] = value);
                 (0, 0)
             }
         };
         Ok(answer)
+    }
+
+    /// A route on every implementation: what the first one gives, and its list after it.
+    pub fn route(&mut self, route: Route) -> Result<(Routed, Vec<u8>), Fault> {
+        let mut given = Vec::new();
+        self.call(|ring, words| {
+            let (routed, list) = route.ask(ring, words);
+            let outcome = (routed.answer, value(routed, &list));
+            given.push((routed, list));
+            outcome
+        })?;
+        Ok(given.swap_remove(0))
     }
 
     /// One call on every implementation: the answers and all words have to agree.

@@ -1,7 +1,7 @@
 //! Openings of every sort, over old words of any sort, and every call on a buffer of another length.
 
 use crate::random::Random;
-use crate::ring::{Ring, Sides};
+use crate::ring::{Ring, Routed, Sides};
 use crate::LENGTH;
 
 /// A line for each difference found in `count` random openings.
@@ -55,5 +55,10 @@ fn calls(ring: &dyn Ring, mut words: Vec<u32>, sides: Sides, keys: &[u32], word:
     answers.extend([answer as u64, yes as u64]);
     let (answer, number) = ring.groups(&words);
     answers.extend([answer as u64, number as u64]);
+    let mut list = [0xA5; 64];
+    let places = 64 - (word & 1) as usize;
+    let Routed { answer, end, hops } = ring.route(&words, word & 63, word & 0xFF_FFFF, &mut list[..places]);
+    answers.extend([answer, end, hops].map(u64::from));
+    answers.extend(list.map(u64::from));
     (answers, words)
 }

@@ -14,6 +14,7 @@ pub mod plain;
 pub mod random;
 pub mod reference;
 pub mod ring;
+pub mod routes;
 pub mod script;
 pub mod self_test;
 pub mod shorten;

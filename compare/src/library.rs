@@ -1,6 +1,6 @@
 //! The proved library, linked: the only file that knows its C interface. A slice goes as pointer and length.
 
-use crate::ring::{Ring, Sides};
+use crate::ring::{Ring, Routed, Sides};
 
 #[link(name = "mekvalgs", kind = "static")]
 extern "C" {
@@ -14,6 +14,10 @@ extern "C" {
     fn mekvalgs_leafset(words: *const u32, len: usize, node: u32, set: *mut u64) -> u32;
     fn mekvalgs_connected(words: *const u32, len: usize, a: u32, b: u32, yes: *mut u32) -> u32;
     fn mekvalgs_groups(words: *const u32, len: usize, number: *mut u32) -> u32;
+    fn mekvalgs_route(
+        words: *const u32, len: usize, start: u32, key: u32, route: *mut u8, places: usize, end: *mut u32,
+        hops: *mut u32,
+    ) -> u32;
     fn mekvalgs_replay(
         words: *mut u32, len: usize, clockwise: u32, counter_clockwise: u32, keys: *const u32, n: usize,
         script: *const u32, script_len: usize, answers: *mut u8, places: usize,
@@ -65,6 +69,16 @@ impl Ring for Library {
     fn groups(&self, words: &[u32]) -> (u32, u32) {
         let mut number = u32::MAX;
         (unsafe { mekvalgs_groups(words.as_ptr(), words.len(), &mut number) }, number)
+    }
+
+    fn route(&self, words: &[u32], start: u32, key: u32, list: &mut [u8]) -> Routed {
+        let (mut end, mut hops) = (u32::MAX, u32::MAX);
+        let answer = unsafe {
+            mekvalgs_route(
+                words.as_ptr(), words.len(), start, key, list.as_mut_ptr(), list.len(), &mut end, &mut hops,
+            )
+        };
+        Routed { answer, end, hops }
     }
 }
 

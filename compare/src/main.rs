@@ -3,13 +3,14 @@
 use compare::agree::{self, Found, Plan};
 use compare::ring::Ring;
 use compare::script::Mix;
+use compare::routes::Made;
 use compare::{edges, every_ring, fast_rings, self_test, speed, vectors};
 use std::path::Path;
 use std::process::ExitCode;
 use std::time::Instant;
 
 const USAGE: &str = "compare [all | agree | unbroken | self-test | speed | stack | vectors]
-    [seed=1] [events=5000000] [damaged=1000000] [nodes=64] [threads=CORES]
+    [seed=1] [events=5000000] [damaged=1000000] [routes=EVENTS/10] [nodes=64] [threads=CORES]
     [mixes=gentle,chaos,garbage,replacement]
     [vectors=FOLDER] [slip=NAME]";
 
@@ -24,7 +25,9 @@ struct Options {
 
 fn options() -> Option<Options> {
     let threads = std::thread::available_parallelism().map_or(1, |count| count.get() as u64);
-    let plan = Plan { seed: 1, events: 5_000_000, damaged: 1_000_000, mixes: Mix::ALL.to_vec(), nodes: 64, threads };
+    let (events, mixes) = (5_000_000, Mix::ALL.to_vec());
+    let plan = Plan { seed: 1, events, damaged: 1_000_000, routes: 0, mixes, nodes: 64, threads };
+    let mut routes = None;
     let steady = vec![Mix::Gentle, Mix::Replacement];
     let mut options = Options { mode: "all".to_string(), plan, steady, vectors: None, slip: None };
     for word in std::env::args().skip(1) {
@@ -33,6 +36,7 @@ fn options() -> Option<Options> {
             Some(("seed", value)) => options.plan.seed = value.parse().ok()?,
             Some(("events", value)) => options.plan.events = value.parse().ok()?,
             Some(("damaged", value)) => options.plan.damaged = value.parse().ok()?,
+            Some(("routes", value)) => routes = Some(value.parse().ok()?),
             Some(("nodes", value)) => options.plan.nodes = value.parse().ok().filter(|n| (1..=64).contains(n))?,
             Some(("threads", value)) => options.plan.threads = value.parse().ok().filter(|&count| count > 0)?,
             Some(("mixes", value)) => {
@@ -44,6 +48,7 @@ fn options() -> Option<Options> {
             Some(_) => return None,
         }
     }
+    options.plan.routes = routes.unwrap_or(options.plan.events / 10);
     Some(options)
 }
 
@@ -83,6 +88,7 @@ fn speed_table() -> bool {
     speed::reads(&fast_rings());
     speed::report(&fast_rings());
     speed::lists(fast_rings()[0], &compare::reference::Reference);
+    speed::routes(&fast_rings());
     true
 }
 
@@ -117,14 +123,24 @@ fn agree_all(plan: &Plan) -> bool {
     let start = Instant::now();
     let (tally, found) = agree::run(plan, &rings);
     println!("{tally}\n{:.0} seconds", start.elapsed().as_secs_f64());
-    differences.is_empty() & nothing(plan, &rings, found)
+    made_rings(plan, &rings) & differences.is_empty() & nothing(plan, &rings, found)
+}
+
+/// Routes on made rings: a tenth of the plan's where every running node holds exactly its leafset of all running nodes, and
+/// as many where each holds a few others.
+fn made_rings(plan: &Plan, rings: &[&dyn Ring]) -> bool {
+    let Made { converged, scattered, found } = Made::run(plan.seed, plan.routes / 10, plan.threads, rings);
+    println!("on converged rings, each to the nearest running node: {converged}\non scattered rings: {scattered}");
+    println!("{} routes that differ or end elsewhere", found.len());
+    found.iter().take(3).for_each(|line| println!("  {line}"));
+    found.is_empty()
 }
 
 /// Demand 3 on the first implementation alone.
 fn unbroken(options: &Options) -> bool {
     let rings = &fast_rings()[..1];
     println!("\nUnbroken connection, {}", rings[0].name());
-    let plan = Plan { damaged: 0, mixes: options.steady.clone(), ..options.plan };
+    let plan = Plan { damaged: 0, routes: 0, mixes: options.steady.clone(), ..options.plan };
     let (tally, found) = agree::run(&plan, rings);
     println!("{tally}");
     nothing(&plan, rings, found)

@@ -3,7 +3,7 @@
 //!
 //! A [`Slip`] makes it a wrong program, for the self-test of the harness.
 
-use crate::ring::{Ring, Sides};
+use crate::ring::{Ring, Routed, Sides};
 use crate::LENGTH;
 use std::collections::BTreeSet;
 
@@ -62,6 +62,24 @@ pub enum Slip {
     FullPoolEarly,
     /// Refusal 8 before refusal 7.
     OffBeforeUnknown,
+    /// A route's tie goes to the counter-clockwise one, in choosing and in beating.
+    RouteTieOther,
+    /// A tie stops a route: only a smaller distance beats.
+    RouteDistanceOnly,
+    /// A route goes to held nodes that are off, too.
+    RouteThroughOff,
+    /// A route goes to candidates, too.
+    RouteCandidates,
+    /// A route goes to the leafset of the held nodes only.
+    RouteLeafset,
+    /// A refused route writes its start into the list.
+    RouteRefusedWrites,
+    /// Hops are the nodes of the route, one too many.
+    RouteHopsOne,
+    /// Refusal 13 before refusal 12.
+    RouteListFirst,
+    /// A route is content with a list of n places.
+    RouteShortList,
     /// Reads as a ring with a commit stamp one above the clock.
     CommitAboveClock,
     /// Reads as a ring with a node as its own spare.
@@ -79,7 +97,7 @@ pub enum Slip {
 }
 
 impl Slip {
-    pub const ALL: [Slip; 33] = [
+    pub const ALL: [Slip; 42] = [
         Slip::StampNotAbove,
         Slip::CommitZero,
         Slip::AskerAsSpare,
@@ -106,6 +124,15 @@ impl Slip {
         Slip::GroupsOfAll,
         Slip::FullPoolEarly,
         Slip::OffBeforeUnknown,
+        Slip::RouteTieOther,
+        Slip::RouteDistanceOnly,
+        Slip::RouteThroughOff,
+        Slip::RouteCandidates,
+        Slip::RouteLeafset,
+        Slip::RouteRefusedWrites,
+        Slip::RouteHopsOne,
+        Slip::RouteListFirst,
+        Slip::RouteShortList,
         Slip::CommitAboveClock,
         Slip::OwnSpare,
         Slip::ReceiverInView,
@@ -665,6 +692,40 @@ impl State {
         groups.len()
     }
 
+    // Routes.
+
+    /// How near a node is to a key: "smallest distance, the clockwise one from the key on a tie".
+    fn nearness(&self, key: u32, s: usize) -> (u32, u32) {
+        let clockwise = (PLACES + self.nodes[s].key - key) % PLACES;
+        let counter_clockwise = (PLACES + key - self.nodes[s].key) % PLACES;
+        let tie = if self.has(Slip::RouteTieOther) { counter_clockwise } else { clockwise };
+        (clockwise.min(counter_clockwise), tie)
+    }
+
+    /// "The nearest of the running stands held there, as long as that one beats the present stand by the same measure."
+    fn next_node(&self, x: usize, key: u32) -> Option<usize> {
+        let mut nodes = self.held(x);
+        if self.has(Slip::RouteCandidates) {
+            nodes.extend(self.candidates(x));
+        }
+        if self.has(Slip::RouteLeafset) {
+            nodes = self.leafset(x, &nodes);
+        }
+        nodes.retain(|&z| self.nodes[z].running || self.has(Slip::RouteThroughOff));
+        let next = nodes.into_iter().min_by_key(|&z| self.nearness(key, z))?;
+        let (here, there) = (self.nearness(key, x), self.nearness(key, next));
+        let beats = if self.has(Slip::RouteDistanceOnly) { there.0 < here.0 } else { there < here };
+        beats.then_some(next)
+    }
+
+    fn route(&self, start: usize, key: u32) -> Vec<usize> {
+        let mut route = vec![start];
+        if let Some(next) = self.next_node(start, key) {
+            route.extend(self.route(next, key));
+        }
+        route
+    }
+
     /// Refusals 7 and 8 of a question about a node.
     fn ask(&self, node: u32) -> Result<usize, u32> {
         match self.nodes.get(node as usize) {
@@ -754,6 +815,22 @@ impl Plain {
         }
         Ok(state.group(a as usize).contains(&(b as usize)) || self.slip == Some(Slip::AlwaysConnected))
     }
+
+    fn try_route(&self, words: &[u32], start: u32, key: u32, places: usize) -> Result<Vec<usize>, u32> {
+        let state = self.read(words)?;
+        let start = state.ask(start)?;
+        let enough = if state.has(Slip::RouteShortList) { state.nodes.len() } else { 64 };
+        if state.has(Slip::RouteListFirst) && places < enough {
+            return Err(13);
+        }
+        if key > 16_777_215 {
+            return Err(12);
+        }
+        if places < enough {
+            return Err(13);
+        }
+        Ok(state.route(start, key))
+    }
 }
 
 impl Ring for Plain {
@@ -779,5 +856,21 @@ impl Ring for Plain {
 
     fn groups(&self, words: &[u32]) -> (u32, u32) {
         self.read(words).map_or_else(|refusal| (refusal, 0), |state| (0, state.groups() as u32))
+    }
+
+    fn route(&self, words: &[u32], start: u32, key: u32, list: &mut [u8]) -> Routed {
+        match self.try_route(words, start, key, list.len()) {
+            Ok(route) => {
+                route.iter().zip(list).for_each(|(&node, place)| *place = node as u8);
+                let hops = route.len() - (self.slip != Some(Slip::RouteHopsOne)) as usize;
+                Routed { answer: 0, end: route[route.len() - 1] as u32, hops: hops as u32 }
+            }
+            Err(refusal) => {
+                if self.slip == Some(Slip::RouteRefusedWrites) {
+                    list.iter_mut().take(1).for_each(|place| *place = start as u8);
+                }
+                Routed::refused(refusal)
+            }
+        }
     }
 }

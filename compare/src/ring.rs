@@ -1,4 +1,4 @@
-//! The calls that every implementation has. An answer is 0, accepted, or the refusal's number of document 01.
+//! The calls that every implementation has. An answer is 0, accepted, or the refusal's number of documents 01 and 02.
 
 /// How many nodes a leafset has: A clockwise, B counter-clockwise.
 #[derive(Clone, Copy, Debug, PartialEq, Eq)]
@@ -41,6 +41,21 @@ impl From<(u32, u32)> for Sides {
     }
 }
 
+/// What a route gives beside the nodes in its list.
+#[derive(Clone, Copy, Debug, PartialEq, Eq)]
+pub struct Routed {
+    pub answer: u32,
+    pub end: u32,
+    pub hops: u32,
+}
+
+impl Routed {
+    /// "A refused route answers 0 hops and stand 64."
+    pub fn refused(answer: u32) -> Routed {
+        Routed { answer, end: 64, hops: 0 }
+    }
+}
+
 pub trait Ring: Sync {
     fn name(&self) -> &'static str;
 
@@ -70,4 +85,7 @@ pub trait Ring: Sync {
 
     /// The number of connected groups of running nodes: 0 where refused, by 1 or 6.
     fn groups(&self, words: &[u32]) -> (u32, u32);
+
+    /// The route from a node towards a key: its nodes, the start first and the end last, go to the list's first places.
+    fn route(&self, words: &[u32], start: u32, key: u32, list: &mut [u8]) -> Routed;
 }

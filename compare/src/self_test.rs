@@ -4,16 +4,22 @@ use crate::agree::{self, Found, Plan};
 use crate::plain::{Plain, Slip};
 use crate::reference::Reference;
 use crate::ring::Ring;
+use crate::routes::Made;
 use crate::script::Mix;
 
 /// Wrong programs that part nodes: found by demand 3 alone, without another implementation.
 const PARTING: [Slip; 2] = [Slip::ReleaseAtTimer3, Slip::ReleaseWithoutHold];
 
+/// Wrong programs whose routes end elsewhere: found on converged rings alone, without another implementation.
+const ASTRAY: [Slip; 2] = [Slip::RouteTieOther, Slip::RouteDistanceOnly];
+
 /// How many wrong programs were not found. Where one is named, only that, and its case is shown.
 pub fn run(plan: &Plan, only: Option<&str>) -> usize {
     let wanted = |slip: &Slip| only.is_none_or(|only| only == format!("{slip:?}"));
-    let agreement = Plan { events: 3_000_000, damaged: 300_000, mixes: Mix::ALL.to_vec(), ..*plan };
-    let demand_3 = Plan { events: 10_000_000, damaged: 0, mixes: vec![Mix::Replacement], nodes: 10, ..*plan };
+    let agreement =
+        Plan { events: 3_000_000, damaged: 300_000, routes: 300_000, mixes: Mix::ALL.to_vec(), ..*plan };
+    let demand_3 =
+        Plan { events: 10_000_000, damaged: 0, routes: 0, mixes: vec![Mix::Replacement], nodes: 10, ..*plan };
     let by_difference = Slip::ALL.into_iter().filter(wanted).filter(|&slip| {
         let wrong = Plain { slip: Some(slip) };
         !finds(&agreement, &[&Reference, &wrong], slip, only.is_some())
@@ -22,7 +28,15 @@ pub fn run(plan: &Plan, only: Option<&str>) -> usize {
         let wrong = Plain { slip: Some(slip) };
         !finds(&demand_3, &[&wrong], slip, only.is_some())
     });
-    by_difference.count() + by_demand_3.count()
+    let by_end = ASTRAY.into_iter().filter(wanted).filter(|&slip| !goes_astray(plan, slip));
+    by_difference.count() + by_demand_3.count() + by_end.count()
+}
+
+fn goes_astray(plan: &Plan, slip: Slip) -> bool {
+    let made = Made::run(plan.seed, 20_000, plan.threads, &[&Plain { slip: Some(slip) }]);
+    let name = format!("{slip:?}");
+    println!("{name:<20} {:<11} {} of 20000 routes on converged rings end elsewhere", "nearest", made.found.len());
+    !made.found.is_empty()
 }
 
 fn finds(plan: &Plan, rings: &[&dyn Ring], slip: Slip, show: bool) -> bool {

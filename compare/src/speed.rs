@@ -4,6 +4,7 @@ use crate::look;
 use crate::random::Random;
 use crate::reference::Reference;
 use crate::ring::{Ring, Sides};
+use crate::routes;
 use crate::LENGTH;
 use std::hint::black_box;
 use std::time::Instant;
@@ -207,6 +208,38 @@ pub fn lists(ring: &dyn Ring, builder: &dyn Ring) {
         assert!(answers == [0; LISTED]);
         println!("{:<48}{:>12.0}{:>12.0}", head(&load), median(plays), median(lists));
     }
+}
+
+/// Full routes on 64 running nodes that hold their leafset, halfway round the ring, beside contacts on the same words.
+pub fn routes(rings: &[&dyn Ring]) {
+    print!("{:<48}", "nanoseconds a full route on 64 nodes, an event");
+    rings.iter().for_each(|ring| print!("{:>18}{:>12}", format!("{} route", ring.name()), "play"));
+    println!();
+    let keys: Vec<u32> = (0..64).map(|s| s << 18).collect();
+    for leaves in [1, 8] {
+        let words = routes::converged(Sides::from(leaves), &keys, &[true; 64]);
+        let hops = rings[0].route(&words, 0, keys[32], &mut [0; 64]).hops;
+        print!("{:<48}", format!("  A = B = {leaves}, {hops} hops"));
+        for (route, play) in route_times(&words, keys[32], rings) {
+            print!("{route:>18.0}{play:>12.0}");
+        }
+        println!();
+    }
+}
+
+/// Nanoseconds a route from node 0, and nanoseconds a contact, of each ring, medians of rounds in turns.
+fn route_times(start: &[u32], key: u32, rings: &[&dyn Ring]) -> Vec<(f64, f64)> {
+    let contacts: Vec<u32> = (0..EVENTS as u32).map(|x| 12 << 28 | (x + 1) << 6 | x).collect();
+    let mut times = vec![(Vec::new(), Vec::new()); rings.len()];
+    let (mut words, mut list) = (start.to_vec(), [0; 64]);
+    for _ in 0..ROUNDS {
+        for (ring, (routes, plays)) in rings.iter().zip(&mut times) {
+            words.copy_from_slice(start);
+            routes.push(each(&[key; EVENTS], |key| ring.route(black_box(&words), 0, key, &mut list).hops));
+            plays.push(each(&contacts, |word| ring.play(&mut words, word)));
+        }
+    }
+    times.into_iter().map(|(routes, plays)| (median(routes), median(plays))).collect()
 }
 
 fn head(load: &Load) -> String {

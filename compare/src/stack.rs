@@ -2,7 +2,8 @@
 
 use crate::library;
 use crate::random::Random;
-use crate::ring::Ring;
+use crate::ring::{Ring, Sides};
+use crate::routes;
 use crate::script::{Mix, Script};
 use crate::LENGTH;
 
@@ -47,12 +48,23 @@ fn measure() {
     line("leafset", (0..64).map(|s| depth(&mut || _ = ring.leafset_of(&words, s))).max().unwrap());
     line("connected", (0..64).map(|s| depth(&mut || _ = ring.connected(&words, s, 63 - s))).max().unwrap());
     line("groups", depth(&mut || _ = ring.groups(&words)));
+    line("route", route_depth());
     line("replay", depth(&mut || library::replay(&mut words, sides, &keys, &events)));
     ring.open(&mut words, sides, &keys);
     let mut answers = vec![0; events.len()];
     line("play_all", depth(&mut || _ = ring.play_all(&mut words, &events, &mut answers)));
     line("read_event", events.iter().map(|&word| depth(&mut || library::read_event(word))).max().unwrap());
     line("write_event", (0..7).map(|kind| depth(&mut || library::write_event(9 + kind, 1, 2))).max().unwrap());
+}
+
+/// The route with the most hops: 64 nodes in a row, each of which holds the next, from the first to the last.
+fn route_depth() -> usize {
+    let keys: Vec<u32> = (0..64).collect();
+    let words = routes::ring(Sides::from(1), &keys, &[true; 64], |x| (x + 1..64).take(1).collect());
+    let mut list = [0; 64];
+    let depth = depth(&mut || _ = library::Library.route(&words, 0, 63, &mut list));
+    assert!(list[63] == 63, "63 hops");
+    depth
 }
 
 fn line(name: &str, bytes: usize) {

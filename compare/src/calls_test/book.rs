@@ -174,6 +174,35 @@ impl Book {
         answers[..written].iter().for_each(|&answer| count(&mut self.tally.listed, answer as u32));
     }
 
+    /// A route that is lent so many places: its nodes, the start first, are written there, and no other place.
+    pub fn route(&mut self, key: u32, nodes: &[u8], places: usize) {
+        let mut expected = self.plain.places.clone();
+        expected[..nodes.len()].copy_from_slice(nodes);
+        let value = self.call(Command::ROUTE, [nodes[0] as u32, key, places as u32, 0], 0).value;
+        let (end, hops) = (nodes[nodes.len() - 1] as u64, nodes.len() as u64 - 1);
+        assert_eq!(value % 10_000, 100 * end + hops, "{}: {nodes:?} to {key}", self.tally.section);
+        assert!(self.plain.places == expected, "{}: {nodes:?} to {key}", self.tally.section);
+        count(&mut self.tally.hops, hops);
+    }
+
+    /// A route that the implementations alone judge.
+    pub fn route_any(&mut self, start: u32, key: u32) {
+        let mut list = [0; 64];
+        let routed = Plain { slip: None }.route(self.words(), start, key, &mut list);
+        match routed.answer {
+            0 => self.route(key, &list[..=routed.hops as usize], 64),
+            answer => self.route_refused(start, key, 64, answer),
+        }
+    }
+
+    /// "A refused route answers 0 hops and stand 64, and the list is untouched."
+    pub fn route_refused(&mut self, start: u32, key: u32, places: usize, answer: u32) {
+        let before = self.plain.places.clone();
+        let value = self.call(Command::ROUTE, [start, key, places as u32, 0], answer).value;
+        assert_eq!(value % 10_000, 6_400, "{}: refused, {start} to {key}", self.tally.section);
+        assert!(self.plain.places == before, "{}: refused, {start} to {key}", self.tally.section);
+    }
+
     // Parts of a ring, written as words.
 
     pub fn set_clock(&mut self, x: u32, clock: u32) {

@@ -1,7 +1,7 @@
 //! What `crates/test_calls` does with its commands, on any implementation.
 
 use super::event_word;
-use crate::ring::Ring;
+use crate::ring::{Ring, Routed};
 use crate::LENGTH;
 use std::fmt;
 
@@ -28,6 +28,7 @@ impl Command {
     pub const WRITE: u32 = 8;
     pub const REPLAY: u32 = 9;
     pub const PLAY_ALL: u32 = 10;
+    pub const ROUTE: u32 = 11;
 
     pub fn bytes(self) -> Vec<u8> {
         [self.number, self.a, self.b, self.c, self.d, self.lent].iter().flat_map(|word| word.to_le_bytes()).collect()
@@ -56,7 +57,8 @@ impl fmt::Display for Line {
     }
 }
 
-/// A buffer of one word more than a ring, a list with keys and after them a script, and the places for the answers of its words.
+/// A buffer of one word more than a ring, a list with keys and after them a script, and places for the answers of its
+/// words or for the nodes of a route.
 pub struct Machine<'a> {
     ring: &'a dyn Ring,
     pub words: Vec<u32>,
@@ -102,7 +104,8 @@ impl<'a> Machine<'a> {
             Command::READ => event_word::read(a),
             Command::WRITE => event_word::write(a, b, c),
             Command::REPLAY => self.replay(command),
-            _ => self.play_all(command),
+            Command::PLAY_ALL => self.play_all(command),
+            _ => self.route(command),
         }
     }
 
@@ -128,6 +131,14 @@ impl<'a> Machine<'a> {
         let list = &self.list[command.a as usize..command.b as usize];
         let places = &mut self.places[..command.c as usize];
         (self.ring.play_all(words, list, places), self.places_digest())
+    }
+
+    /// A route, with some of the places: the value has the digest of all, then end and hops, two decimal digits each.
+    fn route(&mut self, command: Command) -> (u32, u64) {
+        let words = &self.words[..command.lent as usize];
+        let places = &mut self.places[..command.c as usize];
+        let Routed { answer, end, hops } = self.ring.route(words, command.a, command.b, places);
+        (answer, self.places_digest() * 10_000 + end as u64 * 100 + hops as u64)
     }
 
     fn places_digest(&self) -> u64 {

@@ -10,6 +10,7 @@ mod openings;
 mod pool;
 mod refusals;
 mod replays;
+mod routes;
 mod steps;
 mod tally;
 
@@ -27,5 +28,6 @@ pub fn all() -> Book {
     damaged::write(&mut book);
     replays::write(&mut book);
     lists::write(&mut book);
+    routes::write(&mut book);
     book
 }

@@ -64,6 +64,17 @@ fn every_answer(book: &mut Book) {
     (0..=script.len() as u32).for_each(|length| book.replay(1, &keys, length, 0));
 }
 
+/// Routes from each node to a few others' keys, and halfway to them.
+fn routes(book: &mut Book, n: u32, keys: &[u32]) {
+    for start in 0..n {
+        for ahead in [1, n / 2, n - 1] {
+            let (from, to) = (keys[start as usize], keys[((start + ahead) % n) as usize]);
+            book.route_any(start, to);
+            book.route_any(start, from.wrapping_add((to.wrapping_sub(from) & 0xFF_FFFF) / 2) & 0xFF_FFFF);
+        }
+    }
+}
+
 /// Stored scripts, played word by word, replayed, and by one call on the ring that is opened first.
 fn stored(book: &mut Book) {
     for script in STORED {
@@ -74,6 +85,7 @@ fn stored(book: &mut Book) {
         book.open(sides, &keys, 0);
         events.iter().for_each(|&word| book.play_any(word));
         book.groups(0);
+        routes(book, n, &keys);
         book.list(n, events);
         book.replay(sides, &keys, events.len() as u32, 0);
         let answers = book.places()[..events.len()].to_vec();

@@ -22,6 +22,8 @@ pub struct Tally {
     pub replayed: BTreeMap<u32, usize>,
     /// Answers that lists on a ring wrote.
     pub listed: BTreeMap<u32, usize>,
+    /// Accepted routes, by hops.
+    pub hops: BTreeMap<u64, usize>,
     /// Words damaged.
     pub damages: usize,
 }
@@ -31,7 +33,7 @@ pub fn count<K: Ord>(counts: &mut BTreeMap<K, usize>, key: K) {
 }
 
 /// The answers that each call can give.
-const CALLS: [(&str, u32, &[u32]); 9] = [
+const CALLS: [(&str, u32, &[u32]); 10] = [
     ("open", Command::OPEN, &[0, 1, 2, 3]),
     ("play", Command::PLAY, &[0, 1, 4, 5, 6, 7, 8, 9, 10, 11]),
     ("leafset", Command::LEAFSET, &[0, 1, 6, 7, 8]),
@@ -41,6 +43,7 @@ const CALLS: [(&str, u32, &[u32]); 9] = [
     ("write", Command::WRITE, &[0, 4, 5]),
     ("replay", Command::REPLAY, &[0, 1, 2, 3]),
     ("play_all", Command::PLAY_ALL, &[0, 1, 6]),
+    ("route", Command::ROUTE, &[0, 1, 6, 7, 8, 12, 13]),
 ];
 
 /// The answers that playing a word of each event kind can give.
@@ -85,7 +88,8 @@ impl fmt::Display for Tally {
         writeln!(f, "delivered, by type: {:?}", self.delivered)?;
         writeln!(f, "timers accepted: {:?}", self.timers)?;
         writeln!(f, "answers of replayed words: {:?}", self.replayed)?;
-        write!(f, "answers of words in lists: {:?}", self.listed)
+        writeln!(f, "answers of words in lists: {:?}", self.listed)?;
+        write!(f, "accepted routes, by hops: {:?}", self.hops)
     }
 }
 

@@ -11,7 +11,7 @@ mod row;
 mod sets;
 mod validity;
 
-use crate::ring::{Ring, Sides};
+use crate::ring::{Ring, Routed, Sides};
 use events::Event;
 use layout::*;
 use place::Place;
@@ -41,6 +41,10 @@ impl Ring for Reference {
 
     fn groups(&self, words: &[u32]) -> (u32, u32) {
         with_answer(questions::groups(words))
+    }
+
+    fn route(&self, words: &[u32], start: u32, key: u32, list: &mut [u8]) -> Routed {
+        questions::route(words, start, key, list).unwrap_or_else(Routed::refused)
     }
 }
 

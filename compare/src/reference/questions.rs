@@ -1,9 +1,10 @@
-//! The two questions, and the number of groups.
+//! The questions, the number of groups, and routes.
 
 use super::layout::*;
 use super::place::{is_running, marked, table};
-use super::sets::{contains, members};
+use super::sets::{contains, members, Ranked};
 use super::validity::reads_as_ring;
+use crate::ring::Routed;
 
 /// The words as a ring, or refusal 1 or 6.
 fn ring(words: &[u32]) -> Result<(&Words, Header), u32> {
@@ -49,6 +50,31 @@ pub fn groups(words: &[u32]) -> Result<u32, u32> {
     Ok(count)
 }
 
+/// Goes on to the nearest of the held nodes that run, as long as that one is nearer.
+pub fn route(words: &[u32], start: u32, key: u32, list: &mut [u8]) -> Result<Routed, u32> {
+    let (words, header) = ring(words)?;
+    all_running(words, header, &[start])?;
+    if key > LOW24 {
+        return Err(12);
+    }
+    let list: &mut [u8; NODES] = list.first_chunk_mut().ok_or(13u32)?;
+    let (table, running) = (table(words, header), running(words, header));
+    let nearest_held = |here: Ranked| table.nearest(marked(words, here.node(), HELD) & running, key);
+    let mut here = table.ranked(start as usize, key);
+    let mut hops = 0;
+    list[0] = start as u8;
+    while let Some(next) = nearest_held(here).filter(|&next| next < here) {
+        here = next;
+        hops += 1;
+        list[hops] = next.node() as u8;
+    }
+    Ok(Routed { answer: 0, end: here.node() as u32, hops: hops as u32 })
+}
+
+fn running(words: &Words, header: Header) -> u64 {
+    (0..header.nodes).filter(|&x| is_running(words, x)).fold(0, |set, x| set | 1 << x)
+}
+
 /// The running nodes, and for each the running nodes that it holds or that hold it.
 struct Links {
     running: u64,
@@ -57,7 +83,7 @@ struct Links {
 
 impl Links {
     fn read(words: &Words, header: Header) -> Links {
-        let running = (0..header.nodes).filter(|&x| is_running(words, x)).fold(0, |set, x| set | 1 << x);
+        let running = running(words, header);
         let mut beside = [0; NODES];
         for x in members(running) {
             let held = marked(words, x, HELD) & running;

@@ -9,6 +9,17 @@ pub struct Table {
     pub sides: Sides,
 }
 
+/// A node with its rank by nearness to a key in the higher bits: twice the distance, and 1 more where it lies
+/// counter-clockwise from the key.
+#[derive(Clone, Copy, PartialEq, Eq, PartialOrd, Ord)]
+pub struct Ranked(u32);
+
+impl Ranked {
+    pub fn node(self) -> usize {
+        (self.0 & 63) as usize
+    }
+}
+
 /// The members of a set, in rising order.
 pub fn members(mut set: u64) -> impl Iterator<Item = usize> {
     std::iter::from_fn(move || {
@@ -67,6 +78,17 @@ impl Table {
         let by_distance = |z: &usize| (distance(from, self.keys[*z]), clockwise(from, self.keys[*z]));
         let nearest = members(leafset & !(1 << asker)).min_by_key(by_distance)?;
         (distance(from, self.keys[nearest]) < distance(from, self.keys[me])).then_some(nearest)
+    }
+
+    pub fn ranked(&self, x: usize, key: u32) -> Ranked {
+        let ahead = clockwise(key, self.keys[x]);
+        let rank = (2 * ahead).min(2 * (LOW24 + 1 - ahead) + 1);
+        Ranked(rank << 6 | x as u32)
+    }
+
+    /// The member of the set nearest to a key.
+    pub fn nearest(&self, set: u64, key: u32) -> Option<Ranked> {
+        members(set).map(|z| self.ranked(z, key)).min()
     }
 
     /// "A stand's successor is its held stand nearest clockwise."

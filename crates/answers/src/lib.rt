@@ -4,7 +4,7 @@ ghost use mathlib.Core.Bool.{not};
 ghost use Rattle.model.specs.Answers.{numberOf, isAccepted};
 use model::answer::Answer;
 
-// Document 01's number of the answer.
+// The documents' number of the answer.
 pub fn number(answer: Answer) -> u32
     ensures answer { λ r. ⌜ r ≡ numberOf answer ⌝ }
 {
@@ -21,6 +21,8 @@ pub fn number(answer: Answer) -> u32
         Answer::AlreadyRunning => 9,
         Answer::ClockSpent => 10,
         Answer::PoolFull => 11,
+        Answer::KeyOutOfRange => 12,
+        Answer::ListTooShort => 13,
     }
 }
 

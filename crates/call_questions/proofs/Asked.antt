@@ -1,23 +1,19 @@
--- Laws of the questions: what a refused one gives, and what an accepted one knows of the words.
+-- Laws of the questions: what a refused one gives, and an accepted one.
 use mathlib.Core.Path.{_≡_, refl, sym, _∙_}
 use mathlib.Core.Logic.{_↔_}
-use mathlib.Core.Bool.{Bool, true, false, not}
-use mathlib.Core.List.{List, []}
-use Prim.Native.Nat.{ℕ, _<_}
-use lib.Dec.{ltb}
-use borrow.Author.Tests.{ltb-true}
+use mathlib.Core.Bool.{Bool, true, false}
+use mathlib.Core.List.{List}
+use Prim.Native.Nat.{ℕ}
 use Rattle.model.specs.Sets.{toBits}
-use Rattle.model.specs.Leafset.{size, leafset}
+use Rattle.model.specs.Leafset.{leafset}
 use Rattle.model.specs.Ring.{holds}
 use Rattle.model.specs.Connection.{Connected, connected, groups}
 use Rattle.model.specs.Answers.{isAccepted}
-use Rattle.model.specs.Words.{decodeTable, decode, readsAsRing}
-use Rattle.model.specs.WellFormed.{Each, nil, cons}
-use Rattle.model.specs.Questions.{leafsetAnswer, leafsetOf, connectionRefusals, connectionAnswer, connectionOf, groupsAnswer, groupsOf}
-use Rattle.model.proofs.Laws.{clash, not-out-false}
-use Rattle.model.proofs.Lists.{first, rest}
-use Rattle.model.proofs.Answers.{none-applies, later, again}
+use Rattle.model.specs.Words.{decode}
+use Rattle.model.specs.Questions.{leafsetOf, connectionAnswer, connectionOf, groupsAnswer, groupsOf}
+use Rattle.model.proofs.Laws.{clash}
 use Rattle.model.proofs.Theorems.{connected-decides}
+use Rattle.call_refusals.proofs.Passed.{connection-reads, node-twice}
 
 module _ (ws : List ℕ) where
   -- ---- the number of groups
@@ -31,32 +27,13 @@ module _ (ws : List ℕ) where
   groups-given a e = rw (a, e)
 
   module _ (x y : ℕ) where
-    -- ---- what an accepted question about two nodes knows
+    -- ---- a question about two nodes
 
     pub connection-refused : isAccepted (connectionAnswer ws x y) ≡ false → false ≡ connectionOf ws x y
     unfolding connectionOf
     connection-refused n = rw n
 
     module _ (a : connectionAnswer ws x y ≡ 0) where
-      none-of-connection : Each (λ q. q .applies ≡ false) (connectionRefusals ws x y)
-      unfolding connectionAnswer
-      none-of-connection =
-          none-applies (connectionRefusals ws x y) (cons refl (cons refl (cons refl (cons refl (cons refl (cons refl nil)))))) a
-
-      pub connection-reads : readsAsRing ws ≡ true
-      connection-reads = not-out-false (readsAsRing ws) (first (rest none-of-connection))
-
-      in-table : (z : ℕ) → not (ltb z (size (decodeTable ws))) ≡ false → z < size (decodeTable ws)
-      in-table z e = ltb-true z (size (decodeTable ws)) (not-out-false (ltb z (size (decodeTable ws))) e)
-
-      pub connection-from : x < size (decodeTable ws)
-      unfolding decode
-      connection-from = in-table x (first (rest (rest none-of-connection)))
-
-      pub connection-to : y < size (decodeTable ws)
-      unfolding decode
-      connection-to = in-table y (first (rest (rest (rest none-of-connection))))
-
       pub connection-given : {v : Bool} → v ≡ connected (decode ws) x y → v ≡ connectionOf ws x y
       unfolding connectionOf
       connection-given e = rw (a, e)
@@ -68,7 +45,7 @@ module _ (ws : List ℕ) where
       accepted = sym answer ∙ a
 
       decides : (connected (decode ws) x y ≡ true) ↔ Connected (decode ws) x y
-      decides = connected-decides ws (connection-reads accepted) x y
+      decides = connected-decides ws (connection-reads ws x y accepted) x y
 
       is : connected (decode ws) x y ≡ v
       is = connection-given accepted refl ∙ sym value
@@ -79,18 +56,14 @@ module _ (ws : List ℕ) where
       pub no-chain : v ≡ false → Connected (decode ws) x y → ⊥
       no-chain f p = clash (decides .1 p) (is ∙ f)
 
-  -- ---- a question about one node has the refusals of one about that node twice
+  -- ---- a question about one node, which is named twice
 
   module _ (x : ℕ) where
-    pub node-twice : connectionAnswer ws x x ≡ leafsetAnswer ws x
-    unfolding connectionAnswer leafsetAnswer
-    node-twice = later _ _ _ (later _ _ _ (again _ _ _ (again _ [] [] refl)))
-
     pub leafset-refused : isAccepted (connectionAnswer ws x x) ≡ false → 0 ≡ leafsetOf ws x
     unfolding leafsetOf
-    leafset-refused n = rw (← node-twice, n)
+    leafset-refused n = rw (← node-twice ws x, n)
 
     pub leafset-given : connectionAnswer ws x x ≡ 0
         → {v : ℕ} → v ≡ toBits 64 (leafset (decode ws .table) x (holds (decode ws) x)) → v ≡ leafsetOf ws x
     unfolding leafsetOf
-    leafset-given a e = rw (← node-twice, a, e)
+    leafset-given a e = rw (← node-twice ws x, a, e)

@@ -1,5 +1,5 @@
 -- The choice of a spare is the first of a set by a measure.
-use mathlib.Core.Path.{_≡_, sym, ap, _∙_, fun-ext}
+use mathlib.Core.Path.{_≡_, sym, ap, _∙_}
 use mathlib.Core.Bool.{true, false, not, _&&_}
 use mathlib.Core.List.{List}
 use Prim.Native.Nat.{ℕ, _^_, _≤_, _<_}
@@ -11,7 +11,7 @@ use lib.ListN.{length, getD}
 use borrow.Author.Tests.{lt-ltb, ltb-true}
 use Rattle.model.specs.Key.{distance}
 use Rattle.model.specs.Sets.{Set, without, noneNode, some, lowest, toBits, ofBits}
-use Rattle.model.specs.Leafset.{Table, leafset, nearest, closest}
+use Rattle.model.specs.Leafset.{leafset, nearest, closest}
 use Rattle.model.proofs.Laws.{decide, is-false, and-in, and-left, and-right, some-none}
 use Rattle.sets.specs.Within.{Within, InTable}
 use Rattle.model.specs.Structs.{tableOf}
@@ -19,20 +19,9 @@ use Rattle.model.specs.declared.values.Sides.{Sides}
 use Rattle.leafset_nearest.specs.Span.{spanTo, Least, Found, nobody, found}
 use Rattle.leafset_nearest.specs.declared.Way.the-variants.{Either}
 use Rattle.sets.proofs.Members.{lowest-first, lowest-none}
-use Rattle.leafset_nearest.proofs.Spans.{beats-rank, rank-nearer}
-use Rattle.leafset_nearest.proofs.Firsts.{found-none}
+use Rattle.leafset_nearest.proofs.Spans.{rank-nearer}
+use Rattle.leafset_nearest.proofs.Firsts.{nearest-found}
 use Rattle.leafset.proofs.Leaves.{leafset-low, leafset-back}
-
-module _ (sides : Sides) (keys : List ℕ) where
-  abbrev t : Table
-  t = tableOf sides keys
-
-  nearest-found : (a : ℕ) (S : Set) → ((y : ℕ) → S y ≡ true → y < length keys) → {b : ℕ}
-      → Found S (spanTo Either a keys) b → b ≡ nearest t a S
-  unfolding nearest
-  nearest-found a S low f =
-      found-none (length keys) S low (spanTo Either a keys) f
-      ∙ ap (lowest (length keys)) (fun-ext (λ y. ap (λ (P : Set). S y && not (some (length keys) P)) (fun-ext (λ z. ap (_&&_ (S z)) (sym (beats-rank t a z y))))))
 
 -- the choice of a spare: the first of the leafset but for a, where it is near enough
 module _ (sides : Sides) {keys : List ℕ} {x held : ℕ} (q : InTable keys x held) (a mine others : ℕ)
@@ -52,7 +41,7 @@ module _ (sides : Sides) {keys : List ℕ} {x held : ℕ} (q : InTable keys x he
   closest-is : {b : ℕ} → Found enough (spanTo Either (getD keys a 0) keys) b → b ≡ closest (tableOf sides keys) x (ofBits held) a
   unfolding closest
   closest-is f =
-      nearest-found sides keys (getD keys a 0) enough (λ y h. others-low y (and-left (ofBits others y) (ltb (far y) (far x)) h)) f
+      nearest-found (tableOf sides keys) (getD keys a 0) enough (λ y h. others-low y (and-left (ofBits others y) (ltb (far y) (far x)) h)) f
       ∙ ap (λ (R : Set). nearest (tableOf sides keys) (getD keys a 0) (λ y. R y && ltb (far y) (far x))) others-are
 
   pub closest-nobody : ((y : ℕ) → ofBits others y ≡ false) → noneNode ≡ closest (tableOf sides keys) x (ofBits held) a

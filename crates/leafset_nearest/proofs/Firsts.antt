@@ -1,14 +1,17 @@
--- The first of a set by a measure: the lowest of those that none of the set comes before.
-use mathlib.Core.Path.{_≡_, refl, sym}
+-- The first of a set by a measure: the lowest of those that none of the set comes before; the nearest to a key.
+use mathlib.Core.Path.{_≡_, refl, sym, ap, _∙_, fun-ext}
 use mathlib.Core.Bool.{true, false, not, _&&_}
 use Prim.Native.Nat.{ℕ, _≤_, _<_}
 use native.Mathlib.Omega.{arith}
 use lib.Dec.{eqb, ltb}
 use borrow.Author.Tests.{eq-eqb, eqb-true, lt-ltb, ltb-true}
 use Rattle.model.specs.Sets.{Set, count, some, lowest}
+use Rattle.model.specs.Leafset.{Table, size, nearest}
 use Rattle.model.proofs.Laws.{clash, is-false, and-in, and-left, and-right, not-in, not-out, some-in, some-out, count-none, count-more}
 use Rattle.sets.proofs.Members.{lowest-is, lowest-none}
-use Rattle.leafset_nearest.specs.Span.{Found, nobody, found}
+use Rattle.leafset_nearest.specs.Span.{spanTo, Found, nobody, found}
+use Rattle.leafset_nearest.specs.declared.Way.the-variants.{Either}
+use Rattle.leafset_nearest.proofs.Spans.{beats-rank}
 
 module _ (n : ℕ) (S : Set) (low : (y : ℕ) → S y ≡ true → y < n) (m : ℕ → ℕ) where
   -- the lowest of those that none of S comes before is the first of S
@@ -52,3 +55,11 @@ module _ (n : ℕ) (S : Set) (low : (y : ℕ) → S y ≡ true → y < n) (m : �
       lowest-found (λ y. S y && not (some n (before y))) (λ y q. and-left (S y) (not (some n (before y))) q)
       (λ y e f. and-in e (not-in (is-false (some n (before y)) (λ s. let p = some-out n (before y) s in clash (p .2) (before-none y f (p .0))))))
       (λ y z e h q. clash (some-in n (before y) z (low z e) (before-in y z e h)) (not-out (some n (before y)) (and-right (S y) (not (some n (before y))) q)))
+
+-- by distance, of two equally near the clockwise one: the model's nearest
+pub nearest-found : (t : Table) (a : ℕ) (S : Set) → ((y : ℕ) → S y ≡ true → y < size t) → {b : ℕ}
+    → Found S (spanTo Either a (t .keys)) b → b ≡ nearest t a S
+unfolding nearest
+nearest-found t a S low f =
+    found-none (size t) S low (spanTo Either a (t .keys)) f
+    ∙ ap (lowest (size t)) (fun-ext (λ y. ap (λ (P : Set). S y && not (some (size t) P)) (fun-ext (λ z. ap (_&&_ (S z)) (sym (beats-rank t a z y))))))

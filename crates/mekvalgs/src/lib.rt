@@ -6,6 +6,7 @@ ghost use Rattle.model.specs.Structs.{tableOf};
 ghost use Rattle.model.specs.Buffer.{openBuffer, playBuffer};
 ghost use Rattle.model.specs.Questions.{leafsetAnswer, leafsetOf, connectionAnswer, connectionOf, groupsAnswer, groupsOf};
 ghost use Rattle.model.specs.Words.{decode};
+ghost use Rattle.model.specs.Route.{routeBuffer};
 ghost use Rattle.model.specs.Connection.{Connected};
 ghost use Rattle.model.specs.Events.{wordAnswer};
 ghost use Rattle.call_play.specs.Replay.{PlayedAll, Replayed};
@@ -102,6 +103,27 @@ pub extern "C" fn mekvalgs_groups(words: &[u32], groups: &mut u32) -> u32
     let asked = call_questions::groups(words);
     *groups = asked.groups;
     let answer = asked.answer;
+    answers::number(answer)
+}
+
+// The route from a running node to the key, into the list.
+#[no_mangle]
+pub extern "C" fn mekvalgs_route(
+    words: &[u32],
+    start: u32,
+    key: u32,
+    route: &mut [u8],
+    end: &mut u32,
+    hops: &mut u32,
+) -> u32
+    ensures routed { λ r. ⌜ record { answer = r; end = now (end .exit); hops = now (hops .exit); list = now (route .exit) }
+        ≡ routeBuffer (now (words .entry)) start key (now (route .entry)) ⌝ }
+{
+    let routed = call_route::route(words, node(start), key, route);
+    let last = routed.end;
+    *end = last.0 as u32;
+    *hops = routed.hops;
+    let answer = routed.answer;
     answers::number(answer)
 }
 

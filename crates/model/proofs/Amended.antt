@@ -1,12 +1,13 @@
 -- What the notes of document 02 amend, by rows that are computed.
 use mathlib.Core.Path.{_≡_, refl}
-use mathlib.Core.Bool.{Bool, true, false}
+use mathlib.Core.Bool.{Bool, true, false, not}
 use mathlib.Core.List.{List, [], _∷_, map}
 use Prim.Native.Nat.{ℕ}
 use lib.Dec.{eqb}
+use lib.ListN.{getD}
 use Rattle.model.specs.Choice.{if_then_else_}
-use Rattle.model.specs.Sets.{noneNode, ofBits, count, members}
-use Rattle.model.specs.Leafset.{Table, leafset}
+use Rattle.model.specs.Sets.{noneNode, ofBits, count, some, members}
+use Rattle.model.specs.Leafset.{Table, leafset, nearest}
 use Rattle.model.specs.Ring.{Own, Ring, cleared}
 use Rattle.model.specs.Types.{pongAskInv, leave}
 use Rattle.model.specs.Words.{headWord, sidesOf}
@@ -14,6 +15,7 @@ use Rattle.model.specs.Steps.{plain, viewing, release, forget, leaving, 
 use Rattle.model.specs.Answers.{firstOf}
 use Rattle.model.specs.Events.{wordOf, eventOf, wordAnswer, readEvent}
 use Rattle.model.specs.Play.{after}
+use Rattle.model.specs.Route.{nextOf, goesOn, routeWithin, route}
 use Rattle.model.specs.declared.event.Event.the-variants.{Off}
 
 -- ---- "Ghosts in the candidate list"
@@ -70,6 +72,19 @@ sent polite = map (λ m. m .type ∷ m .sender ∷ m .receiver ∷ m .subject �
 pub kept : Bool → List (List ℕ)
 kept polite = (gone polite .node 0 .clock ∷ []) ∷ known (gone polite .node 0 .own)
 
+-- ---- "Which desk keeps this bar?"
+
+-- keys 10, 20, 30, 40 and 50: all run but those that are given by their bits, each holds those that the list has for it, and node 4 is a
+-- candidate: the route from node 0 to the key
+pub routed : ℕ → List ℕ → ℕ → List ℕ
+routed off held a = route r a 0
+  where
+    own : ℕ → Own
+    own x = record { held = ofBits (getD held x 0); candidates = ofBits 0b10000; commit = λ y. 0; spare = λ y. noneNode }
+
+    r : Ring
+    r = record { table = five; node = λ x. record { running = not (ofBits off x); clock = 9; own = own x }; messages = [] }
+
 -- the rows by name
 pub record Amended : Type 0 where
   -- "strikes its subject from the receiver's candidates, held or not": a candidate that is not held; one that is; one held that is none
@@ -100,9 +115,19 @@ pub record Amended : Type 0 where
   pub polite-reads : readEvent 0xA0001002 .event ≡ Off (record { 0 = 2 }) true ∷ []
   pub unnamed-below : wordAnswer 0xA0001040 ≡ 4
   pub unnamed-above : wordAnswer 0xA0002000 ≡ 4
+  -- "It goes on to the nearest of the running stands held there": from stand to stand; to one outside its leafset; not to one that is off,
+  -- nor to a candidate
+  pub route-hops : routed 0 (0b00010 ∷ 0b00100 ∷ 0b01000 ∷ []) 38 ≡ 0 ∷ 1 ∷ 2 ∷ 3 ∷ []
+  pub route-outside : routed 0 (0b11110 ∷ []) 31 ≡ 0 ∷ 2 ∷ []
+  pub route-off : routed 0b00100 (0b00110 ∷ []) 30 ≡ 0 ∷ 1 ∷ []
+  pub route-candidate : routed 0 (0b00010 ∷ []) 50 ≡ 0 ∷ 1 ∷ []
+  -- "as long as that one beats the present stand by the same measure": of two equally near the clockwise one from the key beats the other
+  pub route-tie : routed 0 (0b00010 ∷ 0b00001 ∷ []) 15 ≡ 0 ∷ 1 ∷ []
+  pub route-tie-back : routed 0 (0b10000 ∷ []) 8388638 ≡ 0 ∷ []
+  pub route-stays : routed 0 (0b00010 ∷ []) 14 ≡ 0 ∷ []
 
 pub amended : Amended
-unfolding count members five knowing told known noticed brought-back uneven left-by gone sent kept release forget leaving notice onPongAskInv onLeave deliver after eventOf wordAnswer readEvent firstOf leafset headWord
+unfolding count members five knowing told known noticed brought-back uneven left-by gone sent kept release forget leaving notice onPongAskInv onLeave deliver after eventOf wordAnswer readEvent firstOf leafset headWord some nearest nextOf goesOn routeWithin route routed
 amended =
     record {
       notice-candidate = refl;
@@ -126,4 +151,11 @@ amended =
       polite-reads = refl;
       unnamed-below = refl;
       unnamed-above = refl;
+      route-hops = refl;
+      route-outside = refl;
+      route-off = refl;
+      route-candidate = refl;
+      route-tie = refl;
+      route-tie-back = refl;
+      route-stays = refl;
     }

@@ -8,7 +8,7 @@ use Rattle.model.specs.WellFormed.{Each, nil, cons}
 use Rattle.model.specs.Answers.{isAccepted, numberOf}
 use Rattle.model.specs.Play.{after, act, removeMessage, refusals, leftRefusals}
 use Rattle.model.specs.declared.answer.Answer.{Answer}
-use Rattle.model.specs.declared.answer.Answer.the-variants.{Accepted, WrongLength, OpeningOutOfRange, BadKey, NotAnEvent, SameNode, NotARing, OutOfTable, NodeOff, AlreadyRunning, ClockSpent, PoolFull}
+use Rattle.model.specs.declared.answer.Answer.the-variants.{Accepted, WrongLength, OpeningOutOfRange, BadKey, NotAnEvent, SameNode, NotARing, OutOfTable, NodeOff, AlreadyRunning, ClockSpent, PoolFull, KeyOutOfRange, ListTooShort}
 use Rattle.model.specs.declared.event.Event.{Event}
 use Rattle.model.specs.declared.event.Event.the-variants.{On, Off, Notice, Contact, Timer, Deliver, Lose}
 use Rattle.model.proofs.Laws.{if-law}
@@ -40,7 +40,7 @@ after-table r (Lose i) = refl
 -- ---- answers
 
 -- an answer's number fits a byte
-pub number-low : (a : Answer) → numberOf a ≤ 11
+pub number-low : (a : Answer) → numberOf a ≤ 13
 number-low Accepted = lit≤ tt
 number-low WrongLength = lit≤ tt
 number-low OpeningOutOfRange = lit≤ tt
@@ -53,3 +53,5 @@ number-low NodeOff = lit≤ tt
 number-low AlreadyRunning = lit≤ tt
 number-low ClockSpent = lit≤ tt
 number-low PoolFull = lit≤ tt
+number-low KeyOutOfRange = lit≤ tt
+number-low ListTooShort = lit≤ tt

@@ -61,10 +61,10 @@ pub lowest-in : (n : ℕ) (S : Set) (y : ℕ) → Member n S y → Member n S (l
 lowest-in n S y m = each-at (members-are n S) 64 0 (some-members n S y m)
 
 -- a member with the least value of f
-record Least (n : ℕ) (S : Set) (f : ℕ → ℕ) : Type 0 where
-  best : ℕ
-  member : Member n S best
-  no-less : (z : ℕ) → Member n S z → f best ≤ f z
+pub record Least (n : ℕ) (S : Set) (f : ℕ → ℕ) : Type 0 where
+  pub best : ℕ
+  pub member : Member n S best
+  pub no-less : (z : ℕ) → Member n S z → f best ≤ f z
 
 least-both : (n : ℕ) (S : Set) (f : ℕ → ℕ) → S n ≡ true → Least n S f → Least (suc n) S f
 least-both n S f q l =
@@ -107,7 +107,7 @@ least-alone n S f p q =
     }
 
 -- of the members of a set that has one, one has the least value of f
-least : (n : ℕ) (S : Set) (f : ℕ → ℕ) → some n S ≡ true → Least n S f
+pub least : (n : ℕ) (S : Set) (f : ℕ → ℕ) → some n S ≡ true → Least n S f
 unfolding some
 least zero S f e = clash e refl
 least (suc n) S f e =
@@ -139,16 +139,21 @@ module _ (t : Table) where
       })
       (leafset-other x held y (and-left (leafset t x held y) (not (eqb y a)) s)))
 
+  -- nobody is nearer than the nearest by the distance d
+  pub none-nearer : (d : ℕ → ℕ → ℕ) (a : ℕ) (S : Set) (l : Least (size t) S (λ z. d a (key t z))) → nearer t d a S (l .best) ≡ 0
+  none-nearer d a S l =
+      count-none (size t) (λ z. S z && ltb (d a (key t z)) (d a (key t (l .best))))
+      (λ z h. is-false (S z && ltb (d a (key t z)) (d a (key t (l .best))))
+      (λ k. clash (and-right (S z) (ltb (d a (key t z)) (d a (key t (l .best)))) k)
+      (le-ltb (d a (key t z)) (d a (key t (l .best))) (l .no-less z (record { below = h; within = and-left (S z) _ k })))))
+
   -- a node that holds somebody has a successor, and holds it
   pub successor-held : (x : ℕ) (held : Set) → some (size t) held ≡ true → held (successor t x held) ≡ true
   unfolding successor
   successor-held x held e =
       let d : ℕ → ℕ = λ z. clockwise (key t x) (key t z) in
       let l : Least (size t) held d = least (size t) held d e in
-      let c : nearer t clockwise (key t x) held (l .best) ≡ 0 = count-none (size t) (λ z. held z && ltb (d z) (d (l .best)))
-      (λ z h. is-false (held z && ltb (d z) (d (l .best)))
-      (λ k. clash (and-right (held z) (ltb (d z) (d (l .best))) k)
-      (le-ltb (d z) (d (l .best)) (l .no-less z (record { below = h; within = and-left (held z) (ltb (d z) (d (l .best))) k }))))) in
+      let c : nearer t clockwise (key t x) held (l .best) ≡ 0 = none-nearer clockwise (key t x) held l in
       and-left (held (successor t x held)) _
       (lowest-in (size t) (λ y. held y && eqb (nearer t clockwise (key t x) held y) 0) (l .best)
       (record { below = l .member .below; within = and-in (l .member .within) (eq-eqb (nearer t clockwise (key t x) held (l .best)) 0 c) })

@@ -127,13 +127,13 @@ module _ (S : Set) (d : ℕ → ℕ) (n : ℕ) (inj : (y z : ℕ) → y < n → 
 sums : (x y a b : ℕ) → x + a ≡ b → y + b ≡ a + 16777216 → x + y ≡ 16777216
 sums x y a b e f = omega arith
 
-up : (a b : ℕ) → a ≤ b → b < 16777216 → clockwise a b + a ≡ b
+pub up : (a b : ℕ) → a ≤ b → b < 16777216 → clockwise a b + a ≡ b
 up a b h hb = omega arith
 
-down : (a b : ℕ) → b < a → a < 16777216 → clockwise a b + a ≡ b + 16777216
+pub down : (a b : ℕ) → b < a → a < 16777216 → clockwise a b + a ≡ b + 16777216
 down a b h ha = omega arith
 
-round : (a b : ℕ) → a < 16777216 → b < 16777216 → (b ≡ a → ⊥) → clockwise a b + clockwise b a ≡ 16777216
+pub round : (a b : ℕ) → a < 16777216 → b < 16777216 → (b ≡ a → ⊥) → clockwise a b + clockwise b a ≡ 16777216
 round a b ha hb n =
     elim (decLt a b) [
       | yes h ↦ sums (clockwise a b) (clockwise b a) a b (up a b (le-of-lt h) hb) (down b a h hb)
@@ -143,7 +143,7 @@ round a b ha hb n =
     ]
 
 -- from one key, different keys are at different distances, on either way
-clockwise-inj : (a b c : ℕ) → a < 16777216 → b < 16777216 → c < 16777216 → clockwise a b ≡ clockwise a c → b ≡ c
+pub clockwise-inj : (a b c : ℕ) → a < 16777216 → b < 16777216 → c < 16777216 → clockwise a b ≡ clockwise a c → b ≡ c
 clockwise-inj a b c ha hb hc e = omega arith
 
 counter-inj : (a b c : ℕ) → a < 16777216 → b < 16777216 → c < 16777216 → counterClockwise a b ≡ counterClockwise a c → b ≡ c
@@ -156,7 +156,7 @@ complements x u y v e f h = omega arith
 turned : (a b c : ℕ) → a < 16777216 → b < 16777216 → c < 16777216 → (b ≡ a → ⊥) → (c ≡ a → ⊥) → clockwise a b < clockwise a c → clockwise c a < clockwise b a
 turned a b c ha hb hc nb nc h = complements (clockwise a b) (clockwise b a) (clockwise a c) (clockwise c a) (round a b ha hb nb) (round a c ha hc nc) h
 
-clockwise-lt : (a b : ℕ) → clockwise a b < 16777216
+pub clockwise-lt : (a b : ℕ) → clockwise a b < 16777216
 clockwise-lt a b = omega arith
 
 -- ---- the two sides of a leafset
@@ -176,7 +176,21 @@ pub record TwoSides (t : Table) (x : ℕ) (S : Set) : Type 0 where
   pub apart : (y : ℕ) → y < size t → ahead y ≡ true → behind y ≡ true → ⊥
   pub together : (y : ℕ) → leafset t x S y ≡ (ahead y || behind y)
 
--- ---- the leafset of x in S, in a well-formed table
+-- ---- in a well-formed table
+
+module _ (t : Table) (g : WellFormedTable t) where
+  pub small : (y : ℕ) → y < size t → key t y < 16777216
+  small y h = let l = g .key-high y h in omega arith
+
+  pub same-key : (y z : ℕ) → y < size t → z < size t → key t y ≡ key t z → y ≡ z
+  unfolding keysDiffer
+  same-key y z hy hz e =
+      let p = all-out (size t) (λ v. eqb y v || not (eqb (key t y) (key t v))) (all-out (size t) (λ u. all (size t) (λ v. eqb u v || not (eqb (key t u) (key t v)))) (g .keys-differ) y hy) z hz in
+      or-case (eqb y z) (not (eqb (key t y) (key t z))) p
+      (λ q. eqb-true y z q)
+      (λ q. absurd (eqb-false (key t y) (key t z) (not-out (eqb (key t y) (key t z)) q) e))
+
+-- ---- the leafset of x in S
 
 module _ (t : Table) (g : WellFormedTable t) (x : ℕ) (hx : x < size t) (S : Set) where
   abbrev n : ℕ
@@ -188,19 +202,8 @@ module _ (t : Table) (g : WellFormedTable t) (x : ℕ) (hx : x < size t) (S : Se
   abbrev left : Set
   left = without S x
 
-  small : (y : ℕ) → y < n → key t y < 16777216
-  small y h = let l = g .key-high y h in omega arith
-
-  same-key : (y z : ℕ) → y < n → z < n → key t y ≡ key t z → y ≡ z
-  unfolding keysDiffer
-  same-key y z hy hz e =
-      let p = all-out n (λ v. eqb y v || not (eqb (key t y) (key t v))) (all-out n (λ u. all n (λ v. eqb u v || not (eqb (key t u) (key t v)))) (g .keys-differ) y hy) z hz in
-      or-case (eqb y z) (not (eqb (key t y) (key t z))) p
-      (λ q. eqb-true y z q)
-      (λ q. absurd (eqb-false (key t y) (key t z) (not-out (eqb (key t y) (key t z)) q) e))
-
   other : (y : ℕ) → y < n → left y ≡ true → key t y ≡ a → ⊥
-  other y hy e i = eqb-false y x (not-out (eqb y x) (and-right (S y) (not (eqb y x)) e)) (same-key y x hy hx i)
+  other y hy e i = eqb-false y x (not-out (eqb y x) (and-right (S y) (not (eqb y x)) e)) (same-key t g y x hy hx i)
 
   abbrev ahead : ℕ → ℕ
   ahead y = clockwise a (key t y)
@@ -209,10 +212,10 @@ module _ (t : Table) (g : WellFormedTable t) (x : ℕ) (hx : x < size t) (S : Se
   behind y = counterClockwise a (key t y)
 
   ahead-inj : (y z : ℕ) → y < n → z < n → left y ≡ true → left z ≡ true → ahead y ≡ ahead z → y ≡ z
-  ahead-inj y z hy hz ly lz e = same-key y z hy hz (clockwise-inj a (key t y) (key t z) (small x hx) (small y hy) (small z hz) e)
+  ahead-inj y z hy hz ly lz e = same-key t g y z hy hz (clockwise-inj a (key t y) (key t z) (small t g x hx) (small t g y hy) (small t g z hz) e)
 
   behind-inj : (y z : ℕ) → y < n → z < n → left y ≡ true → left z ≡ true → behind y ≡ behind z → y ≡ z
-  behind-inj y z hy hz ly lz e = same-key y z hy hz (counter-inj a (key t y) (key t z) (small x hx) (small y hy) (small z hz) e)
+  behind-inj y z hy hz ly lz e = same-key t g y z hy hz (counter-inj a (key t y) (key t z) (small t g x hx) (small t g y hy) (small t g z hz) e)
 
   -- the `many` nearest on one way
   abbrev near : ℕ → (ℕ → ℕ → ℕ) → Set
@@ -236,11 +239,11 @@ module _ (t : Table) (g : WellFormedTable t) (x : ℕ) (hx : x < size t) (S : Se
       rw (lz, e, le-ltb (ahead z) (ahead y) (le-of-eq (ap ahead (sym i))), le-ltb (behind z) (behind y) (le-of-eq (ap behind (sym i)))))
       (λ e. decide (ltb (ahead z) (ahead y))
       (λ q.
-      let b = turned a (key t z) (key t y) (small x hx) (small z hz) (small y hy) (other z hz lz) (other y hy ly) (ltb-true (ahead z) (ahead y) q) in
+      let b = turned a (key t z) (key t y) (small t g x hx) (small t g z hz) (small t g y hy) (other z hz lz) (other y hy ly) (ltb-true (ahead z) (ahead y) q) in
       rw (lz, e, q, le-ltb (behind z) (behind y) (le-of-lt b)))
       (λ q.
       let f : ahead y < ahead z = lt-of-le-ne (ltb-false (ahead z) (ahead y) q) (λ i. eqb-false z y e (ahead-inj z y hz hy lz ly (sym i))) in
-      let b = turned a (key t y) (key t z) (small x hx) (small y hy) (small z hz) (other y hy ly) (other z hz lz) f in
+      let b = turned a (key t y) (key t z) (small t g x hx) (small t g y hy) (small t g z hz) (other y hy ly) (other z hz lz) f in
       rw (lz, e, q, lt-ltb (behind z) (behind y) b))))
       (λ lz. rw lz)
 

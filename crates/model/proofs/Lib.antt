@@ -24,4 +24,5 @@ pub mod Questions
 pub mod ExampleRing
 pub mod Points
 pub mod Amended
+pub mod Routes
 pub mod Theorems

@@ -1,13 +1,14 @@
 -- The theorems about the definitions, by name. Each says its sentence; the argument is in the module that is cited.
 use mathlib.Core.Path.{_≡_, refl, sym, ap, _∙_}
-use mathlib.Core.Logic.{_↔_}
-use Prim.Native.Nat.{ℕ, _+_, _≤_, _<_}
+use mathlib.Core.Logic.{_↔_, _⊎_}
+use Prim.Native.Nat.{ℕ, suc, _+_, _-_, _≤_, _<_}
 use mathlib.Core.Bool.{Bool, true, false, _&&_}
-use mathlib.Core.List.{List}
+use mathlib.Core.List.{List, [], _∷_}
 use lib.Dec.{ltb}
+use lib.ListN.{length, getD}
 use Rattle.model.specs.Choice.{if_then_else_}
-use Rattle.model.specs.Sets.{Set, without, count, toBits}
-use Rattle.model.specs.Leafset.{Table, size, leafset}
+use Rattle.model.specs.Sets.{Set, without, count, toBits, noneNode}
+use Rattle.model.specs.Leafset.{Table, size, key, leafset, beats, nearest}
 use Rattle.model.specs.Ring.{Ring, initial, holds, isRunning}
 use Rattle.model.specs.WellFormed.{WellFormedTable, WellFormed}
 use Rattle.model.specs.Words.{encode, decode, readsAsRing}
@@ -16,6 +17,7 @@ use Rattle.model.specs.Events.{wordOf, eventOf, eventRefusals, eventAnsw
 use Rattle.model.specs.Play.{stateRefusals, playAll}
 use Rattle.model.specs.Buffer.{ringRefusals, openRefusals, openAnswer, openBuffer, playRefusals, bufferAnswer, playBuffer, playBufferAll}
 use Rattle.model.specs.Questions.{leafsetRefusals, leafsetAnswer, leafsetOf, connectionRefusals, connectionAnswer, groupsAnswer}
+use Rattle.model.specs.Route.{nextOf, goesOn, route, Converged, routeRefusals, routeAnswer, routeBuffer}
 use Rattle.model.specs.Bench.{scriptRefusals, scriptAnswer}
 use Rattle.model.specs.Connection.{Connected, connected, groups, CountsGroups}
 use Rattle.model.specs.ConnectivityPreserved.{Reached, opened, Unbroken, ConnectivityPreserved}
@@ -36,6 +38,8 @@ use Rattle.model.proofs.Decoded as decoded
 use Rattle.model.proofs.Follows as follow
 use Rattle.model.proofs.Connection as connection
 use Rattle.model.proofs.Groups as grouped
+use Rattle.model.proofs.Routes.{Hop}
+use Rattle.model.proofs.Routes as routes
 use Rattle.model.proofs.ConnectivityPreserved as preserved
 
 -- ---- "The lowest number that applies is given, and none otherwise", at each call
@@ -77,6 +81,10 @@ lowest-at-connection ws a b = lowest-given 0 (connectionRefusals ws a b) refl
 pub lowest-at-groups : (ws : List ℕ) → LowestOf (ringRefusals ws) (groupsAnswer ws)
 unfolding groupsAnswer
 lowest-at-groups ws = lowest-given 0 (ringRefusals ws) refl
+
+pub lowest-at-routing : (ws : List ℕ) (start key : ℕ) (list : List ℕ) → LowestOf (routeRefusals ws start key list) (routeAnswer ws start key list)
+unfolding routeAnswer
+lowest-at-routing ws start key list = lowest-given 0 (routeRefusals ws start key list) refl
 
 pub lowest-at-script : (ws : List ℕ) → LowestOf (scriptRefusals ws) (scriptAnswer ws)
 unfolding scriptAnswer
@@ -179,6 +187,51 @@ groups-are-classes r g = grouped.counts-groups r (λ x h. g .node-well x .runnin
 -- "0 if none runs", and only then
 pub no-groups : (r : Ring) → WellFormed r → (groups r ≡ 0) ↔ ((x : ℕ) → isRunning r x ≡ false)
 no-groups r g = grouped.none-run r (λ x h. g .node-well x .running-low h)
+
+-- ---- routes
+
+-- nearness to a key orders nodes: nobody beats itself, who beats one that beats another beats that one too, and of two with different
+-- keys one beats the other
+pub beats-irreflexive : (t : Table) (a y : ℕ) → beats t a y y ≡ false
+beats-irreflexive t a y = routes.beats-irreflexive t a y
+
+pub beats-transitive : (t : Table) (a x y z : ℕ) → beats t a x y ≡ true → beats t a y z ≡ true → beats t a x z ≡ true
+beats-transitive t a x y z = routes.beats-transitive t a x y z
+
+pub beats-total : (t : Table) (a y z : ℕ) → key t y < 16777216 → key t z < 16777216 → a < 16777216 → ¬ (key t y ≡ key t z)
+    → (beats t a y z ≡ true) ⊎ (beats t a z y ≡ true)
+beats-total t a y z = routes.beats-total t a y z
+
+-- "A refused route answers 0 hops and stand 64, and the list is untouched."
+pub refused-routing : (ws : List ℕ) (start a : ℕ) (list : List ℕ) → isAccepted (routeAnswer ws start a list) ≡ false
+    → routeBuffer ws start a list ≡ record { answer = routeAnswer ws start a list; end = noneNode; hops = 0; list = list }
+unfolding routeBuffer
+refused-routing ws start a list e = rw e
+
+-- "The rest of the route is the route from the next stand."
+pub route-from : (r : Ring) (a x : ℕ) → route r a x ≡ x ∷ (if goesOn r a x then route r a (nextOf r a x) else [])
+route-from r a x = routes.route-from r a x
+
+-- "Hops are at most n − 1."
+pub route-short : (r : Ring) (a x : ℕ) → x < size (r .table) → length (route r a x) ≤ size (r .table)
+route-short r a x h = routes.route-short r a x h
+
+-- each node of a route but the first is held by the one before, runs, and is nearer to the key
+pub route-falls : (r : Ring) (a x i : ℕ) → suc i < length (route r a x) → Hop r a (getD (route r a x) i noneNode) (getD (route r a x) (suc i) noneNode)
+route-falls r a x i h = routes.route-falls r a x i h
+
+-- no node stands at two places of a route
+pub route-once : (r : Ring) (a x i j : ℕ) → i < length (route r a x) → j < length (route r a x)
+    → getD (route r a x) i noneNode ≡ getD (route r a x) j noneNode → i ≡ j
+route-once r a x i j h k e = routes.route-once r a x i j h k e
+
+-- "When every running stand holds exactly its leafset of all running stands, the route ends at the nearest running stand of all":
+-- whatever A and B, the key and the start
+pub route-ends-nearest : (r : Ring) → WellFormed r → Converged r → (a : ℕ) → a < 16777216 → (x : ℕ) → isRunning r x ≡ true
+    → getD (route r a x) (length (route r a x) - 1) noneNode ≡ nearest (r .table) a (isRunning r)
+route-ends-nearest r g c a h x e = routes.route-ends-nearest r g c a h x e
+
+-- ---- demand 3
 
 -- words that were reached read as a ring
 pub reached-reads : (start : List ℕ) (r : Ring) → Reached start r → readsAsRing start ≡ true

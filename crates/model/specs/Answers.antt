@@ -1,13 +1,13 @@
--- The answers: acceptance and the eleven refusals, with document 01's numbers, and the order in which they are tried.
+-- The answers: acceptance and the refusals, with the documents' numbers, and the order in which they are tried.
 use Prim.Native.Nat.{ℕ}
 use mathlib.Core.Bool.{Bool}
 use mathlib.Core.List.{List, [], _∷_}
 use lib.Dec.{eqb}
 use Rattle.model.specs.Choice.{if_then_else_}
 use Rattle.model.specs.declared.answer.Answer.{Answer}
-use Rattle.model.specs.declared.answer.Answer.the-variants.{Accepted, WrongLength, OpeningOutOfRange, BadKey, NotAnEvent, SameNode, NotARing, OutOfTable, NodeOff, AlreadyRunning, ClockSpent, PoolFull}
+use Rattle.model.specs.declared.answer.Answer.the-variants.{Accepted, WrongLength, OpeningOutOfRange, BadKey, NotAnEvent, SameNode, NotARing, OutOfTable, NodeOff, AlreadyRunning, ClockSpent, PoolFull, KeyOutOfRange, ListTooShort}
 
--- "answer (0 accepted)"; "Refusals from the input", "Refusals from the state": the numbers 1 to 11
+-- "answer (0 accepted)"; "Refusals from the input", "Refusals from the state": the numbers 1 to 11; document 02 adds 12 and 13
 abbrev pub numberOf : Answer → ℕ
 numberOf Accepted = 0
 numberOf WrongLength = 1
@@ -21,6 +21,8 @@ numberOf NodeOff = 8
 numberOf AlreadyRunning = 9
 numberOf ClockSpent = 10
 numberOf PoolFull = 11
+numberOf KeyOutOfRange = 12
+numberOf ListTooShort = 13
 
 abbrev pub isAccepted : ℕ → Bool
 isAccepted a = eqb a 0

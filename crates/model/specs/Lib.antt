@@ -17,3 +17,4 @@ pub mod Questions
 pub mod ConnectivityPreserved
 pub mod Bench
 pub mod Structs
+pub mod Route

@@ -1,5 +1,5 @@
 // The answers of the calls.
-// Acceptance, or one of the eleven refusals of document 01.
+// Acceptance, or one of the refusals of documents 01 and 02.
 pub enum Answer {
     Accepted,
     WrongLength,
@@ -13,4 +13,6 @@ pub enum Answer {
     AlreadyRunning,
     ClockSpent,
     PoolFull,
+    KeyOutOfRange,
+    ListTooShort,
 }

@@ -1,6 +1,7 @@
 // The public calls, by a command.
 use super::ask::ask;
 use super::command::Command;
+use super::events::node;
 use super::events::outcome;
 use super::line::Outcome;
 use super::memory;
@@ -13,7 +14,8 @@ pub fn call(command: Command, words: &mut [u32], list: &[u32], places: &mut [u8]
         Command::PLAY => outcome(call_play::play(words, command.a), 0),
         Command::LEAFSET..=Command::WRITE => ask(command, words),
         Command::REPLAY => replayed(words, command, list, places),
-        _ => played_all(words, command, list, places),
+        Command::PLAY_ALL => played_all(words, command, list, places),
+        _ => routed(words, command, places),
     }
 }
 
@@ -39,4 +41,13 @@ fn played_all(words: &mut [u32], command: Command, list: &[u32], places: &mut [u
     let end = memory::at_most_bytes(command.c, places);
     let answer = call_play::play_all(words, &script[from..], &mut places[..end]);
     outcome(answer, memory::digest_bytes(places))
+}
+
+// The value has the digest of all places, also of those that are not lent, then end and hops, two decimal digits each.
+fn routed(words: &[u32], command: Command, places: &mut [u8]) -> Outcome {
+    let end = memory::at_most_bytes(command.c, places);
+    let reply = call_route::route(words, node(command.a), command.b, &mut places[..end]);
+    let answer = reply.answer;
+    let digits = (reply.end.0 as u64) * 100 + reply.hops as u64;
+    outcome(answer, memory::digest_bytes(places) * 10_000 + digits)
 }

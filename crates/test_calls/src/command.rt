@@ -42,7 +42,10 @@ impl Command {
     // Replays: opens as above, and plays the d words of the list after the keys.
     pub const REPLAY: u32 = 9;
 
-    // Every other number plays words a up to b of the list by one call, which is lent the first c places.
+    // Plays words a up to b of the list by one call, which is lent the first c places.
+    pub const PLAY_ALL: u32 = 10;
+
+    // Every other number asks for the route from node a towards key b, which is lent the first c places.
 }
 
 pub enum Next {

@@ -53,7 +53,8 @@ fn run_all(words: &mut [u32], list: &mut [u32], places: &mut [u8])
     }
 }
 
-// The list has keys, and after them a script; or a script alone. The places take the answers of its words.
+// The list has keys, and after them a script; or a script alone. The places take the answers of its words, or the
+// nodes of a route.
 fn main() {
     let mut words = [0u32; WORDS];
     let mut list = [0u32; 1200];

@@ -71,7 +71,9 @@ pub fn digest(words: &[u32]) -> u64 {
     digest
 }
 
-pub fn digest_bytes(bytes: &[u8]) -> u64 {
+pub fn digest_bytes(bytes: &[u8]) -> u64
+    ensures bound { λ r. ⌜ r < 2 ^ 32 ⌝ }
+{
     let mut digest = 0;
     for i in 0..bytes.len() {
         digest = digested(digest, wide(bytes[i]));

@@ -3,7 +3,8 @@ use Prim.Native.Nat.{ℕ}
 use native.Mathlib.Omega.{arith}
 use Rattle.answers.proofs.Valid.{long, few}
 use Rattle.answers.proofs.Answered.{refused, accepted}
-use Rattle.call_questions.proofs.Asked.{connection-refused, connection-given, connection-reads, connection-from, connection-to, yes-chain, no-chain}
+use Rattle.call_refusals.proofs.Passed.{connection-reads, connection-from, connection-to}
+use Rattle.call_questions.proofs.Asked.{connection-refused, connection-given, yes-chain, no-chain}
 use borrow.Author.Needs.{needs}
 use Rattle.call_questions.proofs.connected.Statement.{statement}
 use Rattle.call_questions.proofs.connected.Tie as tie

@@ -3,7 +3,8 @@ use mathlib.Core.List.{List}
 use Prim.Native.Nat.{ℕ}
 use borrow.Author.Needs.{needs}
 use Rattle.answers.proofs.Answered.{refused, accepted}
-use Rattle.call_questions.proofs.Asked.{node-twice, leafset-refused, leafset-given, connection-reads, connection-from}
+use Rattle.call_refusals.proofs.Passed.{connection-reads, connection-from, node-twice}
+use Rattle.call_questions.proofs.Asked.{leafset-refused, leafset-given}
 use Rattle.call_questions.proofs.leafset_of.Statement.{statement}
 use Rattle.call_questions.proofs.leafset_of.Tie as tie
 

@@ -1,0 +1,4 @@
+pub mod Hops
+pub mod Walks
+pub mod Refused
+pub mod Given
