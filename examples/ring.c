@@ -5,7 +5,7 @@
  *     target/ring
  *
  * For each event its answer and the messages in flight; then each node with those that it holds, read from the words,
- * and who is linked. It prints what ring.out has.
+ * who is linked, and which of them keeps key 16. It prints what ring.out has.
  */
 #include <inttypes.h>
 #include <stdio.h>
@@ -57,7 +57,8 @@ int main(void)
         event(MEKVALGS_DELIVER, 0, 0),
     };
     uint64_t leafset;
-    uint32_t answer, connected, groups;
+    uint32_t answer, connected, groups, end, hops;
+    uint8_t route[MEKVALGS_MAX_NODES];
 
     printf("open: answer %" PRIu32 "\n", mekvalgs_open(ring, MEKVALGS_RING_LENGTH, 1, 1, keys, 3));
     for (unsigned i = 0; i < sizeof events / sizeof events[0]; i++) {
@@ -77,5 +78,10 @@ int main(void)
     printf("0 and 2 connected: answer %" PRIu32 ", %" PRIu32 "\n", answer, connected);
     answer = mekvalgs_groups(ring, MEKVALGS_RING_LENGTH, &groups);
     printf("groups: answer %" PRIu32 ", %" PRIu32 "\n", answer, groups);
+    answer = mekvalgs_route(ring, MEKVALGS_RING_LENGTH, 0, 16, route, MEKVALGS_MAX_NODES, &end, &hops);
+    printf("route from 0 to key 16: answer %" PRIu32 ", ends at %" PRIu32 ", by way of", answer, end);
+    for (uint32_t i = 0; answer == MEKVALGS_ACCEPTED && i <= hops; i++)
+        printf(" %" PRIu8, route[i]);
+    printf("\n");
     return 0;
 }

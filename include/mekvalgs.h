@@ -81,10 +81,10 @@ enum mekvalgs_type {
 
 /* The calls. */
 
-/* Writes the initial ring of A = clockwise, B = counter_clockwise and the n keys, node 0's first, over the words, whose old
- * values do not matter. A leafset has the A nearest nodes clockwise and the B nearest the other way.
- * Answers 0, 1, 2 (A and B are 1 to 8, n is 1 to 64), 3. With n = 0 no key is read and the answer is 1 or 2; keys is not
- * null even then, any address of a uint32_t will do. */
+/* Writes the initial ring of A = clockwise, B = counter_clockwise and the n keys, node 0's first, over the words, whose
+ * old values do not matter. A leafset has the A nearest nodes clockwise and the B nearest the other way.
+ * Answers 0, 1, 2 (A and B are 1 to 8, n is 1 to 64), 3. With n = 0 no key is read and the answer is 1 or 2; keys is
+ * not null even then, any address of a uint32_t will do. */
 uint32_t mekvalgs_open(uint32_t *words, size_t length, uint32_t clockwise, uint32_t counter_clockwise,
                        const uint32_t *keys, size_t n);
 
@@ -113,11 +113,11 @@ uint32_t mekvalgs_connected(const uint32_t *words, size_t length, uint32_t a, ui
 /* The number of connected groups of running nodes. Answers 0, 1, 6; 0 groups where refused. */
 uint32_t mekvalgs_groups(const uint32_t *words, size_t length, uint32_t *groups);
 
-/* The route from node start to the node nearest to the key: from each node on to the nearest of the running nodes that it
- * holds, as long as that one is nearer; of two equally near, the clockwise one from the key is. Its nodes are written to
- * the first places of route, start first; places behind the last one stay. end is the last node, hops how often it goes on.
- * Answers 0, 1, 6, 7, 8, 12, 13 (64 places are needed however small n is). Where refused, end is MEKVALGS_NONE, hops is 0, and
- * route stays whole. */
+/* The route from node start towards the key: from each node on to the nearest of the running nodes that it holds, as
+ * long as that one is nearer; of two equally near, the clockwise one from the key is. Its nodes are written to the
+ * first places of route, start first; places behind the last one stay. end is the last node, hops how often the route
+ * goes on. Answers 0, 1, 6, 7, 8, 12, 13 (64 places are needed however small n is). Where refused, end is
+ * MEKVALGS_NONE, hops is 0, and route stays whole. */
 uint32_t mekvalgs_route(const uint32_t *words, size_t length, uint32_t start, uint32_t key, uint8_t *route,
                         size_t places, uint32_t *end, uint32_t *hops);
 
@@ -140,7 +140,8 @@ uint32_t mekvalgs_write_event(uint32_t kind, uint32_t first, uint32_t second, ui
  * Each macro evaluates an argument once. Bits are counted from 0, the lowest; those that no field has are 0. The words
  * of nodes from n, of messages from m and of a node with itself are 0. */
 
-/* Word 0 has A, B, n and m. A node x has two words, and so has a pair (x, z) of different nodes: what x has noted of z. */
+/* Word 0 has A, B, n and m. A node x has two words, and so has a pair (x, z) of different nodes: what x has noted of
+ * z. */
 #define MEKVALGS_AT_HEAD 0
 #define MEKVALGS_AT_NODE(x) (1 + 2 * (x))
 #define MEKVALGS_AT_CLOCK(x) (2 + 2 * (x))
@@ -200,8 +201,8 @@ uint32_t mekvalgs_write_event(uint32_t kind, uint32_t first, uint32_t second, ui
  * which nodes stay connected over a whole list of events.
  *
  * No call puts in a message from outside. A stand with a buffer of its own, in which only its own node runs, has to
- * write them by hand. It opens with the same A, B and keys as the others, plays events at its own node only, sends the new
- * messages and takes them out with lose. A message that comes for it is put at the end: its five words at
+ * write them by hand. It opens with the same A, B and keys as the others, plays events at its own node only, sends the
+ * new messages and takes them out with lose. A message that comes for it is put at the end: its five words at
  * MEKVALGS_AT_MESSAGE(m), and 1 << 11 added to word 0, where m is below 1,024. Then it plays deliver at position m. An
  * event at a node reads and writes no other node's record: if the radio changes no message and nothing is refused with
  * 11, each stand's node has the words that it would have in one ring for all. But each promise is about one buffer.

@@ -116,8 +116,12 @@ pub extern "C" fn mekvalgs_route(
     end: &mut u32,
     hops: &mut u32,
 ) -> u32
-    ensures routed { λ r. ⌜ record { answer = r; end = now (end .exit); hops = now (hops .exit); list = now (route .exit) }
-        ≡ routeBuffer (now (words .entry)) start key (now (route .entry)) ⌝ }
+    ensures routed { λ r. ⌜ record {
+      answer = r;
+      end = now (end .exit);
+      hops = now (hops .exit);
+      list = now (route .exit);
+    } ≡ routeBuffer (now (words .entry)) start key (now (route .entry)) ⌝ }
 {
     let routed = call_route::route(words, node(start), key, route);
     let last = routed.end;

@@ -4,17 +4,18 @@ use mathlib.Core.Bool.{Bool, true, false, not}
 use mathlib.Core.List.{List, [], _∷_, map}
 use Prim.Native.Nat.{ℕ}
 use lib.Dec.{eqb}
-use lib.ListN.{getD}
+use lib.ListN.{getD, take}
 use Rattle.model.specs.Choice.{if_then_else_}
-use Rattle.model.specs.Sets.{noneNode, ofBits, count, some, members}
+use Rattle.model.specs.Sets.{noneNode, ofBits, count, some, members, tabulateFrom}
 use Rattle.model.specs.Leafset.{Table, leafset, nearest}
-use Rattle.model.specs.Ring.{Own, Ring, cleared}
-use Rattle.model.specs.Types.{pongAskInv, leave}
+use Rattle.model.specs.Ring.{Own, Ring, cleared, initial, isRunning}
+use Rattle.model.specs.Types.{pongAskInv, leave, usedByType}
 use Rattle.model.specs.Words.{headWord, sidesOf}
-use Rattle.model.specs.Steps.{plain, viewing, release, forget, leaving, notice, onPongAskInv, onLeave, deliver}
+use Rattle.model.specs.Steps.{plain, viewing, hold, release, forget, leaving, contact, notice, onPingContact, onPongContact, onPongAskInv, onLeave, deliver}
 use Rattle.model.specs.Answers.{firstOf}
 use Rattle.model.specs.Events.{wordOf, eventOf, wordAnswer, readEvent}
-use Rattle.model.specs.Play.{after}
+use Rattle.model.specs.Play.{removeMessage, act, after, playAnswer, playWord, playAll}
+use Rattle.model.specs.Connection.{reached, connected}
 use Rattle.model.specs.Route.{nextOf, goesOn, routeWithin, route}
 use Rattle.model.specs.declared.event.Event.the-variants.{Off}
 
@@ -72,6 +73,23 @@ sent polite = map (λ m. m .type ∷ m .sender ∷ m .receiver ∷ m .subject �
 pub kept : Bool → List (List ℕ)
 kept polite = (gone polite .node 0 .clock ∷ []) ∷ known (gone polite .node 0 .own)
 
+-- a late type 13: nodes 0 and 1 hold each other; 1 leaves politely, 0 hears of it, 1 comes back and 0 holds it again; then the type 13 arrives.
+-- The ring after so many of the words
+unfoldable late : ℕ → Ring
+late k = playAll (initial two) (take k script)
+  where
+    two : Table
+    two = record { sides = record { ahead = 1; behind = 1 }; keys = 10 ∷ 20 ∷ [] }
+
+    script : List ℕ
+    script =
+        0x90000000 ∷ 0x90000001 ∷ 0xC0000040 ∷ 0xE0000000 ∷ 0xE0000000 ∷ 0xC0000001 ∷ 0xE0000000 ∷ 0xE0000000
+        ∷ 0xA0001001 ∷ 0xB0000040 ∷ 0x90000001 ∷ 0xC0000040 ∷ 0xE0000001 ∷ 0xE0000001 ∷ 0xE0000000 ∷ []
+
+-- the types in flight, who runs, and whom 0 is connected to
+pub at-point : ℕ → List (List ℕ)
+at-point k = map (λ m. m .type) (late k .messages) ∷ members 2 (isRunning (late k)) ∷ members 2 (connected (late k) 0) ∷ []
+
 -- ---- "Which desk keeps this bar?"
 
 -- keys 10, 20, 30, 40 and 50: all run but those that are given by their bits, each holds those that the list has for it, and node 4 is a
@@ -115,6 +133,10 @@ pub record Amended : Type 0 where
   pub polite-reads : readEvent 0xA0001002 .event ≡ Off (record { 0 = 2 }) true ∷ []
   pub unnamed-below : wordAnswer 0xA0001040 ≡ 4
   pub unnamed-above : wordAnswer 0xA0002000 ≡ 4
+  -- "Unbroken connection further needs that .. no type 13 from a running stand is travelling": after 14 words one is, and no type 10; the
+  -- last word delivers it, and parts two running nodes
+  pub late-leave-before : at-point 14 ≡ (13 ∷ []) ∷ (0 ∷ 1 ∷ []) ∷ (0 ∷ 1 ∷ []) ∷ []
+  pub late-leave-after : at-point 15 ≡ [] ∷ (0 ∷ 1 ∷ []) ∷ (0 ∷ []) ∷ []
   -- "It goes on to the nearest of the running stands held there": from stand to stand; to one outside its leafset; not to one that is off,
   -- nor to a candidate
   pub route-hops : routed 0 (0b00010 ∷ 0b00100 ∷ 0b01000 ∷ []) 38 ≡ 0 ∷ 1 ∷ 2 ∷ 3 ∷ []
@@ -127,7 +149,7 @@ pub record Amended : Type 0 where
   pub route-stays : routed 0 (0b00010 ∷ []) 14 ≡ 0 ∷ []
 
 pub amended : Amended
-unfolding count members five knowing told known noticed brought-back uneven left-by gone sent kept release forget leaving notice onPongAskInv onLeave deliver after eventOf wordAnswer readEvent firstOf leafset headWord some nearest nextOf goesOn routeWithin route routed
+unfolding count members five knowing told known noticed brought-back uneven left-by gone sent kept release forget leaving notice onPongAskInv onLeave deliver after eventOf wordAnswer readEvent firstOf leafset headWord some nearest nextOf goesOn routeWithin route routed late at-point initial usedByType hold contact onPingContact onPongContact removeMessage act playAnswer playWord playAll tabulateFrom reached connected
 amended =
     record {
       notice-candidate = refl;
@@ -151,6 +173,8 @@ amended =
       polite-reads = refl;
       unnamed-below = refl;
       unnamed-above = refl;
+      late-leave-before = refl;
+      late-leave-after = refl;
       route-hops = refl;
       route-outside = refl;
       route-off = refl;

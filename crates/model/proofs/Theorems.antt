@@ -9,7 +9,9 @@ use lib.ListN.{length, getD}
 use Rattle.model.specs.Choice.{if_then_else_}
 use Rattle.model.specs.Sets.{Set, without, count, toBits, noneNode}
 use Rattle.model.specs.Leafset.{Table, size, key, leafset, beats, nearest}
-use Rattle.model.specs.Ring.{Ring, initial, holds, isRunning}
+use Rattle.model.specs.Ring.{Own, Message, Ring, initial, holds, isRunning}
+use Rattle.model.specs.Types.{types}
+use Rattle.model.specs.Steps.{stepByType}
 use Rattle.model.specs.WellFormed.{WellFormedTable, WellFormed}
 use Rattle.model.specs.Words.{encode, decode, readsAsRing}
 use Rattle.model.specs.Answers.{isAccepted}
@@ -127,6 +129,10 @@ leafset-size t g x h S enough = size-of.leafset-size t g x h S enough
 -- what each message type uses, as document 01 says it
 pub types-use : TypesUse
 types-use = typed.types-use
+
+-- and each has a step
+pub types-step : (t : Table) (me now : ℕ) (o : Own) (m : Message) → length (stepByType t me now o m) ≡ types
+types-step t me now o m = typed.types-step t me now o m
 
 -- words that read as a ring are the encoding of what they decode to, which is well-formed
 pub reads-back : (ws : List ℕ) → readsAsRing ws ≡ true → ws ≡ encode (decode ws)

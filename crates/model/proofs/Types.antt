@@ -5,11 +5,14 @@ use native.Mathlib.Omega.{arith}
 use native.Mathlib.Decide.{decLt}
 use mathlib.Core.Bool.{Bool, true, false}
 use mathlib.Core.List.{_∷_}
-use lib.ListN.{List·getD-eq-default}
+use lib.ListN.{length, List·getD-eq-default}
 use lib.Dec.{eqb}
 use borrow.Author.Tests.{eqb-true}
 use Rattle.model.specs.Sets.{Set, toBits, ofBits}
 use Rattle.model.specs.Types.{Uses, nothingUsed, usedByType, types, usesOf, usesView, usesSubject, namesSpare, usesStamp}
+use Rattle.model.specs.Leafset.{Table}
+use Rattle.model.specs.Ring.{Own, Message}
+use Rattle.model.specs.Steps.{stepByType}
 use Rattle.model.specs.Words.{between, isType}
 use Rattle.model.proofs.Laws.{clash, between-high}
 use Rattle.model.proofs.Bits.{bits-back}
@@ -40,6 +43,11 @@ pub record TypesUse : Type 0 where
   pub subject : (k : ℕ) → usesSubject k ≡ between 8 11 k
   pub stamp : (k : ℕ) → usesStamp k ≡ between 9 10 k
   pub spare : (k : ℕ) → namesSpare k ≡ eqb k 8
+
+-- every type has a step
+pub types-step : (t : Table) (me now : ℕ) (o : Own) (m : Message) → length (stepByType t me now o m) ≡ types
+unfolding usedByType
+types-step t me now o m = refl
 
 pub types-use : TypesUse
 unfolding usedByType toBits

@@ -196,13 +196,14 @@ module _ (t : Table) (me now : ℕ) (o : Own) where
     unfoldable pub onLeave : Effect
     onLeave = quiet (forget (m .sender) o)
 
-    unfoldable pub deliver : Effect
-    deliver =
-        getD
-        (nothing
-        ∷ onPingContact ∷ onPongContact ∷ onPingAskInv ∷ onPongAskInv ∷ onPingInvite ∷ onPongInvite
+    -- a step a type, from type 1 on
+    abbrev pub stepByType : List Effect
+    stepByType =
+        onPingContact ∷ onPongContact ∷ onPingAskInv ∷ onPongAskInv ∷ onPingInvite ∷ onPongInvite
         ∷ onPingAskRepl ∷ onPongAskRepl ∷ onPingReplace ∷ onPongReplace ∷ onPingDeloopy ∷ onPongDeloopy
         ∷ onLeave
-        ∷ [])
-        (m .type)
-        nothing
+        ∷ []
+
+    -- a number that is no type does nothing
+    unfoldable pub deliver : Effect
+    deliver = getD (nothing ∷ stepByType) (m .type) nothing

@@ -1,7 +1,7 @@
 -- The step of a delivered message, by its type.
 use mathlib.Core.Path.{_≡_, refl, sym, ap, _∙_, subst}
 use mathlib.Core.Bool.{true, false}
-use mathlib.Core.List.{List, [], _∷_}
+use mathlib.Core.List.{List, _∷_}
 use Prim.Native.Nat.{ℕ, _<_}
 use native.Mathlib.Omega.{arith}
 use native.Mathlib.Decide.{decLt}
@@ -11,7 +11,7 @@ use Rattle.model.specs.Ring.{Own, Message}
 use Rattle.model.specs.Types.{usesSubject, namesSpare}
 use Rattle.model.specs.declared.message.MessageRecord.{MessageRecord}
 use Rattle.records.specs.Effects.{Delivered}
-use Rattle.model.specs.Steps.{Effect, nothing, deliver, onPingContact, onPongContact, onPingAskInv, onPongAskInv, onPingInvite, onPongInvite, onPingAskRepl, onPongAskRepl, onPingReplace, onPongReplace, onPingDeloopy, onPongDeloopy, onLeave}
+use Rattle.model.specs.Steps.{Effect, nothing, stepByType, deliver}
 
 -- a message of a type that uses the subject, no spare, names a node
 pub names-node : {n : ℕ} {m : MessageRecord} (k : ℕ) → usesSubject k ≡ true → namesSpare k ≡ false → Delivered n m → m .tag ≡ k → m .subject .0 < n
@@ -19,13 +19,7 @@ names-node k u s d e = d .subject-low (ap usesSubject e ∙ u) (ap namesSpare e 
 
 module _ (t : Table) (me now : ℕ) (o : Own) (m : Message) (P : Effect → Type 0) where
   abbrev steps : List Effect
-  steps =
-      nothing t me now o
-      ∷ onPingContact t me now o m ∷ onPongContact t me now o m ∷ onPingAskInv t me now o m ∷ onPongAskInv t me now o m
-      ∷ onPingInvite t me now o m ∷ onPongInvite t me now o m ∷ onPingAskRepl t me now o m ∷ onPongAskRepl t me now o m
-      ∷ onPingReplace t me now o m ∷ onPongReplace t me now o m ∷ onPingDeloopy t me now o m ∷ onPongDeloopy t me now o m
-      ∷ onLeave t me now o m
-      ∷ []
+  steps = nothing t me now o ∷ stepByType t me now o m
 
   pub by-type : (k : ℕ) → m .type ≡ k → P (getD steps k (nothing t me now o)) → P (deliver t me now o m)
   unfolding deliver
