@@ -6,8 +6,9 @@ use native.Mathlib.Nat.{add-comm, le-refl, le-antisymm, not-suc-le-zero, le-of-s
 use native.Mathlib.Omega.{arith}
 use native.Mathlib.Decide.{decLt, ℕ-discrete}
 use mathlib.Core.Bool.{Bool, true, false, not, _&&_, _||_}
-use mathlib.Core.List.{List, [], _∷_}
-use lib.ListN.{length, getD}
+use mathlib.Core.List.{List, [], _∷_, _++_}
+use lib.ListN.{length, getD, drop, length-append, length-drop, List·getD-append}
+use lib.Seq.{getD-append-add, getD-drop}
 use lib.Dec.{ltb, eqb}
 use borrow.Author.Tests.{lt-ltb, ltb-true, ltb-false, eq-eqb, eqb-true, eqb-false, ne-eqb, le-ltb}
 use Rattle.model.specs.Choice.{if_then_else_}
@@ -15,9 +16,13 @@ use Rattle.model.specs.Key.{clockwise, counterClockwise, distance}
 use Rattle.model.specs.Sets.{Set, without, some, count}
 use Rattle.model.specs.Leafset.{Table, size, key, nearer, isNear, leafset, beats, nearest}
 use Rattle.model.specs.Ring.{Ring, holds, isRunning}
-use Rattle.model.specs.Route.{heldRunning, nextOf, goesOn, routeWithin, nearerThan, route, Converged}
-use Rattle.model.specs.WellFormed.{WellFormedTable, WellFormed}
-use Rattle.model.proofs.Laws.{clash, and-left, and-right, and-in, or-left, or-right, or-case, not-in, not-out, decide, is-false, same-test, if-law, some-in, some-out, count-le, count-more}
+use Rattle.model.specs.Words.{decode, readsAsRing}
+use Rattle.model.specs.Route.{heldRunning, nextOf, goesOn, routeWithin, nearerThan, route, Converged, routeRefusals, routeAnswer, Routed, routeBuffer}
+use Rattle.model.specs.WellFormed.{WellFormedTable, WellFormed, Each, nil, cons}
+use Rattle.model.proofs.Laws.{clash, and-left, and-right, and-in, or-left, or-right, or-case, not-in, not-out, not-out-false, decide, is-false, same-test, if-law, some-in, some-out, count-le, count-more}
+use Rattle.model.proofs.Lists.{first, rest}
+use Rattle.model.proofs.Answers.{none-applies}
+use Rattle.model.proofs.Decoded.{reads-well}
 use Rattle.model.proofs.Choices.{Member, Least, least, lowest-in, none-nearer}
 use Rattle.model.proofs.LeafsetSize.{up, down, round, clockwise-lt, clockwise-inj, small, same-key}
 
@@ -332,6 +337,10 @@ module _ (r : Ring) (key : ℕ) where
   unfolding route
   route-some x = within-some (nearerThan r key x) x
 
+  pub first-node : (x : ℕ) → getD (route r key x) 0 64 ≡ x
+  unfolding route
+  first-node x = within-first (nearerThan r key x) x
+
   route-ends : (P : ℕ → Type 0) → ((y z : ℕ) → Hop y z → P y → P z) → (x : ℕ) → P x → Ends P (last (route r key x))
   unfolding route
   route-ends P f x p = within-ends P f (nearerThan r key x) x (le-refl _) p
@@ -595,3 +604,64 @@ module _ (r : Ring) (g : WellFormed r) (v : Converged r) (a : ℕ) (ha : a < 167
 pub route-ends-nearest : (r : Ring) → WellFormed r → Converged r → (key : ℕ) → key < 16777216 → (x : ℕ) → isRunning r x ≡ true
     → getD (route r key x) (length (route r key x) - 1) 64 ≡ nearest (r .table) key (isRunning r)
 route-ends-nearest r g v key h x e = ends-nearest r g v key h x e
+
+-- ---- the call
+
+-- what an accepted route gives: the start first and the end last, in the first places of the list; the others stay
+pub record GivenRoute (n start : ℕ) (list : List ℕ) (g : Routed) : Type 0 where
+  pub hops-few : g .hops < n
+  pub first-is : getD (g .list) 0 64 ≡ start
+  pub last-is : getD (g .list) (g .hops) 64 ≡ g .end
+  pub end-low : g .end < n
+  pub others-kept : (i : ℕ) → g .hops < i → getD (g .list) i 64 ≡ getD list i 64
+  pub as-many : length (g .list) ≡ length list
+
+module _ (ws : List ℕ) (start key : ℕ) (list : List ℕ) (ok : routeAnswer ws start key list ≡ 0) where
+  none : Each (λ q. q .applies ≡ false) (routeRefusals ws start key list)
+  unfolding routeAnswer
+  none = none-applies (routeRefusals ws start key list) (cons refl (cons refl (cons refl (cons refl (cons refl (cons refl nil)))))) ok
+
+  pub route-reads : readsAsRing ws ≡ true
+  route-reads = not-out-false (readsAsRing ws) (first (rest none))
+
+  abbrev nodes : ℕ
+  nodes = size (decode ws .table)
+
+  pub start-low : start < nodes
+  start-low = ltb-true start nodes (not-out-false (ltb start nodes) (first (rest (rest none))))
+
+  abbrev path : List ℕ
+  path = route (decode ws) key start
+
+  pub path-few : length path ≤ 64
+  path-few = omega (arith, route-short (decode ws) key start start-low, reads-well ws route-reads .table-well .size-high)
+
+  pub path-fits : length path ≤ length list
+  path-fits = omega (arith, path-few, ltb-false (length list) 64 (first (rest (rest (rest (rest (rest none)))))))
+
+  abbrev after : List ℕ
+  after = path ++ drop (length path) list
+
+  early : (i : ℕ) → i < length path → getD after i 64 ≡ getD path i 64
+  early i h = List·getD-append path (drop (length path) list) 64 i h
+
+  late : (i : ℕ) → getD after (length path + i) 64 ≡ getD list (length path + i) 64
+  late i = getD-append-add path (drop (length path) list) i 64 ∙ getD-drop (length path) list i 64
+
+  path-low : (i : ℕ) → i < length path → getD path i 64 < nodes
+  path-low zero h = rw (first-node (decode ws) key start) start-low
+  path-low (suc i) h = route-falls (decode ws) key start i h .below
+
+  pub given-route : GivenRoute nodes start list (routeBuffer ws start key list)
+  unfolding routeBuffer
+  given-route =
+      let some = route-some (decode ws) key start in
+      rw ok
+      (record {
+        hops-few = omega (arith, route-short (decode ws) key start start-low);
+        first-is = early 0 some ∙ first-node (decode ws) key start;
+        last-is = early (length path - 1) (omega arith);
+        end-low = path-low (length path - 1) (omega arith);
+        others-kept = λ i h. let e : length path + (i - length path) ≡ i = omega arith in rw (← e) (late (i - length path));
+        as-many = length-append path (drop (length path) list) ∙ rw (length-drop (length path) list) (omega (arith, path-fits));
+      })

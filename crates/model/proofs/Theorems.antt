@@ -40,7 +40,7 @@ use Rattle.model.proofs.Decoded as decoded
 use Rattle.model.proofs.Follows as follow
 use Rattle.model.proofs.Connection as connection
 use Rattle.model.proofs.Groups as grouped
-use Rattle.model.proofs.Routes.{Hop}
+use Rattle.model.proofs.Routes.{Hop, GivenRoute}
 use Rattle.model.proofs.Routes as routes
 use Rattle.model.proofs.ConnectivityPreserved as preserved
 
@@ -213,6 +213,12 @@ pub refused-routing : (ws : List ℕ) (start a : ℕ) (list : List ℕ) → isAc
     → routeBuffer ws start a list ≡ record { answer = routeAnswer ws start a list; end = noneNode; hops = 0; list = list }
 unfolding routeBuffer
 refused-routing ws start a list e = rw e
+
+-- "The route's stands, the start first and the end last, are written in order to a lent list .. Hops are at most n − 1. .. Unused places in
+-- the list are not written."
+pub accepted-routing : (ws : List ℕ) (start a : ℕ) (list : List ℕ) → routeAnswer ws start a list ≡ 0
+    → GivenRoute (size (decode ws .table)) start list (routeBuffer ws start a list)
+accepted-routing ws start a list ok = routes.given-route ws start a list ok
 
 -- "The rest of the route is the route from the next stand."
 pub route-from : (r : Ring) (a x : ℕ) → route r a x ≡ x ∷ (if goesOn r a x then route r a (nextOf r a x) else [])

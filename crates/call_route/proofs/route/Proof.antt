@@ -5,7 +5,8 @@ use lib.ListN.{length, length-take}
 use borrow.Author.Needs.{needs}
 use Rattle.answers.proofs.Answered.{refused, accepted}
 use Rattle.answers.proofs.Valid.{long, few}
-use Rattle.call_route.proofs.Given.{route-refused, route-reads, path-few, path-fits, ready, start-in, route-given}
+use Rattle.model.proofs.Routes.{route-reads, path-few, path-fits}
+use Rattle.call_route.proofs.Given.{route-refused, ready, start-in, route-given}
 use Rattle.call_route.proofs.route.Statement.{statement}
 use Rattle.call_route.proofs.route.Tie as tie
 
