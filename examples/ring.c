@@ -4,15 +4,15 @@
  *     cc -Iinclude examples/ring.c target/staticlib/libmekvalgs.a -o target/ring
  *     target/ring
  *
- * For each event its answer and the messages in flight; then each node with those that it holds, read from the words,
- * who is linked, and which of them keeps key 16. It prints what ring.out has.
+ * A preview of the first event; for each event its answer and the messages in flight; then each node with those that it
+ * holds, read from the words, who is linked, and which of them keeps key 16. It prints what ring.out has.
  */
 #include <inttypes.h>
 #include <stdio.h>
 
 #include "mekvalgs.h"
 
-static uint32_t ring[MEKVALGS_RING_LENGTH];
+static uint32_t ring[MEKVALGS_RING_LENGTH], preview[MEKVALGS_RING_LENGTH];
 
 /* The word of an event whose parts are known to fit. */
 static uint32_t event(uint32_t kind, uint32_t first, uint32_t second)
@@ -61,6 +61,9 @@ int main(void)
     uint8_t route[MEKVALGS_MAX_NODES];
 
     printf("open: answer %" PRIu32 "\n", mekvalgs_open(ring, MEKVALGS_RING_LENGTH, 1, 1, keys, 3));
+    answer = mekvalgs_preview(ring, MEKVALGS_RING_LENGTH, events[0], preview, MEKVALGS_RING_LENGTH);
+    printf("preview of event 1: answer %" PRIu32 ", clock of 0 %" PRIu32 " in the preview, %" PRIu32 " in the ring\n",
+           answer, MEKVALGS_CLOCK(preview[MEKVALGS_AT_CLOCK(0)]), MEKVALGS_CLOCK(ring[MEKVALGS_AT_CLOCK(0)]));
     for (unsigned i = 0; i < sizeof events / sizeof events[0]; i++) {
         answer = mekvalgs_play(ring, MEKVALGS_RING_LENGTH, events[i]);
         printf("event %u: answer %" PRIu32, i + 1, answer);

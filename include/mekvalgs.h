@@ -91,6 +91,13 @@ uint32_t mekvalgs_open(uint32_t *words, size_t length, uint32_t clockwise, uint3
 /* Plays an event word on the ring. Answers 0, 1, 4 to 11. */
 uint32_t mekvalgs_play(uint32_t *words, size_t length, uint32_t word);
 
+/* Shows what mekvalgs_play would answer and leave: preview becomes the words after it, and nothing of the ring is
+ * written. The two buffers do not overlap; what preview holds before does not matter.
+ * Answers 0, 1 (either buffer), 4 to 11. Where accepted, preview reads as a ring afterwards, so that calls can go on
+ * from it; where refused, it stays whole. */
+uint32_t mekvalgs_preview(const uint32_t *words, size_t length, uint32_t word, uint32_t *preview,
+                          size_t preview_length);
+
 /* Plays the script's words on the ring one by one, as mekvalgs_play does, but reads the words as a ring once only.
  * Answers 0, 1, 6. The answer to each word is written to its place in answers; answers past the places are dropped, and
  * places past the script stay. Where the call is refused, answers stays whole. */

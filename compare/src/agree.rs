@@ -3,6 +3,7 @@
 use crate::case::{Case, Fault, List, Runner, Step};
 use crate::damage::damage;
 use crate::look;
+use crate::previews::{self, Preview};
 use crate::random::Random;
 use crate::ring::Ring;
 use crate::routes::{self, Route};
@@ -18,6 +19,8 @@ pub struct Plan {
     pub damaged: u64,
     /// Routes at least.
     pub routes: u64,
+    /// Previews at least.
+    pub previews: u64,
     pub mixes: Vec<Mix>,
     /// Scripts have from 1 to this number of nodes.
     pub nodes: usize,
@@ -43,6 +46,11 @@ pub struct Tally {
     /// On rings as the events left them, and on damaged buffers.
     pub routes: routes::Tally,
     pub damaged_routes: routes::Tally,
+    /// Likewise.
+    pub previews: previews::Tally,
+    pub damaged_previews: previews::Tally,
+    /// Accepted events that were held to a preview just before them.
+    pub foreseen: u64,
     pub tested: Tested,
 }
 
@@ -59,6 +67,9 @@ impl Tally {
         self.delivered.iter_mut().zip(other.delivered).for_each(|(sum, count)| *sum += count);
         self.routes.add(&other.routes);
         self.damaged_routes.add(&other.damaged_routes);
+        self.previews.add(&other.previews);
+        self.damaged_previews.add(&other.damaged_previews);
+        self.foreseen += other.foreseen;
         self.tested.add(other.tested);
     }
 }
@@ -72,6 +83,8 @@ impl fmt::Display for Tally {
         writeln!(f, "answers 0 to 11: {answers:?}")?;
         writeln!(f, "delivered, types 1 to 13: {:?}", &delivered[1..])?;
         writeln!(f, "{}\non damaged buffers: {}", self.routes, self.damaged_routes)?;
+        writeln!(f, "{}\non damaged buffers: {}", self.previews, self.damaged_previews)?;
+        writeln!(f, "  {} accepted events came as a preview just before them had shown", self.foreseen)?;
         let Tested { starts, points, spans, acknowledged, released, leaving } = self.tested;
         writeln!(f, "demand 3: {points} points tested, against {starts} chosen points, {spans} pairs of points;")?;
         writeln!(f, "  {acknowledged} of them with an acknowledgement in flight; {released} links released;")?;
@@ -108,7 +121,10 @@ fn run_thread(plan: &Plan, rings: &[&dyn Ring], first: u64, stop: &AtomicBool) -
     let mut tally = Tally::default();
     let mut script = first;
     let fulfilled = |tally: &Tally| {
-        tally.events >= plan.events / plan.threads && tally.routes.count() >= plan.routes.div_ceil(plan.threads)
+        let share = |count: u64| count.div_ceil(plan.threads);
+        tally.events >= plan.events / plan.threads
+            && tally.routes.count() >= share(plan.routes)
+            && tally.previews.count() >= share(plan.previews)
     };
     while !fulfilled(&tally) && !stop.load(Ordering::Relaxed) {
         let mix = plan.mixes[script as usize % plan.mixes.len()];
@@ -129,22 +145,25 @@ struct Play<'a> {
     script: Script,
     random: Random,
     case: Case,
-    /// Damaged buffers and routes for each 1,000 events.
+    /// Damaged buffers, routes and previews for each 1,000 events.
     damage_rate: u64,
     route_rate: u64,
+    preview_rate: u64,
 }
 
 impl<'a> Play<'a> {
     fn new(plan: &Plan, rings: &'a [&'a dyn Ring], number: u64, mix: Mix, n: usize) -> Play<'a> {
         let mut script = Script::new(Random::new(plan.seed, 2 * number), mix, n);
         let (sides, keys) = script.opening();
+        let rate = |count: u64| count * 1_000 / plan.events.max(1);
         Play {
             runner: Runner::new(rings),
             script,
             random: Random::new(plan.seed, 2 * number + 1),
             case: Case { sides, keys, steps: Vec::new() },
-            damage_rate: plan.damaged * 1_000 / plan.events.max(1),
-            route_rate: plan.routes * 1_000 / plan.events.max(1),
+            damage_rate: rate(plan.damaged),
+            route_rate: rate(plan.routes),
+            preview_rate: rate(plan.previews),
         }
     }
 
@@ -152,6 +171,7 @@ impl<'a> Play<'a> {
         let outcome = self.play_all(tally);
         tally.scripts += 1;
         tally.tested.add(self.runner.unbroken.tested);
+        tally.foreseen += self.runner.foreseen;
         outcome.err().map(|fault| (fault, self.case))
     }
 
@@ -160,6 +180,10 @@ impl<'a> Play<'a> {
         let n = self.case.keys.len();
         for _ in 0..200 + 40 * n + self.random.below(1_000) {
             let word = self.script.next(self.runner.words());
+            for _ in 0..self.times(self.preview_rate) {
+                let any = self.script.any(self.runner.words());
+                self.preview(word, any, &mut tally.previews)?;
+            }
             self.play(word, tally)?;
             if self.random.percent(10) {
                 self.ask(tally)?;
@@ -193,6 +217,14 @@ impl<'a> Play<'a> {
         if let (0, Some(kind)) = (answer, delivered) {
             tally.delivered[kind as usize] += 1;
         }
+        Ok(())
+    }
+
+    /// A preview of the word that is played next, or of any. It stays on the case: the event after it is held to it.
+    fn preview(&mut self, next: u32, any: u32, tally: &mut previews::Tally) -> Result<(), Fault> {
+        let preview = Step::Preview(Preview::any(&mut self.random, next, any));
+        self.case.steps.push(preview);
+        tally.note(self.runner.step(preview)?);
         Ok(())
     }
 
@@ -251,7 +283,12 @@ impl<'a> Play<'a> {
         if self.random.percent(20) {
             self.play_list(&before, tally)?;
         }
-        self.play_on_damaged(damage.event, &before, tally)?;
+        let next = damage.event.unwrap_or_else(|| self.script.any(&before));
+        if self.preview_rate > 0 && self.random.percent(20) {
+            let any = self.script.any(&before);
+            self.preview(next, any, &mut tally.damaged_previews)?;
+        }
+        self.play_on_damaged(next, &before, tally)?;
         if self.random.percent(20) {
             self.ask(tally)?;
         }
@@ -264,11 +301,11 @@ impl<'a> Play<'a> {
     }
 
     /// Up to four events; one where the words no longer read as a ring.
-    fn play_on_damaged(&mut self, first: Option<u32>, before: &[u32], tally: &mut Tally) -> Result<(), Fault> {
+    fn play_on_damaged(&mut self, first: u32, before: &[u32], tally: &mut Tally) -> Result<(), Fault> {
         let mut reads = false;
         for number in 0..4 {
             // Damage may leave any n: the choice is by the words before it.
-            let word = first.filter(|_| number == 0).unwrap_or_else(|| self.script.any(before));
+            let word = if number == 0 { first } else { self.script.any(before) };
             self.case.steps.push(Step::Play(word));
             let answer = self.runner.step(Step::Play(word))?;
             tally.answers[answer as usize] += 1;

@@ -1,6 +1,7 @@
 //! A case: an opening and steps, played on one or more implementations at once.
 
 use crate::look;
+use crate::previews::Preview;
 use crate::ring::{Ring, Routed, Sides};
 use crate::routes::Route;
 use crate::unbroken::Unbroken;
@@ -10,6 +11,7 @@ use std::fmt;
 #[derive(Clone, Copy)]
 pub enum Step {
     Play(u32),
+    Preview(Preview),
     PlayAll(List),
     /// The word at a place is overwritten: damage.
     Poke(usize, u32),
@@ -66,6 +68,7 @@ impl fmt::Display for Step {
     fn fmt(&self, f: &mut fmt::Formatter) -> fmt::Result {
         match *self {
             Step::Play(word) => write!(f, "{word:08X}"),
+            Step::Preview(preview) => write!(f, "{preview}"),
             Step::PlayAll(list) => write!(f, "{list}"),
             Step::Poke(at, value) => write!(f, "@{at}={value:08X}"),
             Step::Leafset(x) => write!(f, "leafset({x})"),
@@ -95,14 +98,35 @@ impl fmt::Display for Case {
     }
 }
 
-/// The answer of a call, with the value that comes beside it: 0 for a play, a digest for a list and for a route.
+/// The answer of a call, with the value that comes beside it: 0 for a play, a digest for a list and for a route, for a
+/// preview how many words of its second buffer differ from the first implementation's.
 type Outcome = (u32, u64);
+
+/// The places where words differ, with both words.
+type Differing = Vec<(usize, u32, u32)>;
+
+fn differing(one: &[u32], other: &[u32]) -> Differing {
+    let both = one.iter().zip(other).enumerate();
+    both.filter(|(_, (one, other))| one != other).map(|(at, (&one, &other))| (at, one, other)).collect()
+}
+
+/// Some of the words that differ, and how many do.
+fn list(f: &mut fmt::Formatter, words: &Differing, names: [&str; 2]) -> fmt::Result {
+    for (at, one, other) in words.iter().take(10) {
+        writeln!(f, "  word {at}: {} {one:08X}, {} {other:08X}", names[0], names[1])?;
+    }
+    write!(f, "  words that differ: {}", words.len())
+}
 
 /// What a run found.
 #[derive(Clone)]
 pub enum Fault {
     /// Two implementations differ: their names, what they answered, and the words that differ.
-    Difference { names: [&'static str; 2], outcomes: [Outcome; 2], words: Vec<(usize, u32, u32)> },
+    Difference { names: [&'static str; 2], outcomes: [Outcome; 2], words: Differing },
+    /// A preview wrote the ring.
+    Written { name: &'static str, words: Differing },
+    /// An event got another answer or left other words than its preview, just before it, had shown.
+    Unforeseen { name: &'static str, answers: [u32; 2], words: Differing },
     /// Demand 3 is broken: two nodes that were connected no longer are.
     Parted { name: &'static str, nodes: (usize, usize) },
 }
@@ -120,10 +144,15 @@ impl fmt::Display for Fault {
                 for (name, (answer, value)) in names.iter().zip(outcomes) {
                     writeln!(f, "  {name} answers {answer}, value {value:X}")?;
                 }
-                for (at, one, other) in words.iter().take(10) {
-                    writeln!(f, "  word {at}: {} {one:08X}, {} {other:08X}", names[0], names[1])?;
-                }
-                write!(f, "  words that differ: {}", words.len())
+                list(f, words, *names)
+            }
+            Fault::Written { name, words } => {
+                writeln!(f, "  {name}: a preview wrote the ring")?;
+                list(f, words, ["before", "after"])
+            }
+            Fault::Unforeseen { name, answers: [shown, given], words } => {
+                writeln!(f, "  {name}: a preview answers {shown}, the event after it {given}")?;
+                list(f, words, ["shown", "left"])
             }
             Fault::Parted { name, nodes: (a, b) } => {
                 write!(f, "  {name}: nodes {a} and {b} were connected with no acknowledgement in flight, and are parted")
@@ -132,19 +161,40 @@ impl fmt::Display for Fault {
     }
 }
 
+/// What a preview showed: the answer of the event, and the words after it.
+struct Shown {
+    word: u32,
+    answer: u32,
+    words: Vec<u32>,
+}
+
 /// Implementations in step, each with a buffer of its own.
 pub struct Runner<'a> {
     rings: &'a [&'a dyn Ring],
     buffers: Vec<Vec<u32>>,
     /// How many of them play: only the first, or all.
     playing: usize,
+    /// The ring as it was opened.
+    opening: Vec<u32>,
+    /// By the step before, where that was a preview with a second buffer of the right length.
+    shown: Option<Shown>,
+    /// Accepted events that were held to their preview.
+    pub foreseen: u64,
     pub unbroken: Unbroken,
 }
 
 impl<'a> Runner<'a> {
     pub fn new(rings: &'a [&'a dyn Ring]) -> Runner<'a> {
         let buffers = vec![vec![0; LENGTH]; rings.len()];
-        Runner { rings, buffers, playing: rings.len(), unbroken: Unbroken::default() }
+        Runner {
+            rings,
+            buffers,
+            playing: rings.len(),
+            opening: vec![0; LENGTH],
+            shown: None,
+            foreseen: 0,
+            unbroken: Unbroken::default(),
+        }
     }
 
     /// From now on only the first implementation plays.
@@ -172,13 +222,20 @@ impl<'a> Runner<'a> {
     /// Opens over old words of any kind.
     pub fn open(&mut self, sides: Sides, keys: &[u32]) -> Result<u32, Fault> {
         let (answer, _) = self.call(|ring, words| (ring.open(words, sides, keys), 0))?;
+        self.opening.copy_from_slice(&self.buffers[0]);
         self.unbroken.restart();
         Ok(answer)
     }
 
     pub fn step(&mut self, step: Step) -> Result<u32, Fault> {
+        let shown = self.shown.take();
         let (answer, _) = match step {
-            Step::Play(word) => self.call(|ring, words| (ring.play(words, word), 0))?,
+            Step::Play(word) => {
+                let outcome = self.call(|ring, words| (ring.play(words, word), 0))?;
+                self.hold_to(shown.filter(|shown| shown.word == word), outcome.0)?;
+                outcome
+            }
+            Step::Preview(preview) => (self.preview(preview)?, 0),
             Step::PlayAll(list) => self.call(|ring, words| list.play(ring, words))?,
             Step::Leafset(x) => self.call(|ring, words| ring.leafset_of(words, x))?,
             Step::Connected(a, b) => self.call(|ring, words| {
@@ -196,6 +253,36 @@ impl<'a> Runner<'a> {
             }
         };
         Ok(answer)
+    }
+
+    /// A preview on every implementation: the ring stays as it is.
+    fn preview(&mut self, preview: Preview) -> Result<u32, Fault> {
+        let (before, opening) = (self.buffers[0].clone(), self.opening.clone());
+        let mut seconds = Vec::new();
+        let (answer, _) = self.call(|ring, words| {
+            let (answer, second) = preview.ask(ring, words, &opening);
+            seconds.push(second);
+            (answer, differing(&seconds[0], &seconds[seconds.len() - 1]).len() as u64)
+        })?;
+        if self.buffers[0] != before {
+            return Err(Fault::Written { name: self.rings[0].name(), words: differing(&before, &self.buffers[0]) });
+        }
+        if preview.lent == LENGTH {
+            let words = if answer == 0 { seconds[0][..LENGTH].to_vec() } else { before };
+            self.shown = Some(Shown { word: preview.word, answer, words });
+        }
+        Ok(answer)
+    }
+
+    /// After an event: what its preview showed, if there was one, has come.
+    fn hold_to(&mut self, shown: Option<Shown>, given: u32) -> Result<(), Fault> {
+        let Some(Shown { answer, words, .. }) = shown else { return Ok(()) };
+        if answer != given || words != self.buffers[0] {
+            let words = differing(&words, &self.buffers[0]);
+            return Err(Fault::Unforeseen { name: self.rings[0].name(), answers: [answer, given], words });
+        }
+        self.foreseen += (answer == 0) as u64;
+        Ok(())
     }
 
     /// A route on every implementation: what the first one gives, and its list after it.
@@ -223,8 +310,7 @@ impl<'a> Runner<'a> {
     }
 
     fn difference(&self, other: usize, outcomes: [Outcome; 2]) -> Fault {
-        let both = self.buffers[0].iter().zip(&self.buffers[other]).enumerate();
-        let words = both.filter(|(_, (one, two))| one != two).map(|(at, (&one, &two))| (at, one, two)).collect();
+        let words = differing(&self.buffers[0], &self.buffers[other]);
         Fault::Difference { names: [self.rings[0].name(), self.rings[other].name()], outcomes, words }
     }
 

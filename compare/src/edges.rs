@@ -42,7 +42,7 @@ fn opening(random: &mut Random) -> (Sides, Vec<u32>) {
     (sides, keys)
 }
 
-/// The answers of all calls, and the words after them.
+/// The answers of all calls, and all words after them: the ring's, then those of a preview's second buffer.
 fn calls(ring: &dyn Ring, mut words: Vec<u32>, sides: Sides, keys: &[u32], word: u32) -> (Vec<u64>, Vec<u32>) {
     let mut answers = vec![ring.open(&mut words, sides, keys) as u64];
     answers.push(ring.play(&mut words, word) as u64);
@@ -60,5 +60,8 @@ fn calls(ring: &dyn Ring, mut words: Vec<u32>, sides: Sides, keys: &[u32], word:
     let Routed { answer, end, hops } = ring.route(&words, word & 63, word & 0xFF_FFFF, &mut list[..places]);
     answers.extend([answer, end, hops].map(u64::from));
     answers.extend(list.map(u64::from));
+    let mut second = vec![!word; [LENGTH, LENGTH, LENGTH - 1, LENGTH + 1][word as usize & 3]];
+    answers.push(ring.preview(&mut words, word, &mut second) as u64);
+    words.extend(second);
     (answers, words)
 }

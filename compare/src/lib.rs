@@ -11,6 +11,7 @@ pub mod edges;
 pub mod library;
 pub mod look;
 pub mod plain;
+pub mod previews;
 pub mod random;
 pub mod reference;
 pub mod ring;

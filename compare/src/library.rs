@@ -8,6 +8,7 @@ extern "C" {
         words: *mut u32, len: usize, clockwise: u32, counter_clockwise: u32, keys: *const u32, n: usize,
     ) -> u32;
     fn mekvalgs_play(words: *mut u32, len: usize, word: u32) -> u32;
+    fn mekvalgs_preview(words: *const u32, len: usize, word: u32, preview: *mut u32, preview_len: usize) -> u32;
     fn mekvalgs_play_all(
         words: *mut u32, len: usize, script: *const u32, script_len: usize, answers: *mut u8, places: usize,
     ) -> u32;
@@ -44,6 +45,10 @@ impl Ring for Library {
 
     fn play(&self, words: &mut [u32], word: u32) -> u32 {
         unsafe { mekvalgs_play(words.as_mut_ptr(), words.len(), word) }
+    }
+
+    fn preview(&self, words: &mut [u32], word: u32, second: &mut [u32]) -> u32 {
+        unsafe { mekvalgs_preview(words.as_mut_ptr(), words.len(), word, second.as_mut_ptr(), second.len()) }
     }
 
     fn play_all(&self, words: &mut [u32], list: &[u32], answers: &mut [u8]) -> u32 {

@@ -10,8 +10,8 @@ use std::process::ExitCode;
 use std::time::Instant;
 
 const USAGE: &str = "compare [all | agree | unbroken | self-test | speed | stack | vectors]
-    [seed=1] [events=5000000] [damaged=1000000] [routes=EVENTS/10] [nodes=64] [threads=CORES]
-    [mixes=gentle,chaos,garbage,replacement]
+    [seed=1] [events=5000000] [damaged=1000000] [routes=EVENTS/10] [previews=EVENTS/10] [nodes=64]
+    [threads=CORES] [mixes=gentle,chaos,garbage,replacement]
     [vectors=FOLDER] [slip=NAME]";
 
 struct Options {
@@ -26,8 +26,8 @@ struct Options {
 fn options() -> Option<Options> {
     let threads = std::thread::available_parallelism().map_or(1, |count| count.get() as u64);
     let (events, mixes) = (5_000_000, Mix::ALL.to_vec());
-    let plan = Plan { seed: 1, events, damaged: 1_000_000, routes: 0, mixes, nodes: 64, threads };
-    let mut routes = None;
+    let plan = Plan { seed: 1, events, damaged: 1_000_000, routes: 0, previews: 0, mixes, nodes: 64, threads };
+    let (mut routes, mut previews) = (None, None);
     let steady = vec![Mix::Gentle, Mix::Replacement];
     let mut options = Options { mode: "all".to_string(), plan, steady, vectors: None, slip: None };
     for word in std::env::args().skip(1) {
@@ -37,6 +37,7 @@ fn options() -> Option<Options> {
             Some(("events", value)) => options.plan.events = value.parse().ok()?,
             Some(("damaged", value)) => options.plan.damaged = value.parse().ok()?,
             Some(("routes", value)) => routes = Some(value.parse().ok()?),
+            Some(("previews", value)) => previews = Some(value.parse().ok()?),
             Some(("nodes", value)) => options.plan.nodes = value.parse().ok().filter(|n| (1..=64).contains(n))?,
             Some(("threads", value)) => options.plan.threads = value.parse().ok().filter(|&count| count > 0)?,
             Some(("mixes", value)) => {
@@ -49,6 +50,7 @@ fn options() -> Option<Options> {
         }
     }
     options.plan.routes = routes.unwrap_or(options.plan.events / 10);
+    options.plan.previews = previews.unwrap_or(options.plan.events / 10);
     Some(options)
 }
 
@@ -89,6 +91,7 @@ fn speed_table() -> bool {
     speed::report(&fast_rings());
     speed::lists(fast_rings()[0], &compare::reference::Reference);
     speed::routes(&fast_rings());
+    speed::previews(&fast_rings());
     true
 }
 
@@ -140,7 +143,7 @@ fn made_rings(plan: &Plan, rings: &[&dyn Ring]) -> bool {
 fn unbroken(options: &Options) -> bool {
     let rings = &fast_rings()[..1];
     println!("\nUnbroken connection, {}", rings[0].name());
-    let plan = Plan { damaged: 0, routes: 0, mixes: options.steady.clone(), ..options.plan };
+    let plan = Plan { damaged: 0, routes: 0, previews: 0, mixes: options.steady.clone(), ..options.plan };
     let (tally, found) = agree::run(&plan, rings);
     println!("{tally}");
     nothing(&plan, rings, found)

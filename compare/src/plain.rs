@@ -80,6 +80,18 @@ pub enum Slip {
     RouteListFirst,
     /// A route is content with a list of n places.
     RouteShortList,
+    /// A refused preview copies the ring.
+    PreviewRefusedCopies,
+    /// An accepted preview leaves the ring's old words in the second buffer.
+    PreviewUnplayed,
+    /// A preview plays on the ring, too.
+    PreviewPlays,
+    /// The event's refusals before refusal 1 of the second buffer.
+    PreviewLengthLast,
+    /// Refusal 1 for the ring's length alone.
+    PreviewAnySecond,
+    /// A preview is content with a longer second buffer.
+    PreviewLongSecond,
     /// Reads as a ring with a commit stamp one above the clock.
     CommitAboveClock,
     /// Reads as a ring with a node as its own spare.
@@ -97,7 +109,7 @@ pub enum Slip {
 }
 
 impl Slip {
-    pub const ALL: [Slip; 42] = [
+    pub const ALL: [Slip; 48] = [
         Slip::StampNotAbove,
         Slip::CommitZero,
         Slip::AskerAsSpare,
@@ -133,6 +145,12 @@ impl Slip {
         Slip::RouteHopsOne,
         Slip::RouteListFirst,
         Slip::RouteShortList,
+        Slip::PreviewRefusedCopies,
+        Slip::PreviewUnplayed,
+        Slip::PreviewPlays,
+        Slip::PreviewLengthLast,
+        Slip::PreviewAnySecond,
+        Slip::PreviewLongSecond,
         Slip::CommitAboveClock,
         Slip::OwnSpare,
         Slip::ReceiverInView,
@@ -801,6 +819,32 @@ impl Plain {
         Ok(())
     }
 
+    /// "a second buffer of the same length"
+    fn second_fits(&self, length: usize) -> bool {
+        match self.slip {
+            Some(Slip::PreviewAnySecond) => true,
+            Some(Slip::PreviewLongSecond) => length >= LENGTH,
+            _ => length == LENGTH,
+        }
+    }
+
+    fn try_preview(&self, words: &mut [u32], word: u32, second: &mut [u32]) -> Result<(), u32> {
+        let mut copy = words.to_vec();
+        let played = self.try_play(&mut copy, word);
+        let is_late = played.is_err() && self.slip == Some(Slip::PreviewLengthLast);
+        if !is_late && !self.second_fits(second.len()) {
+            return Err(1);
+        }
+        if played.is_ok() || self.slip == Some(Slip::PreviewRefusedCopies) {
+            let shown = if self.slip == Some(Slip::PreviewUnplayed) { &*words } else { &copy[..] };
+            second.iter_mut().zip(shown).for_each(|(place, &word)| *place = word);
+        }
+        if self.slip == Some(Slip::PreviewPlays) {
+            words.copy_from_slice(&copy);
+        }
+        played
+    }
+
     fn try_leafset(&self, words: &[u32], node: u32) -> Result<u64, u32> {
         let state = self.read(words)?;
         let node = state.ask(node)?;
@@ -844,6 +888,10 @@ impl Ring for Plain {
 
     fn play(&self, words: &mut [u32], word: u32) -> u32 {
         self.try_play(words, word).err().unwrap_or(0)
+    }
+
+    fn preview(&self, words: &mut [u32], word: u32, second: &mut [u32]) -> u32 {
+        self.try_preview(words, word, second).err().unwrap_or(0)
     }
 
     fn leafset_of(&self, words: &[u32], node: u32) -> (u32, u64) {

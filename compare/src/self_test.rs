@@ -10,26 +10,34 @@ use crate::script::Mix;
 /// Wrong programs that part nodes: found by demand 3 alone, without another implementation.
 const PARTING: [Slip; 2] = [Slip::ReleaseAtTimer3, Slip::ReleaseWithoutHold];
 
+/// Wrong programs whose previews mislead: found by the ring, or by the event after one, without another implementation.
+const MISLEADING: [Slip; 2] = [Slip::PreviewPlays, Slip::PreviewUnplayed];
+
 /// Wrong programs whose routes end elsewhere: found on converged rings alone, without another implementation.
 const ASTRAY: [Slip; 2] = [Slip::RouteTieOther, Slip::RouteDistanceOnly];
 
 /// How many wrong programs were not found. Where one is named, only that, and its case is shown.
 pub fn run(plan: &Plan, only: Option<&str>) -> usize {
     let wanted = |slip: &Slip| only.is_none_or(|only| only == format!("{slip:?}"));
+    let mixes = Mix::ALL.to_vec();
     let agreement =
-        Plan { events: 3_000_000, damaged: 300_000, routes: 300_000, mixes: Mix::ALL.to_vec(), ..*plan };
-    let demand_3 =
-        Plan { events: 10_000_000, damaged: 0, routes: 0, mixes: vec![Mix::Replacement], nodes: 10, ..*plan };
+        Plan { events: 3_000_000, damaged: 300_000, routes: 300_000, previews: 300_000, mixes, ..*plan };
+    let mixes = vec![Mix::Replacement];
+    let demand_3 = Plan { events: 10_000_000, damaged: 0, routes: 0, previews: 0, mixes, nodes: 10, ..*plan };
     let by_difference = Slip::ALL.into_iter().filter(wanted).filter(|&slip| {
         let wrong = Plain { slip: Some(slip) };
-        !finds(&agreement, &[&Reference, &wrong], slip, only.is_some())
+        !finds(&agreement, &[&Reference, &wrong], slip, "difference", only.is_some())
     });
     let by_demand_3 = PARTING.into_iter().filter(wanted).filter(|&slip| {
         let wrong = Plain { slip: Some(slip) };
-        !finds(&demand_3, &[&wrong], slip, only.is_some())
+        !finds(&demand_3, &[&wrong], slip, "demand 3", only.is_some())
+    });
+    let by_preview = MISLEADING.into_iter().filter(wanted).filter(|&slip| {
+        let wrong = Plain { slip: Some(slip) };
+        !finds(&agreement, &[&wrong], slip, "preview", only.is_some())
     });
     let by_end = ASTRAY.into_iter().filter(wanted).filter(|&slip| !goes_astray(plan, slip));
-    by_difference.count() + by_demand_3.count() + by_end.count()
+    by_difference.count() + by_demand_3.count() + by_preview.count() + by_end.count()
 }
 
 fn goes_astray(plan: &Plan, slip: Slip) -> bool {
@@ -39,10 +47,9 @@ fn goes_astray(plan: &Plan, slip: Slip) -> bool {
     !made.found.is_empty()
 }
 
-fn finds(plan: &Plan, rings: &[&dyn Ring], slip: Slip, show: bool) -> bool {
+fn finds(plan: &Plan, rings: &[&dyn Ring], slip: Slip, way: &str, show: bool) -> bool {
     let (tally, found) = agree::run(plan, rings);
     let name = format!("{slip:?}");
-    let way = if rings.len() > 1 { "difference" } else { "demand 3" };
     let Some(Found { fault, case, mix, .. }) = found else {
         println!("{name:<20} {way:<11} NOT FOUND in {} events, {} damaged buffers", tally.events, tally.damaged);
         return false;

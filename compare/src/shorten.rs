@@ -3,6 +3,7 @@
 
 use crate::case::{Case, Fault, Runner, Step};
 use crate::look;
+use crate::previews::Preview;
 use crate::ring::Ring;
 use std::time::{Duration, Instant};
 
@@ -14,7 +15,7 @@ struct Traced {
     step: Step,
     /// The step's number in the whole case.
     number: usize,
-    /// The message that it takes out.
+    /// The message that it takes out, or would by a preview.
     takes: Option<Sent>,
 }
 
@@ -83,11 +84,23 @@ impl Case {
     }
 }
 
-/// The position that a delivery or loss has in its word.
+/// The position that a delivery or loss, or a preview of one, has in its word.
 fn position(step: Step) -> Option<usize> {
     match step {
-        Step::Play(word) if word >> 28 >= 14 && word << 4 >> 14 == 0 => Some(word as usize & 1_023),
+        Step::Play(word) | Step::Preview(Preview { word, .. }) if word >> 28 >= 14 && word << 4 >> 14 == 0 => {
+            Some(word as usize & 1_023)
+        }
         _ => None,
+    }
+}
+
+/// The step with another position in its word.
+fn moved(step: Step, position: usize) -> Step {
+    let there = |word: u32| word & !1_023 | position as u32;
+    match step {
+        Step::Play(word) => Step::Play(there(word)),
+        Step::Preview(preview) => Step::Preview(Preview { word: there(preview.word), ..preview }),
+        step => step,
     }
 }
 
@@ -98,14 +111,16 @@ fn in_queue(queue: Option<&[Sent]>, traced: Traced) -> Option<Traced> {
         return Some(Traced { takes: queue.get(place).copied(), ..traced });
     };
     let place = queue.iter().position(|&sent| sent == message)?;
-    let Step::Play(word) = traced.step else { return None };
-    Some(Traced { step: Step::Play(word & !1_023 | place as u32), ..traced })
+    Some(Traced { step: moved(traced.step, place), ..traced })
 }
 
-/// After an accepted step: its message is taken out, and those that it sent are at the end. A list is not followed.
+/// After an accepted step: its message is taken out, and those that it sent are at the end. A list is not followed, and
+/// a preview takes and sends nothing.
 fn follow(queue: &mut Option<Vec<Sent>>, traced: Traced, words: &[u32]) {
-    if matches!(traced.step, Step::PlayAll(_)) {
-        *queue = None;
+    match traced.step {
+        Step::PlayAll(_) => *queue = None,
+        Step::Preview(_) => return,
+        _ => {}
     }
     let Some(queue) = queue else { return };
     if let Some(place) = position(traced.step) {

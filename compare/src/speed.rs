@@ -242,6 +242,45 @@ fn route_times(start: &[u32], key: u32, rings: &[&dyn Ring]) -> Vec<(f64, f64)> 
     times.into_iter().map(|(routes, plays)| (median(routes), median(plays))).collect()
 }
 
+/// Previews, plays of the same events on a copy of the same words, and one copy; the shortest of rounds in turns.
+pub fn previews(rings: &[&dyn Ring]) {
+    print!("{:<48}{:>12}", "nanoseconds a preview, the shortest", "copy");
+    rings.iter().for_each(|ring| print!("{:>18}{:>12}{:>8}", format!("{} preview", ring.name()), "play", ""));
+    println!("  and over play and copy");
+    let (contact, notice) = (12 << 28 | 1 << 6, 11 << 28 | 1 << 6);
+    let events = [("contact", contact), ("notice", notice), ("deliver", 14 << 28), ("on", 9 << 28)];
+    for messages in [0, 415, 1_024] {
+        let words = full(messages, false);
+        for (name, word) in events {
+            let answer = rings[0].play(&mut words.clone(), word);
+            let (times, copy) = preview_times(&words, word, rings);
+            print!("{:<48}{copy:>12.0}", format!("  n 64, m {messages}, {name}, answer {answer}"));
+            for (preview, play) in times {
+                print!("{preview:>18.0}{play:>12.0}{:>8.2}", preview / (play + copy));
+            }
+            println!();
+        }
+    }
+}
+
+/// Nanoseconds a preview and a play of each ring, and of a copy.
+fn preview_times(start: &[u32], word: u32, rings: &[&dyn Ring]) -> (Vec<(f64, f64)>, f64) {
+    let mut shortest = vec![(f64::MAX, f64::MAX); rings.len()];
+    let mut copy = f64::MAX;
+    let (mut words, mut second) = (start.to_vec(), start.to_vec());
+    for _ in 0..10 * ROUNDS {
+        for (ring, (preview, play)) in rings.iter().zip(&mut shortest) {
+            *preview = preview.min(each(&[word], |word| ring.preview(&mut words, word, &mut second)));
+            copy = copy.min(each(&[0], |_| {
+                second.copy_from_slice(black_box(&words));
+                0
+            }));
+            *play = play.min(each(&[word], |word| ring.play(&mut second, word)));
+        }
+    }
+    (shortest, copy)
+}
+
 fn head(load: &Load) -> String {
     let (n, sides, messages) = (look::nodes(&load.words), look::sides(&load.words), look::messages(&load.words));
     format!("  n {n}, A = B = {}, m {messages}, {} held, {} spares", sides.clockwise, held(&load.words), spares_of(&load.words))

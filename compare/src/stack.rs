@@ -45,6 +45,7 @@ fn measure() {
         .collect();
     ring.open(&mut words, sides, &keys);
     line("play", events.iter().map(|&word| depth(&mut || _ = ring.play(&mut words, word))).max().unwrap());
+    line("preview", preview_depth(sides, &keys, &events));
     line("leafset", (0..64).map(|s| depth(&mut || _ = ring.leafset_of(&words, s))).max().unwrap());
     line("connected", (0..64).map(|s| depth(&mut || _ = ring.connected(&words, s, 63 - s))).max().unwrap());
     line("groups", depth(&mut || _ = ring.groups(&words)));
@@ -55,6 +56,19 @@ fn measure() {
     line("play_all", depth(&mut || _ = ring.play_all(&mut words, &events, &mut answers)));
     line("read_event", events.iter().map(|&word| depth(&mut || library::read_event(word))).max().unwrap());
     line("write_event", (0..7).map(|kind| depth(&mut || library::write_event(9 + kind, 1, 2))).max().unwrap());
+}
+
+/// The deepest preview, each before its event is played.
+fn preview_depth(sides: Sides, keys: &[u32], events: &[u32]) -> usize {
+    let ring = library::Library;
+    let (mut words, mut second) = (vec![0; LENGTH], vec![0; LENGTH]);
+    ring.open(&mut words, sides, keys);
+    let depths = events.iter().map(|&word| {
+        let depth = depth(&mut || _ = ring.preview(&mut words, word, &mut second));
+        ring.play(&mut words, word);
+        depth
+    });
+    depths.max().unwrap()
 }
 
 /// The route with the most hops: 64 nodes in a row, each of which holds the next, from the first to the last.

@@ -83,6 +83,10 @@ impl Book {
         self.run(Command::FILL_LIST, [from, to, value, 0]);
     }
 
+    pub fn fill_second(&mut self, from: u32, to: u32, value: u32) {
+        self.run(Command::FILL_SECOND, [from, to, value, 0]);
+    }
+
     /// Puts the words into the list.
     pub fn list(&mut self, from: u32, words: &[u32]) {
         for (at, &word) in (from..).zip(words) {
@@ -105,10 +109,14 @@ impl Book {
         self.replay(sides, keys, n, 0);
     }
 
+    /// The answer of the plain implementation, where no case says it.
+    fn judged(&self, word: u32) -> u32 {
+        Plain { slip: None }.play(&mut self.words().to_vec(), word)
+    }
+
     /// Plays a word that the implementations alone judge.
     pub fn play_any(&mut self, word: u32) {
-        let answer = Plain { slip: None }.play(&mut self.words().to_vec(), word);
-        self.play(word, answer);
+        self.play(word, self.judged(word));
     }
 
     pub fn play(&mut self, word: u32, answer: u32) {
@@ -201,6 +209,25 @@ impl Book {
         let value = self.call(Command::ROUTE, [start, key, places as u32, 0], answer).value;
         assert_eq!(value % 10_000, 6_400, "{}: refused, {start} to {key}", self.tally.section);
         assert!(self.plain.places == before, "{}: refused, {start} to {key}", self.tally.section);
+    }
+
+    /// A preview that is lent so many words of the second buffer, and leaves the ring as it is. Accepted, they become
+    /// what the event would leave; refused, they stay.
+    pub fn preview(&mut self, word: u32, length: usize, answer: u32) {
+        let mut expected = self.plain.second.clone();
+        if answer == 0 {
+            expected[..LENGTH].copy_from_slice(self.words());
+            Plain { slip: None }.play(&mut expected[..LENGTH], word);
+        }
+        let line = self.call(Command::PREVIEW, [word, length as u32, 0, 0], answer);
+        assert!(line.changed == 0, "{}: a preview of {word:X} wrote the ring", self.tally.section);
+        assert!(self.plain.second == expected, "{}: the second buffer, {word:X}", self.tally.section);
+        count(&mut self.tally.previewed, (word >> 28, answer));
+    }
+
+    /// A preview that the implementations alone judge.
+    pub fn preview_any(&mut self, word: u32) {
+        self.preview(word, LENGTH, self.judged(word));
     }
 
     // Parts of a ring, written as words.

@@ -29,6 +29,8 @@ impl Command {
     pub const REPLAY: u32 = 9;
     pub const PLAY_ALL: u32 = 10;
     pub const ROUTE: u32 = 11;
+    pub const PREVIEW: u32 = 12;
+    pub const FILL_SECOND: u32 = 13;
 
     pub fn bytes(self) -> Vec<u8> {
         [self.number, self.a, self.b, self.c, self.d, self.lent].iter().flat_map(|word| word.to_le_bytes()).collect()
@@ -57,18 +59,20 @@ impl fmt::Display for Line {
     }
 }
 
-/// A buffer of one word more than a ring, a list with keys and after them a script, and places for the answers of its
-/// words or for the nodes of a route.
+/// A buffer of one word more than a ring, a list with keys and after them a script, places for the answers of its words
+/// or for the nodes of a route, and a second buffer for previews, as long as the first.
 pub struct Machine<'a> {
     ring: &'a dyn Ring,
     pub words: Vec<u32>,
     pub list: Vec<u32>,
     pub places: Vec<u8>,
+    pub second: Vec<u32>,
 }
 
 impl<'a> Machine<'a> {
     pub fn new(ring: &'a dyn Ring) -> Machine<'a> {
-        Machine { ring, words: vec![0; LENGTH + 1], list: vec![0; 1_200], places: vec![0; 1_040] }
+        let words = vec![0; LENGTH + 1];
+        Machine { ring, second: words.clone(), words, list: vec![0; 1_200], places: vec![0; 1_040] }
     }
 
     pub fn run(&mut self, command: Command) -> Option<Line> {
@@ -76,6 +80,7 @@ impl<'a> Machine<'a> {
         match number {
             Command::FILL_WORDS => self.words[a as usize..b as usize].fill(c),
             Command::FILL_LIST => self.list[a as usize..b as usize].fill(c),
+            Command::FILL_SECOND => self.second[a as usize..b as usize].fill(c),
             _ => {
                 let before = self.words.clone();
                 let (answer, value) = self.call(command);
@@ -105,7 +110,8 @@ impl<'a> Machine<'a> {
             Command::WRITE => event_word::write(a, b, c),
             Command::REPLAY => self.replay(command),
             Command::PLAY_ALL => self.play_all(command),
-            _ => self.route(command),
+            Command::ROUTE => self.route(command),
+            _ => self.preview(command),
         }
     }
 
@@ -139,6 +145,14 @@ impl<'a> Machine<'a> {
         let places = &mut self.places[..command.c as usize];
         let Routed { answer, end, hops } = self.ring.route(words, command.a, command.b, places);
         (answer, self.places_digest() * 10_000 + end as u64 * 100 + hops as u64)
+    }
+
+    /// A preview, with some words of the second buffer: the value is the digest of all.
+    fn preview(&mut self, command: Command) -> (u32, u64) {
+        let words = &mut self.words[..command.lent as usize];
+        let second = &mut self.second[..command.b as usize];
+        let answer = self.ring.preview(words, command.a, second);
+        (answer, digest(self.second.iter().copied()))
     }
 
     fn places_digest(&self) -> u64 {

@@ -8,6 +8,7 @@ mod lists;
 mod machine;
 mod openings;
 mod pool;
+mod previews;
 mod refusals;
 mod replays;
 mod routes;
@@ -29,5 +30,6 @@ pub fn all() -> Book {
     replays::write(&mut book);
     lists::write(&mut book);
     routes::write(&mut book);
+    previews::write(&mut book);
     book
 }

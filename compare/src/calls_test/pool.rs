@@ -14,7 +14,7 @@ pub fn write(book: &mut Book) {
 }
 
 /// Replays an opening with all nodes on and so many contacts from node 0 to node 1.
-fn crowded(book: &mut Book, keys: &[u32], messages: u32) {
+pub fn crowded(book: &mut Book, keys: &[u32], messages: u32) {
     let n = keys.len() as u32;
     book.list(n, &(0..n).map(on).collect::<Vec<u32>>());
     book.fill_list(2 * n, 2 * n + messages, contact(0, 1));

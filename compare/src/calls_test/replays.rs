@@ -75,7 +75,17 @@ fn routes(book: &mut Book, n: u32, keys: &[u32]) {
     }
 }
 
-/// Stored scripts, played word by word, replayed, and by one call on the ring that is opened first.
+/// "Previews inserted in a list of events change no later answer": of the word itself, and of one that comes later.
+fn previewed(book: &mut Book, events: &[u32], answers: &[u8]) {
+    for (place, (&word, &answer)) in events.iter().zip(answers).enumerate() {
+        book.preview_any(events[(place + 7) % events.len()]);
+        book.preview(word, LENGTH, answer as u32);
+        book.play(word, answer as u32);
+    }
+}
+
+/// Stored scripts, played word by word, replayed, by one call on the ring that is opened first, and with previews between
+/// the words.
 fn stored(book: &mut Book) {
     for script in STORED {
         let words: Vec<u32> = script.chunks_exact(4).map(|word| u32::from_le_bytes(word.try_into().unwrap())).collect();
@@ -91,5 +101,7 @@ fn stored(book: &mut Book) {
         let answers = book.places()[..events.len()].to_vec();
         book.open(sides, &keys, 0);
         book.play_all(n, &answers, answers.len(), 0);
+        book.open(sides, &keys, 0);
+        previewed(book, events, &answers);
     }
 }

@@ -14,6 +14,8 @@ pub struct Tally {
     pub calls: BTreeMap<(u32, u32), usize>,
     /// Played words, by kind and answer.
     pub events: BTreeMap<(u32, u32), usize>,
+    /// Previewed words, by kind and answer.
+    pub previewed: BTreeMap<(u32, u32), usize>,
     /// Accepted deliveries to a running node, by type.
     pub delivered: BTreeMap<u32, usize>,
     /// Accepted timers.
@@ -33,7 +35,7 @@ pub fn count<K: Ord>(counts: &mut BTreeMap<K, usize>, key: K) {
 }
 
 /// The answers that each call can give.
-const CALLS: [(&str, u32, &[u32]); 10] = [
+const CALLS: [(&str, u32, &[u32]); 11] = [
     ("open", Command::OPEN, &[0, 1, 2, 3]),
     ("play", Command::PLAY, &[0, 1, 4, 5, 6, 7, 8, 9, 10, 11]),
     ("leafset", Command::LEAFSET, &[0, 1, 6, 7, 8]),
@@ -44,9 +46,10 @@ const CALLS: [(&str, u32, &[u32]); 10] = [
     ("replay", Command::REPLAY, &[0, 1, 2, 3]),
     ("play_all", Command::PLAY_ALL, &[0, 1, 6]),
     ("route", Command::ROUTE, &[0, 1, 6, 7, 8, 12, 13]),
+    ("preview", Command::PREVIEW, &[0, 1, 4, 5, 6, 7, 8, 9, 10, 11]),
 ];
 
-/// The answers that playing a word of each event kind can give.
+/// The answers that playing or previewing a word of each event kind can give.
 const EVENTS: [(&str, u32, &[u32]); 7] = [
     ("on", 9, &[0, 1, 4, 6, 7, 9, 10]),
     ("off", 10, &[0, 1, 4, 6, 7, 8, 11]),
@@ -66,9 +69,12 @@ const LISTED: [u32; 8] = [0, 4, 5, 7, 8, 9, 10, 11];
 impl Tally {
     /// Every answer that can come has come, and no other; every type was delivered, and every timer accepted.
     pub fn is_full(&self) -> bool {
-        let events = self.events.keys().filter(|(kind, _)| *kind >= 9);
+        let every_event = |counts: &BTreeMap<(u32, u32), usize>| {
+            counts.keys().filter(|(kind, _)| *kind >= 9).copied().eq(each(&EVENTS))
+        };
         self.calls.keys().copied().eq(each(&CALLS))
-            && events.copied().eq(each(&EVENTS))
+            && every_event(&self.events)
+            && every_event(&self.previewed)
             && self.replayed.keys().copied().eq(REPLAYED)
             && self.listed.keys().copied().eq(LISTED)
             && self.delivered.keys().copied().eq(1..=13)
@@ -85,6 +91,8 @@ impl fmt::Display for Tally {
         writeln!(f, "calls: {:?}, words damaged: {}", self.sections, self.damages)?;
         rows(f, &CALLS, &self.calls)?;
         rows(f, &EVENTS, &self.events)?;
+        writeln!(f, "previewed")?;
+        rows(f, &EVENTS, &self.previewed)?;
         writeln!(f, "delivered, by type: {:?}", self.delivered)?;
         writeln!(f, "timers accepted: {:?}", self.timers)?;
         writeln!(f, "answers of replayed words: {:?}", self.replayed)?;

@@ -1,5 +1,5 @@
-//! Document 01 over the lent words, in place and tuned by hand: no allocation and no copy of the buffer. Written from
-//! the document's text alone.
+//! Document 01 over the lent words, in place and tuned by hand: no allocation, and no copy of the buffer but a preview's.
+//! Written from the document's text alone.
 
 mod events;
 mod lanes;
@@ -29,6 +29,10 @@ impl Ring for Reference {
 
     fn play(&self, words: &mut [u32], word: u32) -> u32 {
         answer(play(words, word))
+    }
+
+    fn preview(&self, words: &mut [u32], word: u32, second: &mut [u32]) -> u32 {
+        answer(preview(words, word, second))
     }
 
     fn leafset_of(&self, words: &[u32], node: u32) -> (u32, u64) {
@@ -93,4 +97,12 @@ fn play(words: &mut [u32], word: u32) -> Result<(), u32> {
     let event = Event::read(word)?;
     let header = validity::reads_as_ring(words).ok_or(6u32)?;
     Place { words, header }.play(event)
+}
+
+fn preview(words: &[u32], word: u32, second: &mut [u32]) -> Result<(), u32> {
+    let mut copy: Words = words.try_into().map_err(|_| 1u32)?;
+    let second: &mut Words = second.try_into().map_err(|_| 1u32)?;
+    play(&mut copy, word)?;
+    *second = copy;
+    Ok(())
 }

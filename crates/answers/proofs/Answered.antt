@@ -4,11 +4,11 @@ use mathlib.Core.Bool.{Bool, true, false, not}
 use mathlib.Core.List.{List}
 use Prim.Native.Nat.{ℕ}
 use Rattle.model.specs.Answers.{numberOf, isAccepted}
-use Rattle.model.specs.Buffer.{writes}
+use Rattle.model.specs.Buffer.{writes, playBuffer}
 use Rattle.model.specs.declared.answer.Answer.{Answer}
 use Rattle.model.proofs.Laws.{not-out, not-out-false}
 use Rattle.model.proofs.Answers.{accepted-is}
-use Rattle.answers.specs.Applied.{written}
+use Rattle.answers.specs.Applied.{written, Refuses}
 
 -- the code asks whether the answer a, whose number is k, is a refusal
 module _ (a : Answer) (k : ℕ) (is : numberOf a ≡ k) {r : Bool} (asked : r ≡ not (isAccepted (numberOf a))) where
@@ -23,3 +23,8 @@ refuses ws l a k n e = rw (e, n)
 
 pub accepts : (ws ws' l : List ℕ) (a : Answer) (k : ℕ) → k ≡ 0 → numberOf a ≡ k → ws' ≡ l → written a ws' ≡ writes ws k l
 accepts ws ws' l a k z e w = rw (e, z, w)
+
+-- a word that is refused leaves the words
+pub refused-word : (ws : List ℕ) (w : ℕ) (a : Answer) → Refuses ws w a → written a ws ≡ playBuffer ws w
+unfolding playBuffer
+refused-word ws w a p = refuses ws _ a _ (p .is-refusal) (p .number)

@@ -12,24 +12,15 @@ ghost use Rattle.call_play.specs.Replay.{PlayedUpTo, PlayedAll, Replayed
 use call_open::open;
 use model::answer::Answer;
 use model::event::Reading;
-use word_ring::place;
 
 // 1; 4 and 5 of the word; 6; then those of the event.
 pub fn play(words: &mut [u32], word: u32) -> Answer
     ensures written { λ r. ⌜ written r (now (words .exit)) ≡ playBuffer (now (words .entry)) word ⌝ }
 {
-    if words.len() != place::LENGTH {
-        return Answer::WrongLength;
-    }
-    let reading = word_event::read_event(word);
+    let reading = call_refusals::of_event(words, word);
     match reading {
         Reading::Refused(answer) => answer,
-        Reading::Read(e) => {
-            if !valid_ring::reads_as_ring(words) {
-                return Answer::NotARing;
-            }
-            event_play::play_event(words, e)
-        }
+        Reading::Read(e) => event_play::play_event(words, e),
     }
 }
 

@@ -5,7 +5,7 @@ use mathlib.Core.List.{List, [], _∷_, _++_}
 use Prim.Native.Nat.{ℕ}
 use native.Mathlib.Omega.{arith}
 use lib.ListN.{length}
-use borrow.Author.Tests.{eq-eqb, ne-eqb}
+use lib.Dec.{eqb}
 use Rattle.model.specs.Choice.{if_then_else_}
 use Rattle.model.specs.WellFormed.{Each, nil, cons}
 use Rattle.model.specs.Answers.{Refusal, firstOf, isAccepted, numberOf}
@@ -18,7 +18,7 @@ use Rattle.model.specs.declared.answer.Answer.the-variants.{WrongLength, NotARi
 use Rattle.model.specs.declared.event.Event.{Event}
 use Rattle.model.specs.declared.event.Reading.{Reading}
 use Rattle.model.specs.declared.event.Reading.the-variants.{Read, Refused}
-use Rattle.answers.specs.Applied.{written, eventOn}
+use Rattle.answers.specs.Applied.{written, eventOn, Refuses}
 use Rattle.answers.proofs.Answered.{refuses, accepts}
 use Rattle.model.proofs.Answers.{here, next}
 use Rattle.event_act.specs.Changes.{changed, Decides}
@@ -72,36 +72,34 @@ module _ (w : ℕ) {r : Reading} (read : readingOf r ≡ readEvent w) where
 -- ---- the stages: the length; the word; the words; the event
 
 module _ (ws : List ℕ) (w : ℕ) where
-  pub not-as-long : (length ws ≡ ringLength → ⊥) → written WrongLength ws ≡ playBuffer ws w
-  unfolding playBuffer bufferAnswer
+  pub not-as-long : eqb (length ws) ringLength ≡ false → Refuses ws w WrongLength
+  unfolding bufferAnswer
   not-as-long d =
-      let one : bufferAnswer ws w ≡ 1 = here _ _ (ap not (ne-eqb (length ws) ringLength d)) in
-      refuses ws _ WrongLength _ (ap isAccepted one) (sym one)
+      let one : bufferAnswer ws w ≡ 1 = here _ _ (ap not d) in
+      record { is-refusal = ap isAccepted one; number = sym one }
 
-  module _ (h : length ws ≡ ringLength) where
+  module _ (h : eqb (length ws) ringLength ≡ true) where
     by-word : bufferAnswer ws w ≡ (if isAccepted (wordAnswer w) then firstOf (notARing ws ∷ stateRefusals (decode ws) (eventOf w)) else wordAnswer w)
     unfolding bufferAnswer wordAnswer
     by-word =
-        next (wrongLength ws) _ (ap not (eq-eqb (length ws) ringLength h))
+        next (wrongLength ws) _ (ap not h)
         ∙ first-of-both (wordRefusals w) _ (cons refl (cons refl nil))
 
     module _ {r : Reading} (read : readingOf r ≡ readEvent w) where
-      pub not-an-event : {a : Answer} → r ≡ Refused a → written a ws ≡ playBuffer ws w
-      unfolding playBuffer
+      pub not-an-event : {a : Answer} → r ≡ Refused a → Refuses ws w a
       not-an-event {a} e =
           let p : IsNoEvent w a = is-no-event w read a e in
           let refused : bufferAnswer ws w ≡ wordAnswer w = by-word ∙ rw (p .refused) in
-          refuses ws _ a _ (ap isAccepted refused ∙ p .refused) (p .answer ∙ sym refused)
+          record { is-refusal = ap isAccepted refused ∙ p .refused; number = p .answer ∙ sym refused }
 
       module _ {e : Event} (is : r ≡ Read e) where
         after-word : bufferAnswer ws w ≡ firstOf (notARing ws ∷ stateRefusals (decode ws) e)
         after-word = let p : IsEvent w e = is-event w read e is in by-word ∙ rw (p .accepted, p .event)
 
-        pub not-a-ring : readsAsRing ws ≡ false → written NotARing ws ≡ playBuffer ws w
-        unfolding playBuffer
+        pub not-a-ring : readsAsRing ws ≡ false → Refuses ws w NotARing
         not-a-ring n =
             let six : bufferAnswer ws w ≡ 6 = after-word ∙ here _ _ (ap not n) in
-            refuses ws _ NotARing _ (ap isAccepted six) (sym six)
+            record { is-refusal = ap isAccepted six; number = sym six }
 
         pub an-event : readsAsRing ws ≡ true → eventOn ws e ≡ playBuffer ws w
         unfolding playBuffer

@@ -6,6 +6,7 @@ ghost use Rattle.model.specs.Structs.{tableOf};
 ghost use Rattle.model.specs.Buffer.{openBuffer, playBuffer};
 ghost use Rattle.model.specs.Questions.{leafsetAnswer, leafsetOf, connectionAnswer, connectionOf, groupsAnswer, groupsOf};
 ghost use Rattle.model.specs.Words.{decode};
+ghost use Rattle.model.specs.Preview.{previewBuffer};
 ghost use Rattle.model.specs.Route.{routeBuffer};
 ghost use Rattle.model.specs.Connection.{Connected};
 ghost use Rattle.model.specs.Events.{wordAnswer};
@@ -40,6 +41,16 @@ pub extern "C" fn mekvalgs_play(words: &mut [u32], word: u32) -> u32
     ensures words { λ r. ⌜ now (words .exit) ≡ playBuffer (now (words .entry)) word .words ⌝ }
 {
     answers::number(call_play::play(words, word))
+}
+
+// What an event word would leave, in the second buffer; nothing is played.
+#[no_mangle]
+pub extern "C" fn mekvalgs_preview(words: &[u32], word: u32, preview: &mut [u32]) -> u32
+    ensures preview { λ r. ⌜ record { answer = r; words = now (preview .exit) }
+        ≡ previewBuffer (now (words .entry)) word (now (preview .entry)) ⌝ }
+    ensures ring { λ _. ⌜ now (words .exit) ≡ now (words .entry) ⌝ }
+{
+    answers::number(call_preview::preview(words, word, preview))
 }
 
 // Plays the script on the ring; the answers' numbers, as far as there are places for them.

@@ -1,5 +1,5 @@
 -- Laws of the answers, and of the first refusal that applies.
-use mathlib.Core.Path.{_≡_, refl, ap}
+use mathlib.Core.Path.{_≡_, refl, sym, ap, _∙_}
 use Prim.Native.Nat.{ℕ, _≤_}
 use native.Mathlib.Nat.{le-refl, le-trans}
 use mathlib.Core.Bool.{Bool, true, false, _&&_}
@@ -16,20 +16,6 @@ use Rattle.model.proofs.Lists.{each-imp}
 pub accepted-is : (a : ℕ) → isAccepted a ≡ true → a ≡ 0
 accepted-is a t = eqb-true a 0 t
 
--- where the first of the refusals that apply is none, none applies
-pub none-applies : (qs : List Refusal) → Each (λ q. isAccepted (q .number) ≡ false) qs → firstOf qs ≡ 0 → Each (λ q. q .applies ≡ false) qs
-unfolding firstOf
-none-applies [] e a = nil
-none-applies (q ∷ qs) (cons p e) a = cons (now (q .applies) a) (none-applies qs e (rest (q .applies) a))
-  where
-    now : (b : Bool) → (if b then q .number else firstOf qs) ≡ 0 → b ≡ false
-    now true i = clash (ap isAccepted i) p
-    now false i = refl
-
-    rest : (b : Bool) → (if b then q .number else firstOf qs) ≡ 0 → firstOf qs ≡ 0
-    rest true i = clash (ap isAccepted i) p
-    rest false i = i
-
 -- the first refusal, and the next one
 pub here : (q : Refusal) (qs : List Refusal) → q .applies ≡ true → firstOf (q ∷ qs) ≡ q .number
 unfolding firstOf
@@ -42,6 +28,23 @@ next q qs e = rw e
 pub no-more : firstOf [] ≡ 0
 unfolding firstOf
 no-more = refl
+
+-- where the first of the refusals that apply is none, none applies
+module _ (q : Refusal) (qs : List Refusal) (n : isAccepted (q .number) ≡ false) (a : firstOf (q ∷ qs) ≡ 0) where
+  pub passed : q .applies ≡ false
+  unfolding firstOf
+  passed = by-test (q .applies) a
+    where
+      by-test : (b : Bool) → (if b then q .number else firstOf qs) ≡ 0 → b ≡ false
+      by-test true i = clash (ap isAccepted i) n
+      by-test false i = refl
+
+  pub rest-passed : firstOf qs ≡ 0
+  rest-passed = sym (next q qs passed) ∙ a
+
+pub none-applies : (qs : List Refusal) → Each (λ q. isAccepted (q .number) ≡ false) qs → firstOf qs ≡ 0 → Each (λ q. q .applies ≡ false) qs
+none-applies [] e a = nil
+none-applies (q ∷ qs) (cons p e) a = cons (passed q qs p a) (none-applies qs e (rest-passed q qs p a))
 
 -- refusals alike after a place, and one named twice
 pub later : (q : Refusal) (qs rs : List Refusal) → firstOf qs ≡ firstOf rs → firstOf (q ∷ qs) ≡ firstOf (q ∷ rs)

@@ -25,4 +25,5 @@ pub mod ExampleRing
 pub mod Points
 pub mod Amended
 pub mod Routes
+pub mod Previews
 pub mod Theorems

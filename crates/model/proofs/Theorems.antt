@@ -5,6 +5,7 @@ use Prim.Native.Nat.{ℕ, suc, _+_, _-_, _≤_, _<_}
 use mathlib.Core.Bool.{Bool, true, false, _&&_}
 use mathlib.Core.List.{List, [], _∷_}
 use lib.Dec.{ltb}
+use borrow.Author.Tests.{eq-eqb, ne-eqb}
 use lib.ListN.{length, getD}
 use Rattle.model.specs.Choice.{if_then_else_}
 use Rattle.model.specs.Sets.{Set, without, count, toBits, noneNode}
@@ -13,13 +14,14 @@ use Rattle.model.specs.Ring.{Own, Message, Ring, initial, holds, isRunni
 use Rattle.model.specs.Types.{types}
 use Rattle.model.specs.Steps.{stepByType}
 use Rattle.model.specs.WellFormed.{WellFormedTable, WellFormed}
-use Rattle.model.specs.Words.{encode, decode, readsAsRing}
+use Rattle.model.specs.Words.{ringLength, encode, decode, readsAsRing}
 use Rattle.model.specs.Answers.{isAccepted}
 use Rattle.model.specs.Events.{wordOf, eventOf, eventRefusals, eventAnswer, writeEvent, wordRefusals, wordAnswer, readEvent, readingOf}
-use Rattle.model.specs.Play.{stateRefusals, playAll}
+use Rattle.model.specs.Play.{stateRefusals, playWord, playAll}
 use Rattle.model.specs.Buffer.{ringRefusals, openRefusals, openAnswer, openBuffer, playRefusals, bufferAnswer, playBuffer, playBufferAll}
 use Rattle.model.specs.Questions.{leafsetRefusals, leafsetAnswer, leafsetOf, connectionRefusals, connectionAnswer, groupsAnswer}
 use Rattle.model.specs.Route.{nextOf, goesOn, route, Converged, routeRefusals, routeAnswer, routeBuffer}
+use Rattle.model.specs.Preview.{previewRefusals, previewAnswer, previewBuffer, Call, Buffers, PreviewsChangeNothing}
 use Rattle.model.specs.Bench.{scriptRefusals, scriptAnswer}
 use Rattle.model.specs.Connection.{Connected, connected, groups, CountsGroups}
 use Rattle.model.specs.ConnectivityPreserved.{Reached, opened, Unbroken, ConnectivityPreserved}
@@ -42,6 +44,7 @@ use Rattle.model.proofs.Connection as connection
 use Rattle.model.proofs.Groups as grouped
 use Rattle.model.proofs.Routes.{Hop, GivenRoute}
 use Rattle.model.proofs.Routes as routes
+use Rattle.model.proofs.Previews as previewed
 use Rattle.model.proofs.ConnectivityPreserved as preserved
 
 -- ---- "The lowest number that applies is given, and none otherwise", at each call
@@ -71,6 +74,10 @@ rising-state r (Lose i) = refl
 pub lowest-at-playing : (ws : List ℕ) (w : ℕ) → LowestOf (playRefusals ws w) (bufferAnswer ws w)
 unfolding bufferAnswer
 lowest-at-playing ws w = lowest-given 0 (playRefusals ws w) (rising-state (decode ws) (eventOf w))
+
+pub lowest-at-previewing : (ws : List ℕ) (w : ℕ) (second : List ℕ) → LowestOf (previewRefusals ws w second) (previewAnswer ws w second)
+unfolding previewAnswer
+lowest-at-previewing ws w second = lowest-given 0 (previewRefusals ws w second) (rising-state (decode ws) (eventOf w))
 
 pub lowest-at-leafset : (ws : List ℕ) (x : ℕ) → LowestOf (leafsetRefusals ws x) (leafsetAnswer ws x)
 unfolding leafsetAnswer
@@ -242,6 +249,37 @@ route-once r a x i j h k e = routes.route-once r a x i j h k e
 pub route-ends-nearest : (r : Ring) → WellFormed r → Converged r → (a : ℕ) → a < 16777216 → (x : ℕ) → isRunning r x ≡ true
     → getD (route r a x) (length (route r a x) - 1) noneNode ≡ nearest (r .table) a (isRunning r)
 route-ends-nearest r g c a h x e = routes.route-ends-nearest r g c a h x e
+
+-- ---- previews
+
+-- "a second buffer of wrong length is refusal 1"
+pub preview-length : (ws : List ℕ) (w : ℕ) (second : List ℕ) → ¬ (length second ≡ ringLength) → previewBuffer ws w second .answer ≡ 1
+preview-length ws w second d = previewed.wrong-length ws w second (ne-eqb (length second) ringLength d)
+
+-- "It gives the answer that the event would get."
+pub preview-answers : (ws : List ℕ) (w : ℕ) (second : List ℕ) → length second ≡ ringLength → previewBuffer ws w second .answer ≡ playBuffer ws w .answer
+preview-answers ws w second h = previewed.answers-as-playing ws w second (eq-eqb (length second) ringLength h)
+
+-- "If accepted, the second buffer holds what the event would leave": answer and words are those of playing, which is accepted too
+pub accepted-preview : (ws : List ℕ) (w : ℕ) (second : List ℕ) → previewBuffer ws w second .answer ≡ 0 → previewBuffer ws w second ≡ playBuffer ws w
+accepted-preview ws w second a = previewed.accepted-as-playing ws w second a
+
+-- "A refused preview writes neither"
+pub refused-preview : (ws : List ℕ) (w : ℕ) (second : List ℕ) → isAccepted (previewBuffer ws w second .answer) ≡ false → previewBuffer ws w second .words ≡ second
+unfolding previewBuffer
+refused-preview ws w second e = rw e
+
+-- what an accepted preview shows reads as a ring, and is a reached one where the ring was: events can be played and previewed on from it
+pub preview-reads : (ws : List ℕ) (w : ℕ) (second : List ℕ) → previewBuffer ws w second .answer ≡ 0 → readsAsRing (previewBuffer ws w second .words) ≡ true
+preview-reads ws w second a = previewed.preview-reads ws w second a
+
+pub preview-reached : (ws : List ℕ) (r : Ring) → Reached ws r → (w : ℕ) (second : List ℕ) → previewBuffer ws w second .answer ≡ 0
+    → Reached (previewBuffer ws w second .words) (playWord r w .ring)
+preview-reached ws r p w second a = previewed.preview-reached ws w second a p
+
+-- "Previews inserted in a list of events change no later answer": lists of any length, refused calls included, on any two buffers
+pub previews-change-nothing : (b : Buffers) (calls : List Call) → PreviewsChangeNothing b calls
+previews-change-nothing b calls = previewed.change-nothing b calls
 
 -- ---- demand 3
 

@@ -18,3 +18,4 @@ pub mod ConnectivityPreserved
 pub mod Bench
 pub mod Structs
 pub mod Route
+pub mod Preview

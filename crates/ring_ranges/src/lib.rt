@@ -1,4 +1,4 @@
-// A span of a ring's words, moved or cleared.
+// A span of a ring's words, moved or cleared; all of them, copied.
 ghost use mathlib.Core.Path.{_≡_};
 ghost use Prim.Native.Nat.{_+_, _-_, _≤_};
 ghost use lib.ListN.{length, getD};
@@ -32,5 +32,15 @@ pub fn clear(words: &mut [u32], from: usize, to: usize)
 {
     for i in from..to {
         words[i] = 0;
+    }
+}
+
+// Copies all words.
+pub fn copy(words: &[u32], to: &mut [u32])
+    requires lengths { ⌜ length (now to) ≡ length (now words) ⌝ }
+    ensures words { λ _. ⌜ now (to .exit) ≡ now (words .entry) ⌝ }
+{
+    for i in 0..words.len() {
+        to[i] = words[i];
     }
 }

@@ -7,7 +7,13 @@ use super::line::Outcome;
 use super::memory;
 use call_open::open;
 
-pub fn call(command: Command, words: &mut [u32], list: &[u32], places: &mut [u8]) -> Outcome {
+pub fn call(
+    command: Command,
+    words: &mut [u32],
+    list: &[u32],
+    places: &mut [u8],
+    second: &mut [u32],
+) -> Outcome {
     let number = command.number;
     match number {
         Command::OPEN => opened(words, command, list),
@@ -15,7 +21,8 @@ pub fn call(command: Command, words: &mut [u32], list: &[u32], places: &mut [u8]
         Command::LEAFSET..=Command::WRITE => ask(command, words),
         Command::REPLAY => replayed(words, command, list, places),
         Command::PLAY_ALL => played_all(words, command, list, places),
-        _ => routed(words, command, places),
+        Command::ROUTE => routed(words, command, places),
+        _ => previewed(words, command, second),
     }
 }
 
@@ -50,4 +57,11 @@ fn routed(words: &[u32], command: Command, places: &mut [u8]) -> Outcome {
     let answer = reply.answer;
     let digits = (reply.end.0 as u64) * 100 + reply.hops as u64;
     outcome(answer, memory::digest_bytes(places) * 10_000 + digits)
+}
+
+// The value is the digest of the whole second buffer, also of the words that are not lent.
+fn previewed(words: &[u32], command: Command, second: &mut [u32]) -> Outcome {
+    let end = memory::at_most(command.b, second);
+    let answer = call_preview::preview(words, command.a, &mut second[..end]);
+    outcome(answer, memory::digest(second))
 }

@@ -45,7 +45,13 @@ impl Command {
     // Plays words a up to b of the list by one call, which is lent the first c places.
     pub const PLAY_ALL: u32 = 10;
 
-    // Every other number asks for the route from node a towards key b, which is lent the first c places.
+    // The route from node a towards key b, which is lent the first c places.
+    pub const ROUTE: u32 = 11;
+
+    // Words a up to b of the second buffer become c.
+    pub const FILL_SECOND: u32 = 13;
+
+    // Every other number previews the word a, with the first b words of the second buffer.
 }
 
 pub enum Next {

@@ -13,35 +13,36 @@ use command::Command;
 use command::Next;
 use word_ring::place;
 
-// The buffer has one word more than a ring.
+// Each buffer has one word more than a ring.
 const WORDS: usize = place::LENGTH + 1;
 
 // More commands than any input has.
 const MOST: u32 = 1_000_000;
 
 // A call, with its line.
-fn call(command: Command, words: &mut [u32], list: &[u32], places: &mut [u8])
+fn call(command: Command, words: &mut [u32], list: &[u32], places: &mut [u8], second: &mut [u32])
     requires length { ⌜ length (now words) ≡ 13442 ⌝ }
 {
     let mut before = [0u32; WORDS];
-    memory::copy(words, &mut before);
+    ring_ranges::copy(words, &mut before);
     let end = memory::at_most(command.lent, words);
-    let outcome = calls::call(command, &mut words[..end], list, places);
+    let outcome = calls::call(command, &mut words[..end], list, places, second);
     line::print(command.number, outcome, &before, words);
 }
 
-fn run(command: Command, words: &mut [u32], list: &mut [u32], places: &mut [u8])
+fn run(command: Command, words: &mut [u32], list: &mut [u32], places: &mut [u8], second: &mut [u32])
     requires length { ⌜ length (now words) ≡ 13442 ⌝ }
 {
     let number = command.number;
     match number {
         Command::FILL_WORDS => memory::fill(words, command.a, command.b, command.c),
         Command::FILL_LIST => memory::fill(list, command.a, command.b, command.c),
-        _ => call(command, words, list, places),
+        Command::FILL_SECOND => memory::fill(second, command.a, command.b, command.c),
+        _ => call(command, words, list, places, second),
     }
 }
 
-fn run_all(words: &mut [u32], list: &mut [u32], places: &mut [u8])
+fn run_all(words: &mut [u32], list: &mut [u32], places: &mut [u8], second: &mut [u32])
     requires length { ⌜ length (now words) ≡ 13442 ⌝ }
 {
     for _ in 0..MOST {
@@ -49,15 +50,16 @@ fn run_all(words: &mut [u32], list: &mut [u32], places: &mut [u8])
         let Next::Command(command) = next else {
             return;
         };
-        run(command, words, list, places);
+        run(command, words, list, places, second);
     }
 }
 
 // The list has keys, and after them a script; or a script alone. The places take the answers of its words, or the
-// nodes of a route.
+// nodes of a route. The second buffer is for previews.
 fn main() {
     let mut words = [0u32; WORDS];
     let mut list = [0u32; 1200];
     let mut places = [0u8; 1040];
-    run_all(&mut words, &mut list, &mut places);
+    let mut second = [0u32; WORDS];
+    run_all(&mut words, &mut list, &mut places, &mut second);
 }

@@ -34,14 +34,6 @@ pub fn fill(words: &mut [u32], from: u32, to: u32, value: u32) {
     }
 }
 
-pub fn copy(words: &[u32], to: &mut [u32])
-    requires lengths { ⌜ length (now words) ≡ length (now to) ⌝ }
-{
-    for i in 0..words.len() {
-        to[i] = words[i];
-    }
-}
-
 // The number of places at which the words differ.
 pub fn differing(before: &[u32], after: &[u32]) -> u64
     requires lengths { ⌜ length (now before) ≡ length (now after) ⌝ }
