@@ -39,7 +39,7 @@ enum mekvalgs_answer {
     MEKVALGS_WRONG_LENGTH = 1,         /* a ring buffer is not 13,441 words */
     MEKVALGS_OPENING_OUT_OF_RANGE = 2, /* opening: n, A or B out of range */
     MEKVALGS_BAD_KEY = 3,              /* opening: a key above 16,777,215, or two equal */
-    MEKVALGS_NOT_AN_EVENT = 4,         /* kind, timer or unnamed bit; when writing, a part too big */
+    MEKVALGS_NOT_AN_EVENT = 4,         /* kind, timer (also 1) or unnamed bit; when writing, a part too big */
     MEKVALGS_SAME_NODE = 5,            /* contact or notice where both nodes are one */
     MEKVALGS_NOT_A_RING = 6,           /* the words do not read as a ring */
     MEKVALGS_OUT_OF_TABLE = 7,         /* a node not below n, or a position not below m */
@@ -57,7 +57,7 @@ enum mekvalgs_kind {
     MEKVALGS_OFF = 10,     /* bit 12 set: polite, it first sends MEKVALGS_LEAVE to each held node */
     MEKVALGS_NOTICE = 11,  /* the node releases the other one, which is then no candidate either */
     MEKVALGS_CONTACT = 12,
-    MEKVALGS_TIMER = 13,
+    MEKVALGS_TIMER = 13,   /* 0, 2, 3 or 4: 0 invites candidates, then asks each held node */
     MEKVALGS_DELIVER = 14,
     MEKVALGS_LOSE = 15
 };
@@ -129,12 +129,13 @@ uint32_t mekvalgs_route(const uint32_t *words, size_t length, uint32_t start, ui
                         size_t places, uint32_t *end, uint32_t *hops);
 
 /* The event of a word as three numbers: its kind; its node, or of deliver and lose the position; the other node of
- * notice and contact, the timer of timer, 1 of an off that is polite, else 0. Answers 0, 4, 5; all three are 0 where
- * refused. */
+ * notice and contact, the timer of timer (0, 2, 3 or 4), 1 of an off that is polite, else 0. Answers 0, 4, 5; all three
+ * are 0 where refused. */
 uint32_t mekvalgs_read_event(uint32_t word, uint32_t *kind, uint32_t *first, uint32_t *second);
 
 /* The word of the event with these three numbers. Answers 0, 4 (also where a kind without a third number is given
- * one that is not 0, and off one that is neither 0 nor 1), 5; the word is 0 where refused. */
+ * one that is not 0, off one that is neither 0 nor 1, and timer one that is none of 0, 2, 3 and 4), 5; the word is 0
+ * where refused. */
 uint32_t mekvalgs_write_event(uint32_t kind, uint32_t first, uint32_t second, uint32_t *word);
 
 /* The words of a ring, for reading between calls.

@@ -196,7 +196,8 @@ fn held(random: &mut Random, words: &[u32], pokes: &mut Vec<Step>, x: usize, z: 
 /// The clock of x at its limit or one below, and an event there.
 fn last_tick(random: &mut Random, words: &[u32], x: usize) -> Damage {
     let clock = LIMIT - random.below(2) as u32;
-    let x_and_kind = random.pick(&[9 << 28, 10 << 28, 10 << 28 | 1 << 12, 13 << 28, 13 << 28 | 1 << 12]) | x as u32;
+    let timer = 13 << 28 | random.pick(&[0, 0, 1, 3]) << 12;
+    let x_and_kind = random.pick(&[9 << 28, 10 << 28, 10 << 28 | 1 << 12, timer, timer]) | x as u32;
     let event = if look::is_running(words, x) { x_and_kind } else { 9 << 28 | x as u32 };
     Damage { pokes: vec![Step::Poke(2 + 2 * x, 5 << 28 | clock)], event: Some(event) }
 }

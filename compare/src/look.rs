@@ -39,3 +39,8 @@ pub fn message_type(words: &[u32], position: usize) -> u32 {
 pub fn sender(words: &[u32], position: usize) -> usize {
     (words[8_321 + 5 * position] >> 4 & 63) as usize
 }
+
+/// The receiver of the message at a position.
+pub fn receiver(words: &[u32], position: usize) -> usize {
+    (words[8_321 + 5 * position] >> 10 & 63) as usize
+}

@@ -32,8 +32,20 @@ pub enum Slip {
     LeafsetAfterHold,
     /// Type 7's tie goes to the counter-clockwise one.
     TieCounterClockwise,
-    /// Timer 1 takes only the invited from the candidates.
+    /// Timer 0 takes only the invited from the candidates.
     CandidatesKept,
+    /// Timer 0 asks, then invites.
+    AskFirst,
+    /// Timer 0 only invites, as timer 1 did.
+    InviteOnly,
+    /// Timer 0 only asks, as it did before.
+    AskOnly,
+    /// Timer 0 raises the clock twice.
+    TwoTicks,
+    /// Timer 0 is refused by 11 only where its invitations don't fit; of its questions it sends those that do.
+    RoomToInvite,
+    /// Timer 1 still invites.
+    OldTimer1,
     /// A counter-clockwise, B clockwise.
     SidesSwapped,
     /// "Fewer than" 2 times A in place of A + B.
@@ -109,7 +121,7 @@ pub enum Slip {
 }
 
 impl Slip {
-    pub const ALL: [Slip; 48] = [
+    pub const ALL: [Slip; 54] = [
         Slip::StampNotAbove,
         Slip::CommitZero,
         Slip::AskerAsSpare,
@@ -122,6 +134,12 @@ impl Slip {
         Slip::LeafsetAfterHold,
         Slip::TieCounterClockwise,
         Slip::CandidatesKept,
+        Slip::AskFirst,
+        Slip::InviteOnly,
+        Slip::AskOnly,
+        Slip::TwoTicks,
+        Slip::RoomToInvite,
+        Slip::OldTimer1,
         Slip::SidesSwapped,
         Slip::TwiceClockwise,
         Slip::NoticeStrikesHeld,
@@ -166,7 +184,10 @@ pub struct Plain {
 }
 
 const CLOCK_LIMIT: u32 = 16_777_215;
+const POOL: usize = 1_024;
 const PLACES: u32 = 16_777_216;
+
+const TIMERS: [u32; 4] = [0, 2, 3, 4];
 
 #[derive(Clone, Default)]
 struct Pair {
@@ -270,7 +291,7 @@ impl State {
     fn decode(words: &[u32], slip: Option<Slip>) -> Option<State> {
         let n = bits(words[0], 4, 10) as usize;
         let m = bits(words[0], 11, 21) as usize;
-        if n > 64 || m > 1024 {
+        if n > 64 || m > POOL {
             return None;
         }
         let node = |s: usize| Node {
@@ -506,7 +527,8 @@ impl State {
         let held = self.held(x);
         let leafset = self.own_leafset(x);
         match timer {
-            0 => held.iter().for_each(|&y| self.messages.push(Message::new(3, x, y))),
+            0 => self.invite_and_ask(x),
+            // As it was, by a slip.
             1 => self.invite(x),
             2 => held.difference(&leafset).for_each(|&y| self.messages.push(Message::new(7, x, y))),
             3 => held.difference(&leafset).for_each(|&z| self.request(x, z, now)),
@@ -517,6 +539,33 @@ impl State {
             }
         }
         Ok(())
+    }
+
+    /// Timer 0: "those of the old timer 1, then those of the old timer 0".
+    fn invite_and_ask(&mut self, x: usize) {
+        match self.slip {
+            Some(Slip::InviteOnly) => self.invite(x),
+            Some(Slip::AskOnly) => self.ask_held(x),
+            Some(Slip::AskFirst) => {
+                self.ask_held(x);
+                self.invite(x);
+            }
+            _ => {
+                self.invite(x);
+                let invited = self.messages.len();
+                self.ask_held(x);
+                if self.has(Slip::RoomToInvite) {
+                    self.messages.truncate(invited.max(POOL));
+                }
+            }
+        }
+        if self.has(Slip::TwoTicks) {
+            self.tick(x);
+        }
+    }
+
+    fn ask_held(&mut self, x: usize) {
+        self.held(x).into_iter().for_each(|y| self.messages.push(Message::new(3, x, y)));
     }
 
     fn invite(&mut self, x: usize) {
@@ -760,7 +809,7 @@ pub fn event_fault(word: u32) -> Option<u32> {
         9 => bits(word, 6, 27),
         10 => bits(word, 6, 11) + bits(word, 13, 27),
         11 | 12 => bits(word, 12, 27),
-        13 => bits(word, 6, 11) + bits(word, 15, 27) + bits(word, 12, 14) / 5,
+        13 => bits(word, 6, 11) + bits(word, 15, 27) + !TIMERS.contains(&bits(word, 12, 14)) as u32,
         14 | 15 => bits(word, 10, 27),
         _ => return Some(4),
     };
@@ -806,12 +855,13 @@ impl Plain {
         if words.len() != LENGTH {
             return Err(1);
         }
-        if let Some(refusal) = event_fault(word) {
+        let old_timer = self.slip == Some(Slip::OldTimer1) && word & !63 == 13 << 28 | 1 << 12;
+        if let Some(refusal) = event_fault(word).filter(|_| !old_timer) {
             return Err(refusal);
         }
         let mut state = self.read(words)?;
         state.play(word)?;
-        let room = if self.slip == Some(Slip::FullPoolEarly) { 1023 } else { 1024 };
+        let room = if self.slip == Some(Slip::FullPoolEarly) { POOL - 1 } else { POOL };
         if state.messages.len() > room {
             return Err(11);
         }

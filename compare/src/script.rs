@@ -37,10 +37,10 @@ impl Mix {
             Mix::Garbage => [30, 6, 6, 15, 20, 80, 350, 60, 250],
             Mix::Replacement => [6, 2, 2, 6, 0, 60, 800, 10, 0],
         };
-        let [timer_0, timer_1, timer_2, timer_3, timer_4, sweep, restart] = match self {
-            Mix::Gentle => [40, 40, 20, 20, 15, 2, 0],
-            Mix::Chaos | Mix::Garbage => [30, 30, 30, 30, 30, 2, 5],
-            Mix::Replacement => [4, 4, 20, 40, 4, 10, 6],
+        let [timer_0, timer_2, timer_3, timer_4, no_timer, sweep, restart] = match self {
+            Mix::Gentle => [40, 20, 20, 15, 1, 2, 0],
+            Mix::Chaos | Mix::Garbage => [30, 30, 30, 30, 5, 2, 5],
+            Mix::Replacement => [4, 20, 40, 4, 1, 10, 6],
         };
         [
             (On, on),
@@ -53,10 +53,10 @@ impl Mix {
             (Lose, lose),
             (Anything, anything),
             (Timer(0), timer_0),
-            (Timer(1), timer_1),
             (Timer(2), timer_2),
             (Timer(3), timer_3),
             (Timer(4), timer_4),
+            (NoTimer, no_timer),
             (Sweep, sweep),
             (Restart, restart),
         ]
@@ -73,6 +73,8 @@ enum Choice {
     NoticeOfAny,
     Contact,
     Timer(u32),
+    /// A timer that is none, mostly 1.
+    NoTimer,
     Deliver,
     Lose,
     Anything,
@@ -185,6 +187,7 @@ impl Script {
             Choice::NoticeOfAny => self.of_two(11, words),
             Choice::Contact => self.of_two(12, words),
             Choice::Timer(timer) => 13 << 28 | timer << 12 | self.node(words, true),
+            Choice::NoTimer => 13 << 28 | self.random.pick(&[1, 1, 1, 5, 6, 7]) << 12 | self.node(words, true),
             Choice::Deliver => 14 << 28 | self.position(words),
             Choice::Lose => 15 << 28 | self.position(words),
             Choice::Anything => self.anything(),

@@ -54,7 +54,7 @@ fn steady(random: &mut Random, words: &[u32], wanted: usize) -> u32 {
         let y = (x + 1 + random.below(n - 1) as u32) % n as u32;
         return 12 << 28 | y << 6 | x;
     }
-    13 << 28 | (random.below(5) as u32) << 12 | x
+    13 << 28 | random.pick(&[0, 2, 3, 4]) << 12 | x
 }
 
 /// Nanoseconds an event of each ring, and of a plain pass, medians of rounds in turns.

@@ -1,7 +1,7 @@
 //! The commands written so far, with the lines that they have to give. Every case says the answer that document 01 demands;
 //! values and words are those of the plain implementation, with which the reference has to agree.
 
-use super::events::on;
+use super::events::{on, timer};
 use super::machine::{Command, Line, Machine};
 use super::tally::{count, Tally};
 use crate::look;
@@ -131,11 +131,23 @@ impl Book {
         self.call(Command::PLAY, [word, 0, 0, 0], answer);
     }
 
+    /// Plays timer 0 at node 0: an invitation to each of the invited, then a question to each of the asked, in one step of
+    /// the clock, and no candidate is left.
+    pub fn invite_and_ask(&mut self, invited: &[u32], asked: &[u32]) {
+        let (clock, first) = (look::clock(self.words(), 0), look::messages(self.words()));
+        self.play(timer(0, 0), 0);
+        let words = self.words();
+        let of_message = |position| (look::message_type(words, position), look::receiver(words, position) as u32);
+        let sent = (first..look::messages(words)).map(of_message);
+        assert!(sent.eq(invited.iter().map(|&y| (5, y)).chain(asked.iter().map(|&y| (3, y)))));
+        assert_eq!(look::clock(words, 0), clock + 1);
+        assert!((1..64).all(|z| words[pair(0, z)] >> 25 & 1 == 0));
+    }
+
     /// The type of the message that the word would deliver to a running node.
     fn delivery(&self, word: u32) -> Option<u32> {
         let position = word as usize & 1_023;
-        let receiver = (self.words()[8_321 + 5 * position] >> 10 & 63) as usize;
-        (word >> 28 == 14 && look::is_running(self.words(), receiver))
+        (word >> 28 == 14 && look::is_running(self.words(), look::receiver(self.words(), position)))
             .then(|| look::message_type(self.words(), position))
     }
 

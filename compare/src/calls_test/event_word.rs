@@ -27,7 +27,7 @@ pub fn write(kind: u32, first: u32, second: u32) -> (u32, u64) {
         10 => (first < 64, if second == 1 { leave(first) } else { off(first) }),
         11 => (first < 64 && second < 64, notice(first, second)),
         12 => (first < 64 && second < 64, contact(first, second)),
-        13 => (first < 64 && second <= 4, timer(first, second)),
+        13 => (first < 64 && TIMERS.contains(&second), timer(first, second)),
         14 => (first < 1_024, deliver(first)),
         _ => (first < 1_024, lose(first)),
     };
@@ -53,8 +53,11 @@ fn readings(book: &mut Book) {
     for word in [notice(0, 1), notice(63, 62), notice(1, 0), contact(0, 1), contact(63, 62), contact(0, 63)] {
         book.read(word, 0);
     }
-    (0..=4).for_each(|k| book.read(timer(63 * (k % 2), k), 0));
-    (5..=7).for_each(|k| book.read(timer(0, k), 4));
+    for x in [0, 63] {
+        TIMERS.iter().for_each(|&k| book.read(timer(x, k), 0));
+        NO_TIMERS.iter().for_each(|&k| book.read(timer(x, k), 4));
+    }
+    (1..63).for_each(|x| book.read(timer(x, 1), 4));
     for x in [0, 1, 63] {
         book.read(notice(x, x), 5);
         book.read(contact(x, x), 5);
@@ -99,8 +102,11 @@ fn writings(book: &mut Book) {
         // Both 4 and 5.
         book.write(kind, 64, 64, 4);
     }
-    (0..=4).for_each(|k| book.write(13, 63, k, 0));
-    [(0, 5), (0, 255), (64, 0)].iter().for_each(|&(x, k)| book.write(13, x, k, 4));
+    for x in [0, 63] {
+        TIMERS.iter().for_each(|&k| book.write(13, x, k, 0));
+        NO_TIMERS.iter().chain(&[8, 255]).for_each(|&k| book.write(13, x, k, 4));
+    }
+    [0, 1, 255].iter().for_each(|&k| book.write(13, 64, k, 4));
     for kind in [14, 15] {
         [0, 1, 1_023].iter().for_each(|&i| book.write(kind, i, 0, 0));
         [1_024, 65_535].iter().for_each(|&i| book.write(kind, i, 0, 4));

@@ -1,5 +1,10 @@
 //! The words of events.
 
+pub const TIMERS: [u32; 4] = [0, 2, 3, 4];
+
+/// Values in a timer's place that are none.
+pub const NO_TIMERS: [u32; 4] = [1, 5, 6, 7];
+
 pub fn on(x: u32) -> u32 {
     9 << 28 | x
 }

@@ -69,9 +69,12 @@ fn refused_words(book: &mut Book) {
         (deliver(0), 0),
         (deliver(0), 0),
         (lose(0), 7),
+        (timer(0, 1), 4),
+        (timer(0, 0), 0),
+        (timer(2, 1), 4),
     ];
     let (words, answers): (Vec<u32>, Vec<u8>) = list.into_iter().unzip();
-    for (places, length) in [(PLACES, 16), (16, 16), (5, 16), (16, 5), (15, 16), (1, 11)] {
+    for (places, length) in [(PLACES, 19), (19, 19), (5, 19), (19, 5), (18, 19), (1, 11)] {
         book.open(1, &KEYS, 0);
         book.set_clock(2, CLOCK_LIMIT);
         book.list(0, &words);

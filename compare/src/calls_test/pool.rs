@@ -2,7 +2,7 @@
 
 use super::book::Book;
 use super::events::*;
-use crate::look;
+use crate::{look, LENGTH};
 
 const CLOCK_LIMIT: u32 = 16_777_215;
 
@@ -11,6 +11,7 @@ pub fn write(book: &mut Book) {
     largest(book);
     smallest(book);
     last_places(book);
+    invite_and_ask(book);
 }
 
 /// Replays an opening with all nodes on and so many contacts from node 0 to node 1.
@@ -38,11 +39,11 @@ fn largest(book: &mut Book) {
     book.play(contact(5, 0), 11);
 }
 
-/// Each event that would send: a contact, and timers 0 to 4. Before 11 come 4, 5, 8 and 10.
+/// Each event that would send: a contact, a polite off and each timer. Before 11 come 4, 5, 8 and 10.
 fn refused(book: &mut Book) {
-    [contact(0, 1), contact(5, 0), timer(5, 1), leave(0)].into_iter().for_each(|word| book.play(word, 11));
-    [0, 2, 3, 4].into_iter().for_each(|k| book.play(timer(0, k), 11));
-    [contact(0, 1) | 1 << 27, timer(0, 5)].into_iter().for_each(|word| book.play(word, 4));
+    [contact(0, 1), contact(5, 0), timer(5, 0), leave(0)].into_iter().for_each(|word| book.play(word, 11));
+    TIMERS.into_iter().for_each(|k| book.play(timer(0, k), 11));
+    [contact(0, 1) | 1 << 27, timer(0, 1), timer(0, 5)].into_iter().for_each(|word| book.play(word, 4));
     book.play(contact(0, 0), 5);
     book.play(off(9), 0);
     [contact(9, 0), timer(9, 0)].into_iter().for_each(|word| book.play(word, 8));
@@ -54,7 +55,7 @@ fn refused(book: &mut Book) {
 
 /// Events that send nothing, and deliveries: each takes its message out first, so that its answer has room.
 fn accepted(book: &mut Book) {
-    [on(9), leave(9), on(9), notice(0, 9), timer(5, 0), timer(6, 1), timer(5, 2), timer(5, 3), timer(5, 4)]
+    [on(9), leave(9), on(9), notice(0, 9), timer(6, 0), timer(7, 0), timer(5, 2), timer(5, 3), timer(5, 4)]
         .into_iter()
         .for_each(|word| book.play(word, 0));
     [deliver(1_023), deliver(0), deliver(500)].into_iter().for_each(|word| book.play(word, 0));
@@ -95,5 +96,23 @@ fn last_places(book: &mut Book) {
         book.hold(0, 2, 1, 64);
         book.set_clock(0, CLOCK_LIMIT);
         book.play(leave(0), answer);
+    }
+}
+
+/// Timer 0 at a node with two to invite and two to ask: all of it fits, the invitations fit and not all questions, not
+/// even the invitations do. Refused, nothing of it is done; once there is room, all of it is.
+fn invite_and_ask(book: &mut Book) {
+    for messages in 1_019..=1_024 {
+        crowded(book, &[100, 130, 90, 110, 16_777_200, 5_000_000], messages);
+        [1, 4].into_iter().for_each(|z| book.hold(0, z, 1, 64));
+        [2, 3, 5].into_iter().for_each(|z| book.candidate(0, z));
+        for _ in 1_020..messages {
+            book.preview(timer(0, 0), LENGTH, 11);
+            book.play(timer(0, 0), 11);
+            book.play(lose(0), 0);
+        }
+        book.preview(timer(0, 0), LENGTH, 0);
+        book.invite_and_ask(&[2, 3], &[1, 4]);
+        book.play(timer(0, 0), 11);
     }
 }

@@ -49,7 +49,7 @@ fn acceptable() -> [u32; 8] {
 
 /// These, all timers, and the delivery of every message.
 fn every_acceptable() -> impl Iterator<Item = u32> {
-    acceptable().into_iter().chain((1..=4).map(|k| timer(0, k))).chain((1..=8).map(deliver)).chain([lose(0)])
+    acceptable().into_iter().chain((2..=4).map(|k| timer(0, k))).chain((1..=8).map(deliver)).chain([lose(0)])
 }
 
 /// Events that the ring of five refuses, by 7, 8 and 9.
@@ -102,7 +102,7 @@ fn wrong_length(book: &mut Book) {
         book.set_word(0, word);
         for (lent, length) in LENGTHS {
             book.lend(lent);
-            let refused = [0, u32::MAX, contact(1, 1), on(5), off(4), on(0)];
+            let refused = [0, u32::MAX, timer(0, 1), contact(1, 1), on(5), off(4), on(0)];
             acceptable().into_iter().chain(refused).for_each(|word| book.preview(word, length, 1));
             book.lend(LENGTH);
         }
@@ -121,7 +121,9 @@ fn not_events(book: &mut Book) {
         }
         each(book, (0..9).map(|kind| kind << 28), 4);
         each(book, unnamed_bits().step_by(5), 4);
-        each(book, [timer(0, 5), contact(0, 0) | 1 << 12, on(5) | 1 << 6], 4);
+        // At a node that runs, one that is off, and two that aren't there.
+        each(book, [0, 4, 5, 63].into_iter().flat_map(|x| NO_TIMERS.map(|k| timer(x, k))), 4);
+        each(book, [contact(0, 0) | 1 << 12, on(5) | 1 << 6], 4);
         each(book, [0, 4, 5, 63].into_iter().flat_map(|x| [contact(x, x), notice(x, x)]), 5);
     }
 }
@@ -153,7 +155,8 @@ fn spent_clock(book: &mut Book) {
     old_words(book, 103);
     (0..5).for_each(|x| book.set_clock(x, CLOCK_LIMIT));
     each(book, [on(4), notice(0, 1), contact(0, 1), deliver(0)], 10);
-    each(book, (0..=4).map(|k| timer(0, k)), 10);
+    each(book, TIMERS.map(|k| timer(0, k)), 10);
+    book.preview(timer(0, 1), LENGTH, 4);
     refused().for_each(|(word, answer)| book.preview(word, LENGTH, answer));
     each(book, [off(0), leave(0), deliver(8), lose(0)], 0);
 }
@@ -164,6 +167,7 @@ fn full_pool(book: &mut Book) {
     old_words(book, 104);
     book.hold(0, 1, 1, 64);
     each(book, [contact(0, 1), timer(0, 0), leave(0)], 11);
+    book.preview(timer(0, 1), LENGTH, 4);
     each(book, [off(0), notice(0, 1), timer(1, 0), deliver(0), lose(1_023)], 0);
     book.open(1, &[5], 0);
     book.preview(on(1), LENGTH, 7);

@@ -38,7 +38,9 @@ fn wrong_length(book: &mut Book) {
     for length in [0, 1, LENGTH - 1, LENGTH + 1] {
         book.lend(length);
         acceptable().into_iter().for_each(|word| book.play(word, 1));
-        [0, u32::MAX, contact(1, 1), on(3), off(2), on(0), deliver(9)].into_iter().for_each(|word| book.play(word, 1));
+        [0, u32::MAX, timer(0, 1), contact(1, 1), on(3), off(2), on(0), deliver(9)]
+            .into_iter()
+            .for_each(|word| book.play(word, 1));
         [0, 2, 3, 255].into_iter().for_each(|x| {
             book.leafset(x, 1);
             book.connected(x, 0, 1);
@@ -58,9 +60,12 @@ fn not_events(book: &mut Book) {
         }
         (0..9).for_each(|kind| book.play(kind << 28, 4));
         unnamed_bits().for_each(|word| book.play(word, 4));
-        (5..=7).for_each(|k| book.play(timer(0, k), 4));
-        // An unnamed bit beside a node with itself, a node that isn't there, and one that runs.
-        [contact(0, 0) | 1 << 12, notice(3, 3) | 1 << 27, timer(3, 7), on(0) | 1 << 6, lose(1_023) | 1 << 10]
+        // At a node that runs, one that is off, and two that aren't there.
+        for x in [0, 2, 3, 63] {
+            NO_TIMERS.into_iter().for_each(|k| book.play(timer(x, k), 4));
+        }
+        // An unnamed bit beside a node with itself, and one that runs.
+        [contact(0, 0) | 1 << 12, notice(3, 3) | 1 << 27, on(0) | 1 << 6, lose(1_023) | 1 << 10]
             .into_iter()
             .for_each(|word| book.play(word, 4));
         [0, 2, 3, 63].into_iter().for_each(|x| {
@@ -83,7 +88,7 @@ fn out_of_table(book: &mut Book) {
         for word in [on(x), off(x), leave(x), notice(x, 0), notice(0, x), contact(x, 0), contact(0, x)] {
             book.play(word, 7);
         }
-        (0..=4).for_each(|k| book.play(timer(x, k), 7));
+        TIMERS.into_iter().for_each(|k| book.play(timer(x, k), 7));
         // The other node is off.
         [notice(2, x), contact(2, x), notice(x, 2), contact(x, 2)].into_iter().for_each(|word| book.play(word, 7));
     }
@@ -107,7 +112,7 @@ fn switched_off(book: &mut Book) {
     for word in [off(2), leave(2), notice(2, 0), contact(2, 0)] {
         book.play(word, 8);
     }
-    (0..=4).for_each(|k| book.play(timer(2, k), 8));
+    TIMERS.into_iter().for_each(|k| book.play(timer(2, k), 8));
     book.leafset(2, 8);
     book.connected(2, 0, 8);
     book.connected(0, 2, 8);
@@ -129,11 +134,13 @@ fn running(book: &mut Book) {
 /// 10, for each event that has the clock rise, and not for the others; 7 and 8 before it.
 fn spent_clock(book: &mut Book) {
     three(book);
+    book.candidate(0, 2);
     (0..3).for_each(|x| book.set_clock(x, CLOCK_LIMIT));
     for word in [on(2), notice(0, 1), notice(0, 2), contact(0, 1), deliver(0)] {
         book.play(word, 10);
     }
-    (0..=4).for_each(|k| book.play(timer(0, k), 10));
+    TIMERS.into_iter().for_each(|k| book.play(timer(0, k), 10));
+    book.play(timer(0, 1), 4);
     [on(3), notice(0, 3), contact(0, 3), deliver(2)].into_iter().for_each(|word| book.play(word, 7));
     [notice(2, 0), contact(2, 0), timer(2, 0), off(2)].into_iter().for_each(|word| book.play(word, 8));
     book.leafset(0, 0);
@@ -147,5 +154,12 @@ fn spent_clock(book: &mut Book) {
     for word in [on(2), deliver(0), timer(1, 4)] {
         book.play(word, 0);
     }
-    [timer(0, 0), timer(1, 4), timer(2, 1)].into_iter().for_each(|word| book.play(word, 10));
+    [timer(0, 0), timer(1, 4), timer(2, 0)].into_iter().for_each(|word| book.play(word, 10));
+    // Timer 0 needs one step for its two parts.
+    three(book);
+    book.candidate(0, 2);
+    book.set_clock(0, CLOCK_LIMIT - 1);
+    book.invite_and_ask(&[2], &[1]);
+    book.candidate(0, 2);
+    book.play(timer(0, 0), 10);
 }

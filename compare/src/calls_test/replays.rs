@@ -56,6 +56,7 @@ fn every_answer(book: &mut Book) {
         deliver(0),
         deliver(0),
         timer(0, 0),
+        timer(0, 1),
         timer(0, 5),
         off(2),
         lose(0),

@@ -87,7 +87,7 @@ fn switching(book: &mut Book) {
     // One node.
     book.open(4, &[16_777_215], 0);
     book.play(on(0), 0);
-    (0..=4).for_each(|k| book.play(timer(0, k), 0));
+    TIMERS.into_iter().for_each(|k| book.play(timer(0, k), 0));
     book.play(off(0), 0);
 }
 
@@ -139,7 +139,7 @@ fn contact_and_notice(book: &mut Book) {
     receive(book, Message::new(4, 1, 0).seeing(&[4]));
 }
 
-/// Timer 0, and types 3 and 4.
+/// Timer 0 without candidates, and types 3 and 4.
 fn views(book: &mut Book) {
     six(book);
     book.play(timer(0, 0), 0);
@@ -157,14 +157,22 @@ fn views(book: &mut Book) {
     }
 }
 
-/// Timer 1, and types 5 and 6.
+/// Timer 0 with candidates, and types 5 and 6.
 fn invitations(book: &mut Book) {
-    for (held, candidates) in
-        [(&[][..], &[][..]), (&[], &[5]), (&[2], &[3, 5]), (&[2, 3], &[1, 3, 5]), (&[1, 4], &[2, 3, 5]), (&[3], &[3])]
-    {
+    for (held, candidates, invited) in [
+        (&[][..], &[][..], &[][..]),
+        (&[], &[5], &[5]),
+        (&[2], &[3, 5], &[3]),
+        (&[2, 3], &[1, 3, 5], &[]),
+        (&[1, 4], &[2, 3, 5], &[2, 3]),
+        (&[3], &[3], &[]),
+        (&[1, 2], &[1, 3], &[3]),
+        (&[4, 5], &[1, 2, 3, 4, 5], &[2, 3]),
+    ] {
         six_holding(book, held);
         candidates.iter().for_each(|&z| book.candidate(0, z));
-        book.play(timer(0, 1), 0);
+        book.invite_and_ask(invited, held);
+        book.invite_and_ask(&[], held);
     }
     six(book);
     receive(book, Message::new(5, 1, 0));
@@ -341,9 +349,10 @@ fn many(book: &mut Book) {
     [0, 23, 24, 47, 48, 63].into_iter().for_each(|sender| receive_last(book, Message::new(3, sender, 40)));
     receive_last(book, Message::new(4, 40, 63).seeing(&[0, 23, 24, 47, 48, 62]));
     receive_last(book, Message::new(4, 63, 0).seeing(&[1, 22, 25, 46, 49, 63]));
+    [2, 23, 24, 47, 50, 62].into_iter().for_each(|z| book.hold(0, z, 1, 64));
+    book.invite_and_ask(&[1, 22, 25, 46, 49, 63], &[2, 23, 24, 47, 50, 62]);
     (0..6).for_each(|_| book.play(deliver(0), 0));
-    (0..3).for_each(|k| book.play(timer(40, k), 0));
-    book.play(timer(63, 1), 0);
+    [timer(40, 0), timer(40, 2), timer(63, 0)].into_iter().for_each(|word| book.play(word, 0));
     [63, 0, 23, 24, 47].into_iter().for_each(|position| book.play(deliver(position), 0));
     book.connected(0, 63, 0);
     book.groups(0);

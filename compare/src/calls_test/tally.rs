@@ -1,5 +1,6 @@
 //! What the cases reach.
 
+use super::events::TIMERS;
 use super::machine::Command;
 use std::collections::BTreeMap;
 use std::fmt;
@@ -78,7 +79,7 @@ impl Tally {
             && self.replayed.keys().copied().eq(REPLAYED)
             && self.listed.keys().copied().eq(LISTED)
             && self.delivered.keys().copied().eq(1..=13)
-            && self.timers.keys().copied().eq(0..=4)
+            && self.timers.keys().copied().eq(TIMERS)
     }
 }
 

@@ -28,7 +28,7 @@ impl Event {
             10 => (Event::Off(x, word >> 12 & 1 == 1), 0x103F),
             11 => (Event::Notice(x, y), 0xFFF),
             12 => (Event::Contact(x, y), 0xFFF),
-            13 if timer <= 4 => (Event::Timer(x, timer), 0x703F),
+            13 if matches!(timer, 0 | 2..=4) => (Event::Timer(x, timer), 0x703F),
             14 => (Event::Deliver(position), 0x3FF),
             15 => (Event::Lose(position), 0x3FF),
             _ => return Err(4),
@@ -103,7 +103,7 @@ impl Place<'_> {
         self.running(x)?;
         let told = if polite { self.held(x) } else { 0 };
         self.room_for(told.count_ones())?;
-        members(told).for_each(|y| self.send(Message::new(13, x, y), 0));
+        self.send_each(x, 13, told);
         self.switch_off(x);
         Ok(())
     }
@@ -140,9 +140,8 @@ impl Place<'_> {
         self.running(x)?;
         self.clock_can_rise(x)?;
         match timer {
-            0 => self.send_each(x, 3, self.held(x)),
-            1 => self.invite(x),
-            2 => self.send_each(x, 7, self.outside(x)),
+            0 => self.invite_and_ask(x),
+            2 => self.ask_outside(x),
             3 => self.replace(x),
             _ => self.deloopy(x),
         }
@@ -154,21 +153,28 @@ impl Place<'_> {
         held & !self.table().leafset(x, held)
     }
 
-    fn send_each(&mut self, x: usize, kind: u32, to: u64) -> Result<(), u32> {
-        self.room_for(to.count_ones())?;
+    fn send_each(&mut self, x: usize, kind: u32, to: u64) {
+        members(to).for_each(|y| self.send(Message::new(kind, x, y), 0));
+    }
+
+    /// Timer 0: "the inviting first, then the asking, with a single step of the clock".
+    fn invite_and_ask(&mut self, x: usize) -> Result<(), u32> {
+        let (held, candidates) = (self.held(x), self.candidates(x));
+        let invited = candidates & !held & self.table().leafset(x, candidates | held);
+        self.room_for(invited.count_ones() + held.count_ones())?;
         self.tick(x);
-        for y in members(to) {
-            self.send(Message::new(kind, x, y), 0);
-        }
+        self.send_each(x, 5, invited);
+        self.send_each(x, 3, held);
+        self.empty_candidates(x);
         Ok(())
     }
 
-    /// Timer 1.
-    fn invite(&mut self, x: usize) -> Result<(), u32> {
-        let (held, candidates) = (self.held(x), self.candidates(x));
-        let near = self.table().leafset(x, candidates | held);
-        self.send_each(x, 5, candidates & !held & near)?;
-        self.empty_candidates(x);
+    /// Timer 2.
+    fn ask_outside(&mut self, x: usize) -> Result<(), u32> {
+        let outside = self.outside(x);
+        self.room_for(outside.count_ones())?;
+        self.tick(x);
+        self.send_each(x, 7, outside);
         Ok(())
     }
 

@@ -15,7 +15,7 @@ use event_act::decision::Taken;
 use model::values::NodeNumber;
 use records::effect::EffectRecord;
 
-// Timer k at node x. Above 4 no timer has a step: only the clock rises.
+// Timer k at node x. 1 and above 4 no timer has a step: only the clock rises.
 pub fn timer(words: &[u32], x: NodeNumber, k: u8) -> Decision
     requires ring { ⌜ readsAsRing (now words) ≡ true ⌝ }
     ensures decides { λ r. ⌜ Decides (now (words .entry)) (Timer x k) r ⌝ }

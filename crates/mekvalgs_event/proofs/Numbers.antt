@@ -11,7 +11,7 @@ use borrow.Author.Tests.{ltb-true, leb-true}
 use Rattle.model.specs.Choice.{if_then_else_}
 use Rattle.model.specs.Words.{between}
 use Rattle.model.specs.Answers.{firstOf, isAccepted, numberOf}
-use Rattle.model.specs.Events.{ReadWord, eventOf, partsFit, eventAnswer, writeEvent, wordAnswer, readEvent, readingOf}
+use Rattle.model.specs.Events.{ReadWord, eventOf, isTimer, partsFit, eventAnswer, writeEvent, wordAnswer, readEvent, readingOf}
 use Rattle.model.specs.declared.answer.Answer.{Answer}
 use Rattle.model.specs.declared.event.Event.{Event}
 use Rattle.model.specs.declared.event.Reading.the-variants.{Read, Refused}
@@ -45,7 +45,7 @@ module _ (k first second : ℕ) where
   unfolding partsAre eventOfParts
   of-nodes l h = either (λ k. partsAre (record { kind = k; first = first; second = second }) ≡ (ltb first 64 && ltb second 64)) 11 k l h refl refl
 
-  pub of-timer : k ≡ 13 → partsAre p ≡ (ltb first 64 && leb second 4)
+  pub of-timer : k ≡ 13 → partsAre p ≡ (ltb first 64 && isTimer second)
   unfolding partsAre eventOfParts
   of-timer e = rw e
 
@@ -83,7 +83,7 @@ module _ (k first second : ℕ) where
           ]
           | no l ↦ elim (decLt k 13) [
             | yes m ↦ ltb-true first 64 (and-left (ltb first 64) (ltb second 64) (sym (of-nodes (omega arith) (omega arith)) ∙ t))
-            | no m ↦ ltb-true first 64 (and-left (ltb first 64) (leb second 4) (sym (of-timer (omega arith)) ∙ t))
+            | no m ↦ ltb-true first 64 (and-left (ltb first 64) (isTimer second) (sym (of-timer (omega arith)) ∙ t))
           ]
         ]
 
@@ -91,7 +91,7 @@ module _ (k first second : ℕ) where
     other-low l h = ltb-true second 64 (and-right (ltb first 64) (ltb second 64) (sym (of-nodes l h) ∙ t))
 
     pub timer-low : k ≡ 13 → second ≤ 4
-    timer-low e = leb-true second 4 (and-right (ltb first 64) (leb second 4) (sym (of-timer e) ∙ t))
+    timer-low e = leb-true second 4 (and-left (leb second 4) _ (and-right (ltb first 64) (isTimer second) (sym (of-timer e) ∙ t)))
 
     pub position-low : 14 ≤ k → first < 1024
     position-low l = ltb-true first 1024 (and-right (eqb second 0) (ltb first 1024) (sym (of-position l kind-high) ∙ t))

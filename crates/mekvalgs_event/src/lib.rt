@@ -93,7 +93,7 @@ fn fit(p: Parts) -> bool
         EventWord::ON => (p.second == 0) & (p.first < 64),
         EventWord::OFF => (p.second <= 1) & (p.first < 64),
         EventWord::NOTICE | EventWord::CONTACT => (p.first < 64) & (p.second < 64),
-        EventWord::TIMER => (p.first < 64) & (p.second <= 4),
+        EventWord::TIMER => (p.first < 64) & EventWord::is_timer(p.second),
         EventWord::DELIVER | EventWord::LOSE => (p.second == 0) & (p.first < EventWord::POSITIONS),
         _ => false,
     }

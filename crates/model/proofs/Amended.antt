@@ -2,22 +2,25 @@
 use mathlib.Core.Path.{_≡_, refl}
 use mathlib.Core.Bool.{Bool, true, false, not}
 use mathlib.Core.List.{List, [], _∷_, map}
-use Prim.Native.Nat.{ℕ}
+use Prim.Native.Nat.{ℕ, _*_, _^_}
 use lib.Dec.{eqb}
 use lib.ListN.{getD, take}
 use Rattle.model.specs.Choice.{if_then_else_}
+use Rattle.model.specs.Fields.{ofKind}
 use Rattle.model.specs.Sets.{noneNode, ofBits, count, some, members, tabulateFrom}
 use Rattle.model.specs.Leafset.{Table, leafset, nearest}
 use Rattle.model.specs.Ring.{Own, Ring, cleared, initial, isRunning}
 use Rattle.model.specs.Types.{pongAskInv, leave, usedByType}
 use Rattle.model.specs.Words.{headWord, sidesOf}
-use Rattle.model.specs.Steps.{plain, viewing, hold, release, forget, leaving, contact, notice, onPingContact, onPongContact, onPongAskInv, onLeave, deliver}
+use Rattle.model.specs.Steps.{plain, viewing, hold, release, forget, leaving, contact, notice, timer0, timer, onPingContact, onPongContact, onPongAskInv, onLeave, deliver}
 use Rattle.model.specs.Answers.{firstOf}
-use Rattle.model.specs.Events.{wordOf, eventOf, wordAnswer, readEvent}
+use Rattle.model.specs.Events.{wordOf, eventOf, eventAnswer, wordAnswer, readEvent}
 use Rattle.model.specs.Play.{removeMessage, act, after, playAnswer, playWord, playAll}
 use Rattle.model.specs.Connection.{reached, connected}
 use Rattle.model.specs.Route.{nextOf, goesOn, routeWithin, route}
-use Rattle.model.specs.declared.event.Event.the-variants.{Off}
+use Rattle.model.specs.declared.event.Event.{Event}
+use Rattle.model.specs.declared.event.Event.the-variants.{Off, Timer}
+use Rattle.model.specs.declared.values.NodeNumber.{NodeNumber}
 
 -- ---- "Ghosts in the candidate list"
 
@@ -58,20 +61,23 @@ uneven a b = members 6 (leafset six 0 (ofBits 0b111110))
 pub left-by : ℕ → ℕ → List (List ℕ)
 left-by S a = known (deliver five 0 9 (knowing S) (plain leave a 0) .own)
 
--- node 0 runs with clock 8, nodes 1 and 2 are off; then node 0 goes off, politely or not
-unfoldable gone : Bool → Ring
-gone polite = after r (Off (record { 0 = 0 }) polite)
+-- node 0 runs with clock 8 and candidates 3 and 4, all others are off; then node 0 has an event
+unfoldable having : Event → Ring
+having e = after r e
   where
     r : Ring
     r = record { table = five; node = λ x. if eqb x 0 then record { running = true; clock = 8; own = knowing 0b11000 } else record { running = false; clock = 0; own = cleared }; messages = [] }
 
 -- of each message its type, its ends and its subject
-pub sent : Bool → List (List ℕ)
-sent polite = map (λ m. m .type ∷ m .sender ∷ m .receiver ∷ m .subject ∷ []) (gone polite .messages)
+pub sent : Event → List (List ℕ)
+sent e = map (λ m. m .type ∷ m .sender ∷ m .receiver ∷ m .subject ∷ []) (having e .messages)
 
--- its clock, and what it knows then
-pub kept : Bool → List (List ℕ)
-kept polite = (gone polite .node 0 .clock ∷ []) ∷ known (gone polite .node 0 .own)
+-- the clock of node 0, and what it knows then
+pub kept : Event → List (List ℕ)
+kept e = (having e .node 0 .clock ∷ []) ∷ known (having e .node 0 .own)
+
+abbrev node0 : NodeNumber
+node0 = record { 0 = 0 }
 
 -- a late type 13: nodes 0 and 1 hold each other; 1 leaves politely, 0 hears of it, 1 comes back and 0 holds it again; then the type 13 arrives.
 -- The ring after so many of the words
@@ -125,14 +131,21 @@ pub record Amended : Type 0 where
   pub leave-candidate : left-by 0b11000 3 ≡ (1 ∷ 2 ∷ []) ∷ (4 ∷ []) ∷ []
   pub leave-neither : left-by 0b01000 4 ≡ (1 ∷ 2 ∷ []) ∷ (3 ∷ []) ∷ []
   -- "first sends type 13 to each held stand, rising, and then acts as off": also to those that are off, and the clock stays
-  pub polite-sends : sent true ≡ (13 ∷ 0 ∷ 1 ∷ 64 ∷ []) ∷ (13 ∷ 0 ∷ 2 ∷ 64 ∷ []) ∷ []
-  pub plain-sends : sent false ≡ []
-  pub polite-keeps : kept true ≡ (8 ∷ []) ∷ [] ∷ [] ∷ []
+  pub polite-sends : sent (Off node0 true) ≡ (13 ∷ 0 ∷ 1 ∷ 64 ∷ []) ∷ (13 ∷ 0 ∷ 2 ∷ 64 ∷ []) ∷ []
+  pub plain-sends : sent (Off node0 false) ≡ []
+  pub polite-keeps : kept (Off node0 true) ≡ (8 ∷ []) ∷ [] ∷ [] ∷ []
   -- "An off event with bit 12 set"; no other bit above the node's is named
   pub polite-word : wordOf (Off (record { 0 = 2 }) true) ≡ 0xA0001002
   pub polite-reads : readEvent 0xA0001002 .event ≡ Off (record { 0 = 2 }) true ∷ []
   pub unnamed-below : wordAnswer 0xA0001040 ≡ 4
   pub unnamed-above : wordAnswer 0xA0002000 ≡ 4
+  -- "Timer 0 now does the inviting first, then the asking": 3 is no neighbour and not invited; "with a single step of the clock", and
+  -- no candidate is left
+  pub timer-0-sends : sent (Timer node0 0) ≡ (5 ∷ 0 ∷ 4 ∷ 64 ∷ []) ∷ (3 ∷ 0 ∷ 1 ∷ 64 ∷ []) ∷ (3 ∷ 0 ∷ 2 ∷ 64 ∷ []) ∷ []
+  pub timer-0-keeps : kept (Timer node0 0) ≡ (9 ∷ []) ∷ (1 ∷ 2 ∷ []) ∷ [] ∷ []
+  -- "Timer value 1 is refused with 4", when reading and when writing; the others keep their numbers
+  pub timers-read : map (λ k. wordAnswer (ofKind 13 (k * 2 ^ 12))) (0 ∷ 1 ∷ 2 ∷ 3 ∷ 4 ∷ 5 ∷ []) ≡ 0 ∷ 4 ∷ 0 ∷ 0 ∷ 0 ∷ 4 ∷ []
+  pub timers-written : map (λ k. eventAnswer (Timer node0 k)) (0 ∷ 1 ∷ 2 ∷ 3 ∷ 4 ∷ 5 ∷ []) ≡ 0 ∷ 4 ∷ 0 ∷ 0 ∷ 0 ∷ 4 ∷ []
   -- "Unbroken connection further needs that .. no type 13 from a running stand is travelling": after 14 words one is, and no type 10; the
   -- last word delivers it, and parts two running nodes
   pub late-leave-before : at-point 14 ≡ (13 ∷ []) ∷ (0 ∷ 1 ∷ []) ∷ (0 ∷ 1 ∷ []) ∷ []
@@ -149,7 +162,7 @@ pub record Amended : Type 0 where
   pub route-stays : routed 0 (0b00010 ∷ []) 14 ≡ 0 ∷ []
 
 pub amended : Amended
-unfolding count members five knowing told known noticed brought-back uneven left-by gone sent kept release forget leaving notice onPongAskInv onLeave deliver after eventOf wordAnswer readEvent firstOf leafset headWord some nearest nextOf goesOn routeWithin route routed late at-point initial usedByType hold contact onPingContact onPongContact removeMessage act playAnswer playWord playAll tabulateFrom reached connected
+unfolding count members five knowing told known noticed brought-back uneven left-by having sent kept release forget leaving notice timer0 timer onPongAskInv onLeave deliver after eventOf eventAnswer wordAnswer readEvent firstOf leafset headWord some nearest nextOf goesOn routeWithin route routed late at-point initial usedByType hold contact onPingContact onPongContact removeMessage act playAnswer playWord playAll tabulateFrom reached connected
 amended =
     record {
       notice-candidate = refl;
@@ -173,6 +186,10 @@ amended =
       polite-reads = refl;
       unnamed-below = refl;
       unnamed-above = refl;
+      timer-0-sends = refl;
+      timer-0-keeps = refl;
+      timers-read = refl;
+      timers-written = refl;
       late-leave-before = refl;
       late-leave-after = refl;
       route-hops = refl;

@@ -15,7 +15,7 @@ use Rattle.model.specs.Leafset.{Table, size, leafset, passesZero}
 use Rattle.model.specs.Ring.{Ring, Own, Node, Message, blank, isRunning, holds, messageAt, initial}
 use Rattle.model.specs.WellFormed.{Spare, none, spare, WellFormedMessage, WellFormed, Each, nil, cons}
 use Rattle.model.specs.Types.{pingReplace, pongReplace, leave}
-use Rattle.model.specs.Steps.{Effect, stamped, plain, setCandidates, setCommit, hold, release, forget, invited, outside, leaving, contact, notice, timer0, timer1, timer2, timer3, timer4, timer, onPingContact, onPongContact, onPingAskInv, onPongAskInv, onPingInvite, onPongInvite, onPingAskRepl, onPongAskRepl, onPingReplace, onPongReplace, onPingDeloopy, onPongDeloopy, onLeave, deliver}
+use Rattle.model.specs.Steps.{Effect, stamped, plain, setCandidates, setCommit, hold, release, forget, invited, invitations, questions, outside, leaving, contact, notice, timer0, timer2, timer3, timer4, timer, onPingContact, onPongContact, onPingAskInv, onPongAskInv, onPingInvite, onPongInvite, onPingAskRepl, onPongAskRepl, onPingReplace, onPongReplace, onPingDeloopy, onPongDeloopy, onLeave, deliver}
 use Rattle.model.specs.Play.{setNode, setMessages, sendLeave, stopped, removeMessage, act, after}
 use Rattle.model.specs.ConnectivityPreserved.{LeaversOff, Harmless}
 use Rattle.model.specs.declared.event.Event.{Event}
@@ -218,8 +218,11 @@ module _ (r : Ring) (x : ℕ) where
   calm-one : (S : Set) (m : Message) → Plain m → Law (record { own = setCandidates S own; sent = m ∷ [] })
   calm-one S m p = calm S (m ∷ []) (λ a h. rw (List·Memᴰ·eq-of-singleton h) p)
 
+  plain-each : (make : ℕ → Message) (to : List ℕ) → ((y : ℕ) → Plain (make y)) → (m : Message) → List·Memᴰ m (map make to) → Plain m
+  plain-each make to p m h = let q = map-out make to m h in rw (q .1) (p (q .0))
+
   calm-many : (S : Set) (make : ℕ → Message) (to : List ℕ) → ((y : ℕ) → Plain (make y)) → Law (record { own = setCandidates S own; sent = map make to })
-  calm-many S make to p = calm S (map make to) (λ m h. let q = map-out make to m h in rw (q .1) (p (q .0)))
+  calm-many S make to p = calm S (map make to) (plain-each make to p)
 
   nothing : Law (record { own = own; sent = [] })
   nothing = calm-none (own .candidates)
@@ -292,11 +295,12 @@ module _ (r : Ring) (x : ℕ) where
 
   law-timer0 : Law (timer0 t x now own)
   unfolding timer0
-  law-timer0 = calm-many _ (plain 3 x) (members (size t) (own .held)) (λ y. refl)
-
-  law-timer1 : Law (timer1 t x now own)
-  unfolding timer1
-  law-timer1 = calm-many _ (plain 5 x) (members (size t) (invited t x now own)) (λ y. refl)
+  law-timer0 =
+      calm _ (invitations t x now own ++ questions t x now own) (λ m h.
+      elim (List·Memᴰ·append-cases (invitations t x now own) h) [
+        | inl i ↦ plain-each (plain 5 x) (members (size t) (invited t x now own)) (λ y. refl) m i
+        | inr i ↦ plain-each (plain 3 x) (members (size t) (own .held)) (λ y. refl) m i
+      ])
 
   law-timer2 : Law (timer2 t x now own)
   unfolding timer2
@@ -329,7 +333,7 @@ module _ (r : Ring) (x : ℕ) where
   unfolding timer
   law-timer =
       listed-at (λ j e. Law e) (record { own = own; sent = [] }) (λ j. nothing)
-      (item law-timer0 (item law-timer1 (item law-timer2 (item law-timer3 (item law-timer4 end)))))
+      (item law-timer0 (item nothing (item law-timer2 (item law-timer3 (item law-timer4 end)))))
 
   -- ---- the delivery of m
 

@@ -13,10 +13,10 @@ use Rattle.model.specs.Leafset.{Table, size, leafset, closest, successor
 use Rattle.model.specs.Ring.{Own, Message, cleared}
 use Rattle.model.specs.Types.{Uses, nothingUsed, viewUsed, subjectUsed, spareUsed, subjectAndStampUsed, usedByType, usesOf, usesSubject, namesSpare, pingContact, pongContact, pingAskInv, pongAskInv, pingInvite, pongInvite, pingAskRepl, pongAskRepl, pingReplace, pongReplace, pingDeloopy, pongDeloopy, leave}
 use Rattle.model.specs.Words.{isType}
-use Rattle.model.specs.Steps.{Effect, stamped, naming, plain, viewing, setCandidates, setCommit, setSpare, addCandidates, addCandidate, hold, release, forget, leaving, contact, notice, timer0, timer1, timer2, timer3, timer4, timer, onPingContact, onPongContact, onPingAskInv, onPongAskInv, onPingInvite, onPongInvite, onPingAskRepl, onPongAskRepl, onPingReplace, onPongReplace, onPingDeloopy, onPongDeloopy, onLeave, deliver}
+use Rattle.model.specs.Steps.{Effect, stamped, naming, plain, viewing, setCandidates, setCommit, setSpare, addCandidates, addCandidate, hold, release, forget, leaving, contact, notice, timer0, timer2, timer3, timer4, timer, onPingContact, onPongContact, onPingAskInv, onPongAskInv, onPingInvite, onPongInvite, onPingAskRepl, onPongAskRepl, onPingReplace, onPongReplace, onPingDeloopy, onPongDeloopy, onLeave, deliver}
 use Rattle.model.proofs.Laws.{clash, and-left, and-right, and-in, or-right, or-case, or-none-left, or-none-right, not-in, not-out, not-out-false, is-false, if-law, put-law}
 use Rattle.model.specs.WellFormed.{WellFormedTable, Other, Spare, none, spare, WellFormedOwn, WellFormedMessage, Each, nil, cons}
-use Rattle.model.proofs.Lists.{each-map, item, end, listed-at}
+use Rattle.model.proofs.Lists.{each-append, each-map, item, end, listed-at}
 use Rattle.model.proofs.Choices.{members-are, leafset-within, leafset-other, closest-spare, successor-held}
 
 -- ---- own records
@@ -231,16 +231,14 @@ module _ (t : Table) (gt : WellFormedTable t) (now : ℕ) (positive : 0 < now) (
 
     timer0-well : WellFormedEffect (size t) me now (timer0 t me now o)
     unfolding timer0 usedByType
-    timer0-well = record { own-well = g; sent-well = held-sent (size t) me now o low g pingAskInv refl refl }
-
-    timer1-well : WellFormedEffect (size t) me now (timer1 t me now o)
-    unfolding timer1 usedByType
-    timer1-well =
+    timer0-well =
         record {
           own-well = candidates-well (size t) me now o g empty (λ z e. clash e refl);
-          sent-well = each-sent (size t) _ (λ y. plain pingInvite me y)
+          sent-well = each-append
+              (each-sent (size t) _ (λ y. plain pingInvite me y)
               (λ y e. plain-well (size t) pingInvite me y refl low
-              (g .candidate-other y (and-left (o .candidates y) (not (o .held y)) (and-left (o .candidates y && not (o .held y)) _ e))) refl);
+              (g .candidate-other y (and-left (o .candidates y) (not (o .held y)) (and-left (o .candidates y && not (o .held y)) _ e))) refl))
+              (held-sent (size t) me now o low g pingAskInv refl refl);
         }
 
     timer2-well : WellFormedEffect (size t) me now (timer2 t me now o)
@@ -288,7 +286,7 @@ module _ (t : Table) (gt : WellFormedTable t) (now : ℕ) (positive : 0 < now) (
     unfolding timer
     timer-well k =
         listed-at (λ i e. WellFormedEffect (size t) me now e) (record { own = o; sent = [] }) (λ i. nothing-well)
-        (item timer0-well (item timer1-well (item timer2-well (item timer3-well (item timer4-well end)))))
+        (item timer0-well (item nothing-well (item timer2-well (item timer3-well (item timer4-well end)))))
         k
 
   -- ---- deliveries: the message m, at its receiver

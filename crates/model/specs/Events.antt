@@ -38,13 +38,17 @@ eventOf w = getD (On x ∷ Off x (flag 12 w) ∷ Notice x other ∷ Contact x ot
     position : ℕ
     position = bits 0 10 w
 
--- each part of the event has room in its bits, and the timer is 0 to 4
+-- "Timer value 1 is refused with 4": the timers are 0, 2, 3 and 4
+abbrev pub isTimer : ℕ → Bool
+isTimer k = leb k 4 && not (eqb k 1)
+
+-- each part of the event has room in its bits, and the timer is one
 abbrev pub partsFit : Event → Bool
 partsFit (On x) = ltb (x .0) 64
 partsFit (Off x polite) = ltb (x .0) 64
 partsFit (Notice x z) = ltb (x .0) 64 && ltb (z .0) 64
 partsFit (Contact x y) = ltb (x .0) 64 && ltb (y .0) 64
-partsFit (Timer x k) = ltb (x .0) 64 && leb k 4
+partsFit (Timer x k) = ltb (x .0) 64 && isTimer k
 partsFit (Deliver i) = ltb i 1024
 partsFit (Lose i) = ltb i 1024
 

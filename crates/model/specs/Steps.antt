@@ -1,7 +1,7 @@
 -- The steps: what a timer, a contact, a notice or a delivered message does to the own record of the node `me`, and what it sends.
 use Prim.Native.Nat.{ℕ}
 use mathlib.Core.Bool.{not, _&&_, _||_}
-use mathlib.Core.List.{List, [], _∷_, map}
+use mathlib.Core.List.{List, [], _∷_, _++_, map}
 use lib.ListN.{getD}
 use lib.Dec.{ltb, eqb}
 use Rattle.model.specs.Choice.{if_then_else_}
@@ -93,17 +93,20 @@ module _ (t : Table) (me now : ℕ) (o : Own) where
   unfoldable pub leaving : Effect
   leaving = send (toEach (o .held) (λ y. plain leave me y))
 
-  -- "2. Timer 0: type 3 to each held stand."
-  unfoldable pub timer0 : Effect
-  timer0 = send (toEach (o .held) (λ y. plain pingAskInv me y))
-
   -- "type 5 to each candidate not held that is in my leafset of candidates and held together"
   abbrev pub invited : Set
   invited y = o .candidates y && not (o .held y) && leafset t me (union (o .candidates) (o .held)) y
 
-  -- "Timer 1: [type 5 to each of these]; then candidates are emptied."
-  unfoldable pub timer1 : Effect
-  timer1 = record { own = setCandidates empty o; sent = toEach invited (λ y. plain pingInvite me y) }
+  abbrev pub invitations : List Message
+  invitations = toEach invited (λ y. plain pingInvite me y)
+
+  -- "type 3 to each held stand"
+  abbrev pub questions : List Message
+  questions = toEach (o .held) (λ y. plain pingAskInv me y)
+
+  -- "2. Timer 0", as document 02's note 7 has it: it "does the inviting first, then the asking"; "then candidates are emptied"
+  unfoldable pub timer0 : Effect
+  timer0 = record { own = setCandidates empty o; sent = invitations ++ questions }
 
   -- "3. Timer 2: type 7 to each held stand outside my leafset of the held."
   unfoldable pub timer2 : Effect
@@ -117,8 +120,9 @@ module _ (t : Table) (me now : ℕ) (o : Own) where
   unfoldable pub timer4 : Effect
   timer4 = if passesZero t me (o .held) then send (naming pingDeloopy me (successor t me (o .held)) me ∷ []) else nothing
 
+  -- by number; 1 is no timer
   unfoldable pub timer : ℕ → Effect
-  timer k = getD (timer0 ∷ timer1 ∷ timer2 ∷ timer3 ∷ timer4 ∷ []) k nothing
+  timer k = getD (timer0 ∷ nothing ∷ timer2 ∷ timer3 ∷ timer4 ∷ []) k nothing
 
   -- what the delivery of the message m does, by its type
   module _ (m : Message) where

@@ -1,6 +1,6 @@
 // What a step leaves: the own record, and what is to be sent.
 ghost use mathlib.Core.Path.{_≡_};
-ghost use mathlib.Core.List.{List, [], _∷_};
+ghost use mathlib.Core.List.{List, [], _∷_, _++_};
 ghost use Prim.Native.Nat.{ℕ, _≤_};
 ghost use lib.ListN.{length};
 ghost use Rattle.model.specs.Ring.{Own, Message};
@@ -36,6 +36,14 @@ impl EffectRecord {
             first: Sends::Nothing,
             second: Sends::Nothing,
         }
+    }
+
+    pub fn sending_both(own: NodeRecord, first: Sends, second: Sends) -> EffectRecord
+        ensures effect { λ r. ⌜ ((n me time : ℕ) (o : Own) (ms ns : List Message) → Owns n own o
+            → Sent me time own first ms → Sent me time own second ns
+            → Leaves n me time r (record { own = o; sent = ms ++ ns })) ⌝ }
+    {
+        EffectRecord { own, first, second }
     }
 
     pub fn sending(own: NodeRecord, sends: Sends) -> EffectRecord

@@ -13,15 +13,14 @@ use model::values::Stamp;
 use records::effect::EffectRecord;
 use word_ring::MessageWord;
 
-// The step of timer k; above 4 no timer has one.
+// The step of timer k; 1 and above 4 no timer has one.
 pub fn timer(keys: &[u32], sides: Sides, me: NodeNumber, own: NodeRecord, k: u8) -> EffectRecord
     requires lent { ⌜ Lent (now keys) sides (me .0) own ⌝ }
     ensures effect { λ r. ⌜ ((time : ℕ) → Leaves (length (now (keys .entry))) (me .0) time r
         (steps.timer (tableOf sides (now (keys .entry))) (me .0) time (ownOf own) k)) ⌝ }
 {
     match k {
-        0 => step_invite::timer0(own),
-        1 => step_invite::timer1(keys, sides, me, own),
+        0 => step_invite::timer0(keys, sides, me, own),
         2 => step_spare::timer2(keys, sides, me, own),
         3 => step_replace::timer3(keys, sides, me, own),
         4 => step_deloopy::timer4(keys, me, own),

@@ -1,4 +1,4 @@
--- Whom timer 1 invites, and whether a node lies in the leafset of held plus that node, as the code asks it.
+-- Whom timer 0 invites, and whether a node lies in the leafset of held plus that node, as the code asks it.
 use mathlib.Core.Path.{_≡_, ap, ap₂, _∙_}
 use mathlib.Core.Bool.{not, _&&_}
 use mathlib.Core.List.{List}

@@ -1,7 +1,7 @@
-// Document 01's step 2: timers 0 and 1, and message types 3 to 6.
-ghost use Prim.Native.Nat.{ℕ, _≤_, _<_, _^_};
+// Document 01's step 2 with document 02's note 7: timer 0, and message types 3 to 6.
+ghost use Prim.Native.Nat.{ℕ, _<_, _^_};
 ghost use lib.ListN.{length};
-ghost use Rattle.model.specs.Leafset.{Table, size};
+ghost use Rattle.model.specs.Leafset.{Table};
 ghost use Rattle.model.specs.Structs.{tableOf, ownOf, messageOf};
 ghost use Rattle.model.specs.Steps as steps;
 ghost use Rattle.records.specs.Effects.{OwnFits, Leaves};
@@ -23,26 +23,19 @@ use records::own::hold;
 use records::own::set_candidates;
 use word_ring::MessageWord;
 
-// "type 3 to each held stand"
-pub fn timer0(own: NodeRecord) -> EffectRecord
-    ensures effect { λ r. ⌜ ((t : Table) (me time : ℕ) → size t ≤ 64 → OwnFits (size t) own
-        → Leaves (size t) me time r (steps.timer0 t me time (ownOf own))) ⌝ }
-{
-    EffectRecord::sending(own, Sends::Each(MessageWord::PING_ASK_INV, own.held))
-}
-
-// "type 5 to each candidate not held that is in my leafset of candidates and held together; then candidates are
-// emptied"
-pub fn timer1(keys: &[u32], sides: Sides, me: NodeNumber, own: NodeRecord) -> EffectRecord
+// "type 5 to each candidate not held that is in my leafset of candidates and held together", then "type 3 to each held
+// stand"; no candidate is left.
+pub fn timer0(keys: &[u32], sides: Sides, me: NodeNumber, own: NodeRecord) -> EffectRecord
     requires lent { ⌜ Lent (now keys) sides (me .0) own ⌝ }
     ensures effect { λ r. ⌜ ((time : ℕ) → Leaves (length (now (keys .entry))) (me .0) time r
-        (steps.timer1 (tableOf sides (now (keys .entry))) (me .0) time (ownOf own))) ⌝ }
+        (steps.timer0 (tableOf sides (now (keys .entry))) (me .0) time (ownOf own))) ⌝ }
 {
     let near = leafset(keys, sides, me, own.candidates | own.held);
-    let to = sets::minus(own.candidates, own.held) & near;
-    EffectRecord::sending(
+    let invited = sets::minus(own.candidates, own.held) & near;
+    EffectRecord::sending_both(
         set_candidates(own, 0),
-        Sends::Each(MessageWord::PING_INVITE, to),
+        Sends::Each(MessageWord::PING_INVITE, invited),
+        Sends::Each(MessageWord::PING_ASK_INV, own.held),
     )
 }
 

@@ -12,7 +12,7 @@ use word::EventWord;
 
 const POSITIONS: u16 = EventWord::POSITIONS as u16;
 
-// Whether each part has room in its bits, and the timer is 0 to 4.
+// Whether each part has room in its bits, and the timer is one.
 fn parts_fit(e: Event) -> bool
     ensures value { λ r. ⌜ r ≡ partsFit e ⌝ }
 {
@@ -21,7 +21,7 @@ fn parts_fit(e: Event) -> bool
         Event::Off(x, _) => x.0 < 64,
         Event::Notice(x, z) => (x.0 < 64) & (z.0 < 64),
         Event::Contact(x, y) => (x.0 < 64) & (y.0 < 64),
-        Event::Timer(x, k) => (x.0 < 64) & (k <= 4),
+        Event::Timer(x, k) => (x.0 < 64) & EventWord::is_timer(k as u32),
         Event::Deliver(i) => i < POSITIONS,
         Event::Lose(i) => i < POSITIONS,
     }

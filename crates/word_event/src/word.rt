@@ -2,7 +2,7 @@
 ghost use mathlib.Core.Path.{_≡_};
 ghost use Prim.Native.Nat.{_<_, _^_};
 ghost use Rattle.model.specs.Fields.{ofKind};
-ghost use Rattle.model.specs.Events.{wordOf, eventOf};
+ghost use Rattle.model.specs.Events.{wordOf, eventOf, isTimer};
 use model::event::Event;
 use model::values::NodeNumber;
 use word_ring::mark;
@@ -26,6 +26,13 @@ impl EventWord {
 
     // A message's position has ten bits.
     pub const POSITIONS: u32 = 0x400;
+
+    // The timers are 0, 2, 3 and 4.
+    pub fn is_timer(k: u32) -> bool
+        ensures value { λ r. ⌜ r ≡ isTimer k ⌝ }
+    {
+        (k <= 4) & (k != 1)
+    }
 
     // The word of kind `kind` whose other bits are `parts`.
     fn of_kind(kind: u32, parts: u32) -> EventWord

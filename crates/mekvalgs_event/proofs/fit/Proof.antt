@@ -1,6 +1,7 @@
 use mathlib.Core.Path.{sym}
 use mathlib.Core.Logic.{inl, inr}
 use native.Mathlib.Omega.{arith}
+use borrow.Author.Needs.{needs}
 use Rattle.mekvalgs_event.proofs.Numbers.{of-on, of-off, of-nodes, of-timer, of-position, of-none}
 use Rattle.mekvalgs_event.proofs.fit.Statement.{statement}
 use Rattle.mekvalgs_event.proofs.fit.Tie as tie
@@ -18,7 +19,7 @@ returns-2 c =
 returns-3 : tie.Need-returns-3
 returns-3 c =
     let p = c .before .before .before .args .p in
-    sym (of-timer (p .kind) (p .first) (p .second) (c .before .before .match .keys3))
+    rw (c .is-timer .ensures) (sym (of-timer (p .kind) (p .first) (p .second) (c .before .before .match .keys3)))
 
 returns-4 : tie.Need-returns-4
 returns-4 c =
@@ -42,4 +43,4 @@ returns-7 c =
     of-none (p .kind) (p .first) (p .second) (inr (omega arith))
 
 pub fit-spec : {M : Type 1} → statement M
-fit-spec = tie.close (tie.spec returns returns-2 returns-3 returns-4 returns-5 returns-6 returns-7)
+fit-spec = tie.close (tie.spec (λ c κs. search needs) returns returns-2 returns-3 returns-4 returns-5 returns-6 returns-7)

@@ -2,15 +2,32 @@ use mathlib.Core.Path.{refl}
 use lib.Dec.{lit<}
 use borrow.Author.Needs.{needs}
 use Rattle.model.specs.Steps as steps
-use Rattle.records.proofs.Changes.{unchanged}
+use Rattle.sets.proofs.Bits.{nobody, within-none}
 use Rattle.records.proofs.Calls.{calls}
+use Rattle.step_invite.proofs.Invited.{union-table, invited-set, invited-low}
 use Rattle.step_invite.proofs.timer0.Statement.{statement}
 use Rattle.step_invite.proofs.timer0.Tie as tie
 
+leafset-requires : tie.Need-leafset-requires
+leafset-requires c κs =
+    let start = c .before .before in
+    let a = start .args in
+    (union-table (a .sides) (start .pre .table) (a .own .candidates) (start .pre .own-fits .candidates-within), start .pre .sides-room)
+
 returns : tie.Need-returns
 unfolding steps.timer0
-returns c = λ t me time few fits.
-    c .sending .ensures _ me time _ _ (unchanged fits) (calls me time _ (c .before .args .own .held) _ few (fits .held-within) refl 3 (lit< tt))
+returns c =
+    let start = c .before .before .before .before .before .before in
+    let a = start .args in
+    let fits = start .pre .own-fits in
+    let few = start .pre .table .few in
+    let set = invited-set (a .sides) (start .pre .table) (a .own .candidates) (fits .candidates-within) _ _ (c .before .before .minus .ensures) (c .before .before .before .leafset .ensures) in
+    let low = invited-low (a .sides) (start .pre .table) (a .own .candidates) (fits .candidates-within) _ _ (c .before .before .minus .ensures) (c .before .before .before .leafset .ensures) in
+    λ time.
+    c .sending-both .ensures _ _ time _ _ _
+    (rw nobody at (c .before .set-candidates .ensures _ fits (within-none _)))
+    (calls (a .me .0) time _ _ _ few low set 5 (lit< tt))
+    (calls (a .me .0) time _ _ _ few (fits .held-within) refl 3 (lit< tt))
 
 pub timer0-spec : {M : Type 1} → statement M
-timer0-spec = tie.close (tie.spec (λ c κs. search needs) returns)
+timer0-spec = tie.close (tie.spec leafset-requires (λ c κs. search needs) (λ c κs. search needs) (λ c κs. search needs) returns)

@@ -17,7 +17,7 @@ returns-4 : tie.Need-returns-4
 returns-4 c = ap partsFit (sym (c .before .before .before .e4 .given .1))
 
 returns-5 : tie.Need-returns-5
-returns-5 c = ap partsFit (sym (c .before .before .e5 .given .1))
+returns-5 c = rw (c .is-timer .ensures) (ap partsFit (sym (c .before .before .before .e5 .given .1)))
 
 returns-6 : tie.Need-returns-6
 returns-6 c = ap partsFit (sym (c .before .e6 .given .1))
@@ -30,4 +30,4 @@ parts-fit-spec =
     tie.close
     (tie.spec
     (λ c. search needs) (λ c. search needs) (λ c. search needs) (λ c. search needs) (λ c. search needs)
-    (λ c. search needs) (λ c. search needs) returns returns-2 returns-3 returns-4 returns-5 returns-6 returns-7)
+    (λ c. search needs) (λ c κs. search needs) (λ c. search needs) (λ c. search needs) returns returns-2 returns-3 returns-4 returns-5 returns-6 returns-7)
