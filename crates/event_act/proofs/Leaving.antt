@@ -9,20 +9,23 @@ use Rattle.model.specs.Leafset.{size}
 use Rattle.model.specs.Ring.{Own, Node, Message, Ring}
 use Rattle.model.specs.Steps.{Effect}
 use Rattle.model.specs.Words.{decodeTable, decode, readsAsRing}
-use Rattle.model.specs.Play.{setMessages, act}
+use Rattle.model.specs.Answers.{firstOf}
+use Rattle.model.specs.Play.{setMessages, act, after, refusals}
 use Rattle.model.specs.Structs.{ownOf}
+use Rattle.model.specs.declared.event.Event.{Event}
 use Rattle.model.specs.declared.values.NodeNumber.{NodeNumber}
 use Rattle.model.proofs.Laws.{clash}
 use Rattle.records.specs.Effects.{Leaves}
 use Rattle.records.specs.declared.effect.EffectRecord.{EffectRecord}
 use Rattle.event_act.specs.Acting.{IsActor}
-use Rattle.event_act.specs.Changes.{takenLow, takenOut, nodeChanged, changed, Changes}
+use Rattle.event_act.specs.Changes.{takenLow, takenOut, nodeChanged, changed, Changes, Decided, Decides}
 use Rattle.event_act.specs.declared.Actor.{Actor}
 use Rattle.event_act.specs.declared.decision.Taken.{Taken}
 use Rattle.event_act.specs.declared.decision.Becomes.{Becomes}
 use Rattle.event_act.specs.declared.decision.Becomes.the-variants.{Stays, Starts, Stops, Acts}
 use Rattle.event_act.specs.declared.decision.Change.{Change}
-use Rattle.event_act.proofs.Decides.{acted-by}
+use Rattle.event_act.specs.declared.decision.Decision.{Decision}
+use Rattle.event_act.proofs.Decides.{acted-by, decides}
 use Rattle.event_act.proofs.Written.{taken-nodes, node-messages}
 
 abbrev pub starts : Becomes → Bool
@@ -56,15 +59,21 @@ module _ {ws : List ℕ} (reads : readsAsRing ws ≡ true) {x : NodeNumber} {a :
   abbrev acting : Change
   acting = record { taken = t; node = x; becomes = Acts; time = a .time; effect = r }
 
-  pub acting-fits : takenLow (length (decode ws .messages)) t → Changes ws acting
+  acting-fits : takenLow (length (decode ws .messages)) t → Changes ws acting
   acting-fits low = change-fits acting left reads low (omega (arith, is .nodes, is .member)) (is .time-room) (λ e. absurd (never-starts refl e))
 
-  pub acting-leaves : changed acting (decode ws) ≡ act (x .0) step (takenOut t (decode ws))
+  acting-leaves : changed acting (decode ws) ≡ act (x .0) step (takenOut t (decode ws))
   acting-leaves =
       let kept : takenOut t (decode ws) .node (x .0) ≡ decode ws .node (x .0) = ap (λ (f : ℕ → Node). f (x .0)) (taken-nodes t (decode ws)) in
       acted-by (takenOut t (decode ws)) (x .0) (a .time .0) r step
       (is .time ∙ ap (λ (s : Node). s .clock + 1) (sym kept))
       (left .effect ∙ ap (step (a .time .0)) (is .own ∙ ap (λ (s : Node). s .own) (sym kept)))
+
+  -- an event that is this act, where none of its refusals applies
+  pub acting-decides : (e : Event) → firstOf (refusals (decode ws) e) ≡ 0 → takenLow (length (decode ws .messages)) t
+      → act (x .0) step (takenOut t (decode ws)) ≡ after (decode ws) e
+      → (d : Decision) → Decided (decode ws) acting d → Decides ws e d
+  acting-decides e passed low same d decided = decides ws e passed acting (acting-fits low) (acting-leaves ∙ same) d decided
 
 -- a change that sends nothing
 module _ (c : Change) {n : ℕ} {o : Own} (left : Leaves n (c .node .0) (c .time .0) (c .effect) (record { own = o; sent = [] })) where

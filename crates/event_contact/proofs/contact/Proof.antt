@@ -10,8 +10,8 @@ use Rattle.model.specs.Play.{after}
 use Rattle.model.specs.declared.event.Event.the-variants.{Contact}
 use Rattle.answers.proofs.Answered.{refused, accepted}
 use Rattle.event_act.specs.declared.decision.Taken.the-variants.{Nothing}
-use Rattle.event_act.proofs.Decides.{refused-before, decides}
-use Rattle.event_act.proofs.Leaving.{acting-fits, acting-leaves}
+use Rattle.event_act.proofs.Decides.{refused-before}
+use Rattle.event_act.proofs.Leaving.{acting-decides}
 use Rattle.event_contact.proofs.Meets.{meets-acts, meets-low}
 use borrow.Author.Needs.{needs}
 use Rattle.event_contact.proofs.contact.Statement.{statement}
@@ -50,8 +50,8 @@ returns-2 c =
     let asked = c .before .before .before .before .before .may-meet in
     let left = c .before .contact .ensures t _ _ (is .fits) in
     let step : ℕ → Own → Effect = (λ now o. steps.contact t (a .x .0) now o (a .y .0)) in
-    decides ws (Contact (a .x) (a .y)) (accepted (asked .result) _ (asked .ensures) (c .before .before .before .before .is-refusal .ensures) (c .before .before .before .if1 .left)) _
-    (acting-fits (start .pre) is _ step left Nothing tt) (acting-leaves (start .pre) is _ step left Nothing) _
+    acting-decides (start .pre) is _ step left Nothing (Contact (a .x) (a .y))
+    (accepted (asked .result) _ (asked .ensures) (c .before .before .before .before .is-refusal .ensures) (c .before .before .before .if1 .left)) tt refl _
     (c .acting .ensures (decode ws) (sym (is .count)))
 
 pub contact-spec : {M : Type 1} → statement M

@@ -21,7 +21,7 @@ use Rattle.event_act.specs.declared.decision.Change.{Change}
 use Rattle.event_act.specs.declared.decision.Taken.the-variants.{Message}
 use Rattle.event_act.specs.declared.decision.Becomes.the-variants.{Stays}
 use Rattle.event_act.proofs.Decides.{refused-before, decides}
-use Rattle.event_act.proofs.Leaving.{acting-fits, acting-leaves, change-fits, silent-leaves, never-starts}
+use Rattle.event_act.proofs.Leaving.{acting-decides, change-fits, silent-leaves, never-starts}
 use Rattle.event_message.proofs.Delivery
 use borrow.Author.Tests.{not-true, not-false}
 use borrow.Author.Needs.{needs}
@@ -103,10 +103,9 @@ returns-4 c =
     let is = c .before .before .load2 .ensures in
     let left = c .before .step .ensures in
     let step : ℕ → Own → Effect = (λ now o. steps.deliver (decode ws .table) y now o (messageOf (message .result))) in
-    decides ws (Deliver k) (sym (Delivery.must-rise (message .ensures) low (start .pre) on) ∙ passed) _
-    (acting-fits (start .pre) is _ step left (Message k) low)
-    (acting-leaves (start .pre) is _ step left (Message k)
-    ∙ Delivery.delivered-on (decode ws) k (messageOf (message .result)) (Delivery.is-message (message .ensures) low) (ap (λ (s : Node). s .running) (read-node ws y) ∙ on))
+    acting-decides (start .pre) is _ step left (Message k) (Deliver k)
+    (sym (Delivery.must-rise (message .ensures) low (start .pre) on) ∙ passed) low
+    (Delivery.delivered-on (decode ws) k (messageOf (message .result)) (Delivery.is-message (message .ensures) low) (ap (λ (s : Node). s .running) (read-node ws y) ∙ on))
     _ (c .acting .ensures (decode ws) (sym messages))
 
 pub deliver-spec : {M : Type 1} → statement M

@@ -9,8 +9,8 @@ use Rattle.model.specs.Play.{after}
 use Rattle.model.specs.declared.event.Event.the-variants.{Timer}
 use Rattle.answers.proofs.Answered.{refused, accepted}
 use Rattle.event_act.specs.declared.decision.Taken.the-variants.{Nothing}
-use Rattle.event_act.proofs.Decides.{refused-before, decides}
-use Rattle.event_act.proofs.Leaving.{acting-fits, acting-leaves}
+use Rattle.event_act.proofs.Decides.{refused-before}
+use Rattle.event_act.proofs.Leaving.{acting-decides}
 use borrow.Author.Needs.{needs}
 use Rattle.event_timer.proofs.timer.Statement.{statement}
 use Rattle.event_timer.proofs.timer.Tie as tie
@@ -43,8 +43,8 @@ returns-2 c =
     let asked = c .before .before .before .before .before .may-act in
     let left = c .before .step .ensures in
     let step : ℕ → Own → Effect = (λ now o. steps.timer (decode ws .table) (a .x .0) now o (a .k)) in
-    decides ws (Timer (a .x) (a .k)) (accepted (asked .result) _ (asked .ensures) (c .before .before .before .before .is-refusal .ensures) (c .before .before .before .if1 .left)) _
-    (acting-fits (start .pre) is _ step left Nothing tt) (acting-leaves (start .pre) is _ step left Nothing) _
+    acting-decides (start .pre) is _ step left Nothing (Timer (a .x) (a .k))
+    (accepted (asked .result) _ (asked .ensures) (c .before .before .before .before .is-refusal .ensures) (c .before .before .before .if1 .left)) tt refl _
     (c .acting .ensures (decode ws) (sym (is .count)))
 
 pub timer-spec : {M : Type 1} → statement M
