@@ -3,6 +3,7 @@ pub mod Lists
 pub mod Bits
 pub mod Fields
 pub mod Answers
+pub mod Lowest
 pub mod Events
 pub mod Cases
 pub mod Types
@@ -22,7 +23,8 @@ pub mod ConnectivityPreserved
 pub mod LeafsetSize
 pub mod Questions
 pub mod ExampleRing
-pub mod Points
+pub mod Base
+pub mod PointsFit
 pub mod Amended
 pub mod Routes
 pub mod Previews

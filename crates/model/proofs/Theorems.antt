@@ -1,5 +1,5 @@
 -- The theorems about the definitions, by name. Each says its sentence; the argument is in the module that is cited.
-use mathlib.Core.Path.{_≡_, refl, sym, ap, _∙_}
+use mathlib.Core.Path.{_≡_, sym, ap, _∙_}
 use mathlib.Core.Logic.{_↔_, _⊎_}
 use Prim.Native.Nat.{ℕ, suc, _+_, _-_, _≤_, _<_}
 use mathlib.Core.Bool.{Bool, true, false, _&&_}
@@ -16,19 +16,16 @@ use Rattle.model.specs.Steps.{stepByType}
 use Rattle.model.specs.WellFormed.{WellFormedTable, WellFormed}
 use Rattle.model.specs.Words.{ringLength, encode, decode, readsAsRing}
 use Rattle.model.specs.Answers.{isAccepted}
-use Rattle.model.specs.Events.{wordOf, eventOf, eventRefusals, eventAnswer, writeEvent, wordRefusals, wordAnswer, readEvent, readingOf}
-use Rattle.model.specs.Play.{stateRefusals, playWord, playAll}
-use Rattle.model.specs.Buffer.{ringRefusals, openRefusals, openAnswer, openBuffer, playRefusals, bufferAnswer, playBuffer, playBufferAll}
-use Rattle.model.specs.Questions.{leafsetRefusals, leafsetAnswer, leafsetOf, connectionRefusals, connectionAnswer, groupsAnswer}
-use Rattle.model.specs.Route.{nextOf, goesOn, route, Converged, routeRefusals, routeAnswer, routeBuffer}
-use Rattle.model.specs.Preview.{previewRefusals, previewAnswer, previewBuffer, Call, Buffers, PreviewsChangeNothing}
-use Rattle.model.specs.Bench.{scriptRefusals, scriptAnswer}
+use Rattle.model.specs.Events.{wordOf, eventAnswer, writeEvent, readEvent, readingOf}
+use Rattle.model.specs.Play.{playWord, playAll}
+use Rattle.model.specs.Buffer.{openBuffer, playBuffer, playBufferAll}
+use Rattle.model.specs.Questions.{leafsetOf}
+use Rattle.model.specs.Route.{nextOf, goesOn, route, Converged, routeAnswer, routeBuffer}
+use Rattle.model.specs.Preview.{previewBuffer, Call, Buffers, PreviewsChangeNothing}
 use Rattle.model.specs.Connection.{Connected, connected, groups, CountsGroups}
 use Rattle.model.specs.ConnectivityPreserved.{Reached, opened, Unbroken, ConnectivityPreserved}
 use Rattle.model.specs.declared.event.Event.{Event}
-use Rattle.model.specs.declared.event.Event.the-variants.{On, Off, Notice, Contact, Timer, Deliver, Lose}
 use Rattle.model.specs.declared.event.Reading.the-variants.{Read}
-use Rattle.model.proofs.Answers.{risingFrom, LowestOf, lowest-given}
 use Rattle.model.proofs.Events as events
 use Rattle.model.proofs.LeafsetSize.{TwoSides}
 use Rattle.model.proofs.LeafsetSize as size-of
@@ -46,58 +43,8 @@ use Rattle.model.proofs.Routes.{Hop, GivenRoute}
 use Rattle.model.proofs.Routes as routes
 use Rattle.model.proofs.Previews as previewed
 use Rattle.model.proofs.ConnectivityPreserved as preserved
-
--- ---- "The lowest number that applies is given, and none otherwise", at each call
-
-pub lowest-at-writing : (e : Event) → LowestOf (eventRefusals e) (eventAnswer e)
-unfolding eventAnswer
-lowest-at-writing e = lowest-given 0 (eventRefusals e) refl
-
-pub lowest-at-reading : (w : ℕ) → LowestOf (wordRefusals w) (wordAnswer w)
-unfolding wordAnswer
-lowest-at-reading w = lowest-given 0 (wordRefusals w) refl
-
-pub lowest-at-opening : (ws : List ℕ) (t : Table) → LowestOf (openRefusals ws t) (openAnswer ws t)
-unfolding openAnswer
-lowest-at-opening ws t = lowest-given 0 (openRefusals ws t) refl
-
--- the refusals of each event rise from 7 on
-rising-state : (r : Ring) (e : Event) → risingFrom 6 (stateRefusals r e) ≡ true
-rising-state r (On x) = refl
-rising-state r (Off x polite) = refl
-rising-state r (Notice x z) = refl
-rising-state r (Contact x y) = refl
-rising-state r (Timer x k) = refl
-rising-state r (Deliver i) = refl
-rising-state r (Lose i) = refl
-
-pub lowest-at-playing : (ws : List ℕ) (w : ℕ) → LowestOf (playRefusals ws w) (bufferAnswer ws w)
-unfolding bufferAnswer
-lowest-at-playing ws w = lowest-given 0 (playRefusals ws w) (rising-state (decode ws) (eventOf w))
-
-pub lowest-at-previewing : (ws : List ℕ) (w : ℕ) (second : List ℕ) → LowestOf (previewRefusals ws w second) (previewAnswer ws w second)
-unfolding previewAnswer
-lowest-at-previewing ws w second = lowest-given 0 (previewRefusals ws w second) (rising-state (decode ws) (eventOf w))
-
-pub lowest-at-leafset : (ws : List ℕ) (x : ℕ) → LowestOf (leafsetRefusals ws x) (leafsetAnswer ws x)
-unfolding leafsetAnswer
-lowest-at-leafset ws x = lowest-given 0 (leafsetRefusals ws x) refl
-
-pub lowest-at-connection : (ws : List ℕ) (a b : ℕ) → LowestOf (connectionRefusals ws a b) (connectionAnswer ws a b)
-unfolding connectionAnswer
-lowest-at-connection ws a b = lowest-given 0 (connectionRefusals ws a b) refl
-
-pub lowest-at-groups : (ws : List ℕ) → LowestOf (ringRefusals ws) (groupsAnswer ws)
-unfolding groupsAnswer
-lowest-at-groups ws = lowest-given 0 (ringRefusals ws) refl
-
-pub lowest-at-routing : (ws : List ℕ) (start key : ℕ) (list : List ℕ) → LowestOf (routeRefusals ws start key list) (routeAnswer ws start key list)
-unfolding routeAnswer
-lowest-at-routing ws start key list = lowest-given 0 (routeRefusals ws start key list) refl
-
-pub lowest-at-script : (ws : List ℕ) → LowestOf (scriptRefusals ws) (scriptAnswer ws)
-unfolding scriptAnswer
-lowest-at-script ws = lowest-given 0 (scriptRefusals ws) refl
+-- "The lowest number that applies is given, and none otherwise", at each call: their statements are in Lowest
+pub use Rattle.model.proofs.Lowest.{lowest-at-writing, lowest-at-reading, lowest-at-opening, lowest-at-playing, lowest-at-previewing, lowest-at-leafset, lowest-at-connection, lowest-at-groups, lowest-at-routing, lowest-at-script}
 
 -- ---- event words
 

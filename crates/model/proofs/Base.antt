@@ -1,9 +1,9 @@
 -- Computed examples: the points P1 to P10 of document 01 and its traps as one table, and the worked example of its bench.
-use Prim.Native.Nat.{ℕ, suc, _/_, _%_, _^_, _≤_, _<_}
+use Prim.Native.Nat.{ℕ, suc, _/_, _%_}
 use mathlib.Core.Path.{_≡_, refl}
 use mathlib.Core.Bool.{true, false}
-use mathlib.Core.List.{List, [], _∷_}
-use lib.ListN.{replicate, take}
+use mathlib.Core.List.{List, [], _∷_, map}
+use lib.ListN.{replicate, getD}
 use native.Mathlib.Omega.{arith}
 use Rattle.model.specs.Key.{clockwise, distance}
 use Rattle.model.specs.Sets
@@ -19,9 +19,7 @@ use Rattle.model.specs.Buffer
 use Rattle.model.specs.Connection
 use Rattle.model.specs.Questions
 use Rattle.model.specs.Bench
-use Rattle.model.specs.WellFormed.{WellFormed}
-use Rattle.model.proofs.Questions.{leafset-asked}
-use Rattle.model.proofs.ExampleRing.{holding, five, node0, off, acknowledgement, ring, ring-well}
+use Rattle.model.proofs.ExampleRing.{holding, five, node0, off, acknowledgement, ring}
 
 -- `unfolding computed` opens every definition, for what is shown by computing
 unfoldable pub computed : Unit {0}
@@ -71,7 +69,23 @@ acknowledged S commit = shown (Steps.deliver (r .table) 0 9 (r .node 0 .own) (Ri
 pub again : Shown
 again = shown (Steps.hold 9 1 (Steps.release 1 (Steps.setSpare 1 3 (holding 0b0110))))
 
--- the table: the points and traps by name, and the leafset question
+-- of each message that a step sends its type, its receiver, its subject and its stamp
+pub said : Steps.Effect → List (List ℕ)
+said e = map (λ m. m .type ∷ m .receiver ∷ m .subject ∷ m .stamp ∷ []) (e .sent)
+
+-- node 0 holds 2, 3 and 4, and of them 2 with commit 6 and spare 1. Type 9 from node 1 about z, with stamp 7, is delivered to it, at 9; and
+-- timer 3 fires there
+pub requested : ℕ → Steps.Effect
+requested z = Steps.deliver five 0 9 (node0 0b11100 6 .own) (record { type = 9; sender = 1; receiver = 0; subject = z; stamp = 7; view = Sets.empty })
+
+pub replacing : Steps.Effect
+replacing = Steps.timer five 0 9 (node0 0b11100 6 .own) 3
+
+-- 0 holds 2, which holds 1; 3 runs alone, and 4 is off
+pub chained : Ring.Ring
+chained = record { table = five; node = λ x. record { running = Sets.ofBits 0b01111 x; clock = 8; own = holding (getD (0b00100 ∷ 0 ∷ 0b00010 ∷ []) x 0) }; messages = [] }
+
+-- the table: the points and traps by name
 pub record Points : Type 0 where
   pub P1 : clockwise 16777215 0 ≡ 1
   pub P2 : (k : ℕ) → clockwise k k ≡ 0
@@ -81,10 +95,7 @@ pub record Points : Type 0 where
   pub P6 : near10 0b0110 ≡ 1 ∷ 2 ∷ []
   pub P7 : asked 1 0b1100 ≡ offered 1 3
   pub P8 : asked 3 0b0100 ≡ offered 3 64
-  -- "otherwise fit": the rings are well-formed. Before, y is not held, or (`-held`) is held with commit 5.
-  -- "comparing stamps with "not above"" would release z in P9 as well
-  pub P9-P10-fit : (S commit : ℕ) → S < 2 ^ 5 → Sets.ofBits S 0 ≡ false → Sets.ofBits S 2 ≡ true → 1 ≤ commit → commit ≤ 8
-      → WellFormed (ring S commit)
+  -- before, y is not held, or (`-held`) is held with commit 5; "comparing stamps with "not above"" would release z in P9 as well
   pub P9 : acknowledged 0b11100 7
       ≡ record { held = 1 ∷ 2 ∷ 3 ∷ 4 ∷ []; commits = 0 ∷ 9 ∷ 7 ∷ 5 ∷ 5 ∷ []; spares = 64 ∷ 64 ∷ 1 ∷ 64 ∷ 64 ∷ [] }
   pub P9-held : acknowledged 0b11110 7
@@ -101,22 +112,25 @@ pub record Points : Type 0 where
   pub wrap-next : Leafset.successor four 3 (Sets.ofBits 0b0111) ≡ 0
   pub wrap-passed : Leafset.passesZero four 3 (Sets.ofBits 0b0111) ≡ true
   pub wrap-not-passed : Leafset.passesZero four 0 (Sets.ofBits 0b1110) ≡ false
-  -- the leafset question: "64 bits, bit s for stand s", of the leafset {3, 4} in the held {1, 2, 3, 4}
-  pub leafset-bits : Questions.leafsetOf (Words.encode (ring 0b11110 6)) 0 ≡ 0b11000
-  -- "A refused leafset question returns the empty set": about node 1, which is off; node 5, which is not of the
-  -- table; and a buffer that ends after the pairs of node 0
-  pub leafset-off : Questions.leafsetOf (Words.encode (ring 0b11110 6)) 1 ≡ 0
-  pub leafset-beyond : Questions.leafsetOf (Words.encode (ring 0b11110 6)) 5 ≡ 0
-  pub leafset-short : Questions.leafsetOf (take 257 (Words.encode (ring 0b11110 6))) 0 ≡ 0
+  -- "On 9: if z is held, its commit becomes now and I answer 10 with the same subject and stamp"
+  pub request-held : shown (requested 3 .own) ≡ record { held = 2 ∷ 3 ∷ 4 ∷ []; commits = 0 ∷ 0 ∷ 6 ∷ 9 ∷ 5 ∷ []; spares = 64 ∷ 64 ∷ 1 ∷ 64 ∷ 64 ∷ [] }
+  pub request-answered : said (requested 3) ≡ (10 ∷ 1 ∷ 3 ∷ 7 ∷ []) ∷ []
+  pub request-not-held : said (requested 1) ≡ []
+  -- "Timer 3: for each held z outside my leafset with a spare, type 9 to the spare, subject z, stamp now": it releases nobody
+  pub timer-3-asks : said replacing ≡ (9 ∷ 1 ∷ 2 ∷ 9 ∷ []) ∷ []
+  pub timer-3-keeps : shown (replacing .own) ≡ record { held = 2 ∷ 3 ∷ 4 ∷ []; commits = 0 ∷ 0 ∷ 6 ∷ 5 ∷ 5 ∷ []; spares = 64 ∷ 64 ∷ 1 ∷ 64 ∷ 64 ∷ [] }
+  -- "a commit stamp is .. never above x's clock", which is 8
+  pub commit-at-clock : Words.pairFits five (node0 0b11100 8) 0 2 ≡ true
+  pub commit-above-clock : Words.pairFits five (node0 0b11100 9) 0 2 ≡ false
+  -- "steps between running stands lead from one to the other"
+  pub chain-connected : Sets.members 5 (Connection.connected chained 0) ≡ 0 ∷ 1 ∷ 2 ∷ []
+  pub chain-groups : Connection.groups chained ≡ 2
 
 full-circle : (k : ℕ) → clockwise k k ≡ 0
 full-circle k = omega arith
 
-fit : WellFormed (ring 0b11110 6)
-fit = ring-well 0b11110 6 (omega arith) refl refl (omega arith) (omega arith)
-
 pub points : Points
-unfolding computed four near10 holding asked offered shown five node0 off acknowledgement ring acknowledged again
+unfolding computed four near10 holding asked offered shown five node0 off acknowledgement ring acknowledged again said requested replacing chained
 points =
     record {
       P1 = refl;
@@ -127,7 +141,6 @@ points =
       P6 = refl;
       P7 = refl;
       P8 = refl;
-      P9-P10-fit = ring-well;
       P9 = refl;
       P9-held = refl;
       P10 = refl;
@@ -137,10 +150,15 @@ points =
       wrap-next = refl;
       wrap-passed = refl;
       wrap-not-passed = refl;
-      leafset-bits = leafset-asked (ring 0b11110 6) fit 0;
-      leafset-off = leafset-asked (ring 0b11110 6) fit 1;
-      leafset-beyond = leafset-asked (ring 0b11110 6) fit 5;
-      leafset-short = refl;
+      request-held = refl;
+      request-answered = refl;
+      request-not-held = refl;
+      timer-3-asks = refl;
+      timer-3-keeps = refl;
+      commit-at-clock = refl;
+      commit-above-clock = refl;
+      chain-connected = refl;
+      chain-groups = refl;
     }
 
 -- ---- the worked example of "The bench program"
