@@ -12,7 +12,7 @@ use Rattle.model.specs.Words.{ringLength, readsAsRing}
 use Rattle.model.specs.Play.{playWord}
 use Rattle.model.specs.Buffer.{wrongLength, Written, playRefusals, bufferAnswer, playBuffer, playBufferAll}
 use Rattle.model.specs.ConnectivityPreserved.{Reached, played, answerAt}
-use Rattle.model.specs.Preview.{previewAnswer, previewBuffer, Call, plays, previews, Buffers, called, calledAll, playsAnswered, playedWords, PreviewsChangeNothing}
+use Rattle.model.specs.Preview.{previewAnswer, previewBuffer, Call, plays, previews, called, calledAll, playsAnswered, playedWords, PreviewsChangeNothing}
 use Rattle.model.proofs.Laws.{not-out-false}
 use Rattle.model.proofs.Answers.{here, next, passed, rest-passed}
 use Rattle.model.proofs.Follows.{still-reads}
@@ -45,19 +45,19 @@ module _ (ws : List ℕ) (w : ℕ) (second : List ℕ) where
     pub preview-reached : {r : Ring} → Reached ws r → Reached (previewBuffer ws w second .words) (playWord r w .ring)
     preview-reached {r} p = subst (λ (q : Written). Reached (q .words) (playWord r w .ring)) (sym accepted-as-playing) (played p w)
 
-pub change-nothing : (b : Buffers) (calls : List Call) → PreviewsChangeNothing b calls
+pub change-nothing : (ws : List ℕ) (calls : List Call) → PreviewsChangeNothing ws calls
 unfolding calledAll playsAnswered playedWords playBufferAll
-change-nothing b [] =
+change-nothing ws [] =
     record { as-many-answers = refl; same-answers = λ i h. absurd (not-suc-le-zero h); same-ring = refl }
-change-nothing b (plays w ∷ calls) =
-    let p : PreviewsChangeNothing (called b (plays w)) calls = change-nothing (called b (plays w)) calls in
+change-nothing ws (plays w ∷ calls) =
+    let p : PreviewsChangeNothing (called ws (plays w)) calls = change-nothing (called ws (plays w)) calls in
     record { as-many-answers = ap suc (p .as-many-answers); same-answers = by-place (p .same-answers); same-ring = p .same-ring }
   where
     by-place :
-        ((i : ℕ) → i < length (playedWords calls) → getD (playsAnswered (called b (plays w)) calls) i 0 ≡ answerAt (called b (plays w) .ring) (playedWords calls) i)
-        → (i : ℕ) → i < suc (length (playedWords calls)) → getD (playsAnswered b (plays w ∷ calls)) i 0 ≡ answerAt (b .ring) (w ∷ playedWords calls) i
+        ((i : ℕ) → i < length (playedWords calls) → getD (playsAnswered (called ws (plays w)) calls) i 0 ≡ answerAt (called ws (plays w)) (playedWords calls) i)
+        → (i : ℕ) → i < suc (length (playedWords calls)) → getD (playsAnswered ws (plays w ∷ calls)) i 0 ≡ answerAt ws (w ∷ playedWords calls) i
     by-place later zero h = refl
     by-place later (suc i) h = later i (le-of-suc-le-suc h)
-change-nothing b (previews w ∷ calls) =
-    let p : PreviewsChangeNothing (called b (previews w)) calls = change-nothing (called b (previews w)) calls in
+change-nothing ws (previews w second ∷ calls) =
+    let p : PreviewsChangeNothing ws calls = change-nothing ws calls in
     record { as-many-answers = p .as-many-answers; same-answers = p .same-answers; same-ring = p .same-ring }

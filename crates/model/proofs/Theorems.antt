@@ -21,7 +21,7 @@ use Rattle.model.specs.Play.{playWord, playAll}
 use Rattle.model.specs.Buffer.{openBuffer, playBuffer, playBufferAll}
 use Rattle.model.specs.Questions.{leafsetOf}
 use Rattle.model.specs.Route.{nextOf, goesOn, route, Converged, routeAnswer, routeBuffer}
-use Rattle.model.specs.Preview.{previewBuffer, Call, Buffers, PreviewsChangeNothing}
+use Rattle.model.specs.Preview.{previewBuffer, Call, PreviewsChangeNothing}
 use Rattle.model.specs.Connection.{Connected, connected, groups, CountsGroups}
 use Rattle.model.specs.ConnectivityPreserved.{Reached, opened, Unbroken, ConnectivityPreserved}
 use Rattle.model.specs.declared.event.Event.{Event}
@@ -224,9 +224,10 @@ pub preview-reached : (ws : List ℕ) (r : Ring) → Reached ws r → (w : ℕ) 
     → Reached (previewBuffer ws w second .words) (playWord r w .ring)
 preview-reached ws r p w second a = previewed.preview-reached ws w second a p
 
--- "Previews inserted in a list of events change no later answer": lists of any length, refused calls included, on any two buffers
-pub previews-change-nothing : (b : Buffers) (calls : List Call) → PreviewsChangeNothing b calls
-previews-change-nothing b calls = previewed.change-nothing b calls
+-- "Previews inserted in a list of events change no later answer": lists of any length, refused calls included, on any words, each
+-- preview with any second buffer
+pub previews-change-nothing : (ws : List ℕ) (calls : List Call) → PreviewsChangeNothing ws calls
+previews-change-nothing ws calls = previewed.change-nothing ws calls
 
 -- ---- demand 3
 

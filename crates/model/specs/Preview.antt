@@ -21,41 +21,36 @@ previewBuffer ws w second = writes second (previewAnswer ws w second) (playBuffe
 
 -- ---- lists of calls
 
--- a word played, or previewed
+-- a word played, or previewed in a second buffer of any words
 pub data Call : Type 0 where
   plays : ℕ → Call
-  previews : ℕ → Call
+  previews : ℕ → List ℕ → Call
 
--- the words of a ring and of a second buffer, of any lengths
-pub record Buffers : Type 0 where
-  pub ring : List ℕ
-  pub second : List ℕ
-
--- what a call leaves: a preview changes the second buffer alone, "The ring isn't written."
-abbrev pub called : Buffers → Call → Buffers
-called b (plays w) = record { ring = playBuffer (b .ring) w .words; second = b .second }
-called b (previews w) = record { ring = b .ring; second = previewBuffer (b .ring) w (b .second) .words }
+-- the ring's words after a call: of a preview, "The ring isn't written."
+abbrev pub called : List ℕ → Call → List ℕ
+called ws (plays w) = playBuffer ws w .words
+called ws (previews w second) = ws
 
 -- a list of calls, one after the other
-unfoldable pub calledAll : Buffers → List Call → Buffers
-calledAll b [] = b
-calledAll b (c ∷ calls) = calledAll (called b c) calls
+unfoldable pub calledAll : List ℕ → List Call → List ℕ
+calledAll ws [] = ws
+calledAll ws (c ∷ calls) = calledAll (called ws c) calls
 
 -- the answers that the plays among them get, in order
-unfoldable pub playsAnswered : Buffers → List Call → List ℕ
-playsAnswered b [] = []
-playsAnswered b (plays w ∷ calls) = playBuffer (b .ring) w .answer ∷ playsAnswered (called b (plays w)) calls
-playsAnswered b (previews w ∷ calls) = playsAnswered (called b (previews w)) calls
+unfoldable pub playsAnswered : List ℕ → List Call → List ℕ
+playsAnswered ws [] = []
+playsAnswered ws (plays w ∷ calls) = playBuffer ws w .answer ∷ playsAnswered (called ws (plays w)) calls
+playsAnswered ws (previews w second ∷ calls) = playsAnswered (called ws (previews w second)) calls
 
 -- the list without its previews: the words that are played
 unfoldable pub playedWords : List Call → List ℕ
 playedWords [] = []
 playedWords (plays w ∷ calls) = w ∷ playedWords calls
-playedWords (previews w ∷ calls) = playedWords calls
+playedWords (previews w second ∷ calls) = playedWords calls
 
 -- "Previews inserted in a list of events change no later answer": every play gets the answer, and the ring has the words in the end, that
--- the list without its previews gives, whatever the second buffer is
-pub record PreviewsChangeNothing (b : Buffers) (calls : List Call) : Type 0 where
-  pub as-many-answers : length (playsAnswered b calls) ≡ length (playedWords calls)
-  pub same-answers : (i : ℕ) → i < length (playedWords calls) → getD (playsAnswered b calls) i 0 ≡ answerAt (b .ring) (playedWords calls) i
-  pub same-ring : calledAll b calls .ring ≡ playBufferAll (b .ring) (playedWords calls)
+-- the list without its previews gives
+pub record PreviewsChangeNothing (ws : List ℕ) (calls : List Call) : Type 0 where
+  pub as-many-answers : length (playsAnswered ws calls) ≡ length (playedWords calls)
+  pub same-answers : (i : ℕ) → i < length (playedWords calls) → getD (playsAnswered ws calls) i 0 ≡ answerAt ws (playedWords calls) i
+  pub same-ring : calledAll ws calls ≡ playBufferAll ws (playedWords calls)
