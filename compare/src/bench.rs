@@ -18,12 +18,20 @@ pub fn run(ring: &dyn Ring, input: &[u8]) -> String {
     out
 }
 
-fn little_endian(bytes: &[u8]) -> u32 {
+/// A word from its four bytes, lowest first.
+pub fn little_endian(bytes: &[u8]) -> u32 {
     u32::from_le_bytes(bytes.try_into().unwrap())
 }
 
-/// Opens by word 0 and the key words; the bytes after them are the events.
-fn open<'a>(ring: &dyn Ring, words: &mut [u32], input: &'a [u8]) -> Result<&'a [u8], u32> {
+/// The sides and the keys that a script begins with, and the bytes after them.
+pub struct Opening<'a> {
+    pub sides: Sides,
+    pub keys: Vec<u32>,
+    pub events: &'a [u8],
+}
+
+/// Reads word 0 and the key words. Whether two keys are equal is not looked at.
+pub fn opening(input: &[u8]) -> Result<Opening<'_>, u32> {
     let (first, rest) = input.split_at_checked(4).ok_or(2u32)?;
     let word = little_endian(first);
     // Kind 1, no message, no unnamed bit.
@@ -40,7 +48,13 @@ fn open<'a>(ring: &dyn Ring, words: &mut [u32], input: &'a [u8]) -> Result<&'a [
     if keys.iter().any(|key| key >> 24 != 0x20) {
         return Err(3);
     }
-    let keys: Vec<u32> = keys.iter().map(|key| key & 0xFF_FFFF).collect();
+    let keys = keys.iter().map(|key| key & 0xFF_FFFF).collect();
+    Ok(Opening { sides, keys, events })
+}
+
+/// Opens by word 0 and the key words; the bytes after them are the events.
+pub fn open<'a>(ring: &dyn Ring, words: &mut [u32], input: &'a [u8]) -> Result<&'a [u8], u32> {
+    let Opening { sides, keys, events } = opening(input)?;
     match ring.open(words, sides, &keys) {
         0 => Ok(events),
         refusal => Err(refusal),

@@ -1,12 +1,15 @@
 //! Implementations of document 01 side by side: the proved library, a reference tuned by hand, and a plain one.
 
 pub mod agree;
+pub mod audit;
 pub mod bench;
 pub mod calls_test;
 pub mod case;
-
 pub mod damage;
+pub mod draw;
 pub mod edges;
+pub mod events;
+pub mod filter;
 #[cfg(feature = "library")]
 pub mod library;
 pub mod look;
@@ -22,6 +25,8 @@ pub mod shorten;
 pub mod speed;
 #[cfg(feature = "library")]
 pub mod stack;
+pub mod stage;
+pub mod text;
 pub mod unbroken;
 pub mod vectors;
 

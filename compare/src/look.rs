@@ -30,6 +30,11 @@ pub fn holds(words: &[u32], x: usize, z: usize) -> bool {
     words[129 + 2 * (64 * x + z)] >> 24 & 1 == 1
 }
 
+/// The nodes that x holds, bit s for node s.
+pub fn held(words: &[u32], x: usize) -> u64 {
+    (0..nodes(words)).fold(0, |set, z| set | (holds(words, x, z) as u64) << z)
+}
+
 /// The type of the message at a position.
 pub fn message_type(words: &[u32], position: usize) -> u32 {
     words[8_321 + 5 * position] & 15

@@ -4,15 +4,15 @@ use compare::agree::{self, Found, Plan};
 use compare::ring::Ring;
 use compare::script::Mix;
 use compare::routes::Made;
-use compare::{edges, every_ring, fast_rings, self_test, speed, vectors};
+use compare::{edges, every_ring, fast_rings, self_test, speed, stage, vectors};
 use std::path::Path;
 use std::process::ExitCode;
 use std::time::Instant;
 
-const USAGE: &str = "compare [all | agree | unbroken | self-test | speed | stack | vectors]
+const USAGE: &str = "compare [all | agree | unbroken | self-test | speed | stack | stage | vectors]
     [seed=1] [events=5000000] [damaged=1000000] [routes=EVENTS/10] [previews=EVENTS/10] [nodes=64]
     [threads=CORES] [mixes=gentle,chaos,garbage,replacement]
-    [vectors=FOLDER] [slip=NAME]";
+    [vectors=FOLDER] [slip=NAME] [seeds=5]";
 
 struct Options {
     mode: String,
@@ -21,6 +21,15 @@ struct Options {
     steady: Vec<Mix>,
     vectors: Option<String>,
     slip: Option<String>,
+    /// Runs of each case of a stage.
+    seeds: usize,
+}
+
+impl Options {
+    fn stage(&self) -> stage::Plan {
+        let Plan { seed, nodes, threads, .. } = self.plan;
+        stage::Plan { seed, seeds: self.seeds, nodes: nodes.max(stage::SIZES[0]), threads }
+    }
 }
 
 fn options() -> Option<Options> {
@@ -29,7 +38,7 @@ fn options() -> Option<Options> {
     let plan = Plan { seed: 1, events, damaged: 1_000_000, routes: 0, previews: 0, mixes, nodes: 64, threads };
     let (mut routes, mut previews) = (None, None);
     let steady = vec![Mix::Gentle, Mix::Replacement];
-    let mut options = Options { mode: "all".to_string(), plan, steady, vectors: None, slip: None };
+    let mut options = Options { mode: "all".to_string(), plan, steady, vectors: None, slip: None, seeds: 5 };
     for word in std::env::args().skip(1) {
         match word.split_once('=') {
             None => options.mode = word,
@@ -46,6 +55,7 @@ fn options() -> Option<Options> {
             }
             Some(("vectors", value)) => options.vectors = Some(value.to_string()),
             Some(("slip", value)) => options.slip = Some(value.to_string()),
+            Some(("seeds", value)) => options.seeds = value.parse().ok().filter(|&count| count > 0)?,
             Some(_) => return None,
         }
     }
@@ -67,6 +77,10 @@ fn main() -> ExitCode {
         #[cfg(feature = "library")]
         "stack" => {
             compare::stack::report();
+            true
+        }
+        "stage" => {
+            stage::report(fast_rings()[0], &options.stage());
             true
         }
         "vectors" => stored(&options),

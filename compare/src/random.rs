@@ -34,4 +34,16 @@ impl Random {
     pub fn pick<T: Copy>(&mut self, list: &[T]) -> T {
         list[self.below(list.len())]
     }
+
+    /// n different keys, of which `draw` gives the lowest 24 bits.
+    pub fn keys(&mut self, n: usize, draw: impl Fn(&mut Random) -> u32) -> Vec<u32> {
+        let mut keys = Vec::new();
+        while keys.len() < n {
+            let key = draw(self) & 0xFF_FFFF;
+            if !keys.contains(&key) {
+                keys.push(key);
+            }
+        }
+        keys
+    }
 }

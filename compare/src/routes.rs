@@ -212,17 +212,11 @@ fn table(random: &mut Random) -> (Sides, Vec<u32>, Vec<bool>) {
     let mut side = || 1 + random.below(8) as u32;
     let sides = Sides { clockwise: side(), counter_clockwise: side() };
     let style = random.below(3);
-    let mut keys = Vec::new();
-    while keys.len() < n {
-        let key = match style {
-            0 => random.word(),
-            1 => (random.below(200) as u32).wrapping_sub(100),
-            _ => (random.below(128) as u32) << 17,
-        } & LIMIT;
-        if !keys.contains(&key) {
-            keys.push(key);
-        }
-    }
+    let keys = random.keys(n, |random| match style {
+        0 => random.word(),
+        1 => (random.below(200) as u32).wrapping_sub(100),
+        _ => (random.below(128) as u32) << 17,
+    });
     let share = random.pick(&[20, 60, 90, 100]);
     let running = (0..n).map(|_| random.percent(share)).collect();
     (sides, keys, running)

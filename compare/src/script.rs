@@ -122,20 +122,14 @@ impl Script {
     pub fn opening(&mut self) -> (Sides, Vec<u32>) {
         let sides = Sides { clockwise: self.side(), counter_clockwise: self.side() };
         let style = self.random.below(4);
-        let mut keys: Vec<u32> = Vec::new();
-        while keys.len() < self.n {
-            let key = match style {
-                // Anywhere.
-                0 | 1 => self.random.word(),
-                // Round zero, close together.
-                2 => (self.random.below(200) as u32).wrapping_sub(100),
-                // On a grid of 128 places: many distances are equal.
-                _ => (self.random.below(128) as u32) << 17,
-            } & 0xFF_FFFF;
-            if !keys.contains(&key) {
-                keys.push(key);
-            }
-        }
+        let keys = self.random.keys(self.n, |random| match style {
+            // Anywhere.
+            0 | 1 => random.word(),
+            // Round zero, close together.
+            2 => (random.below(200) as u32).wrapping_sub(100),
+            // On a grid of 128 places: many distances are equal.
+            _ => (random.below(128) as u32) << 17,
+        });
         (sides, keys)
     }
 

@@ -108,8 +108,7 @@ fn leaves(words: &[u32]) -> bool {
 fn links(words: &[u32]) -> Links {
     let n = look::nodes(words);
     let running = (0..n).fold(0u64, |set, x| set | (look::is_running(words, x) as u64) << x);
-    let held = |x: usize| (0..n).fold(0u64, |set, z| set | (look::holds(words, x, z) as u64) << z);
-    std::array::from_fn(|x| if running >> x & 1 == 1 { held(x) & running } else { 0 })
+    std::array::from_fn(|x| if running >> x & 1 == 1 { look::held(words, x) & running } else { 0 })
 }
 
 fn groups(links: &Links) -> Groups {

@@ -1,9 +1,9 @@
 //! The commands written so far, with the lines that they have to give. Every case says the answer that document 01 demands;
 //! values and words are those of the plain implementation, with which the reference has to agree.
 
-use super::events::{on, timer};
 use super::machine::{Command, Line, Machine};
 use super::tally::{count, Tally};
+use crate::events::{on, timer};
 use crate::look;
 use crate::plain::Plain;
 use crate::reference::Reference;

@@ -1,8 +1,8 @@
 //! Damaged buffers: each field of each word set wrong, one at a time, and changes after which the words still read as a ring.
 
 use super::book::{pair, Book, Message};
-use super::events::*;
 use super::openings::spread;
+use crate::events::*;
 use crate::damage::with;
 use crate::{look, LENGTH};
 

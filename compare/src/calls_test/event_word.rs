@@ -1,7 +1,7 @@
 //! Reading and writing event words: the documents' rules, and the cases.
 
 use super::book::Book;
-use super::events::*;
+use crate::events::*;
 use crate::plain::event_fault;
 
 /// The answer, and the event as a number: its kind and its two parts, four decimal digits each.

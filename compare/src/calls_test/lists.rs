@@ -1,7 +1,7 @@
 //! Lists of words on a ring that is there, by one call: the places that take the answers, and the two refusals.
 
 use super::book::{Book, Message};
-use super::events::*;
+use crate::events::*;
 use crate::LENGTH;
 
 const KEYS: [u32; 3] = [10, 20, 30];

@@ -3,7 +3,6 @@
 mod book;
 mod damaged;
 mod event_word;
-mod events;
 mod lists;
 mod machine;
 mod openings;

@@ -1,7 +1,7 @@
 //! The pool of messages filled to its end: refusal 11, alone and after the others.
 
 use super::book::Book;
-use super::events::*;
+use crate::events::*;
 use crate::{look, LENGTH};
 
 const CLOCK_LIMIT: u32 = 16_777_215;

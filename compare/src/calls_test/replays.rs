@@ -1,7 +1,7 @@
 //! Replays: an opening's refusals, and words of every sort played one after the other.
 
 use super::book::Book;
-use super::events::*;
+use crate::events::*;
 use crate::ring::Sides;
 use crate::LENGTH;
 

@@ -1,7 +1,7 @@
 //! Routes towards a key: where each hop goes, where a route ends, and the refusals in their order.
 
 use super::book::{Book, Message};
-use super::events::*;
+use crate::events::*;
 use crate::{look, LENGTH};
 
 const LIMIT: u32 = 16_777_215;

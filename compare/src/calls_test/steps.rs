@@ -1,8 +1,8 @@
 //! Accepted events: each kind, each timer, the delivery of each message type, and each side of each rule.
 
 use super::book::{pair, Book, Message};
-use super::events::*;
 use super::openings::spread;
+use crate::events::*;
 use crate::look;
 
 /// Node 0 has key 100. At L = 1 its leafset among all the others is nodes 3 and 2.

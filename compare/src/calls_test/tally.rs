@@ -1,7 +1,7 @@
 //! What the cases reach.
 
-use super::events::TIMERS;
 use super::machine::Command;
+use crate::events::TIMERS;
 use std::collections::BTreeMap;
 use std::fmt;
 

@@ -42,7 +42,7 @@ no-head (w ∷ ws) h = absurd (omega arith)
 key-at : (ws : List ℕ) (n s : ℕ) → s < n → getD (scriptKeys ws n) s 0 ≡ bits 0 24 (getD ws (1 + s) 0)
 key-at ws n s h = List·getD-map (bits 0 24) (take n (drop 1 ws)) s 0 ∙ ap (bits 0 24) (getD-take n (drop 1 ws) s 0 h ∙ getD-drop 1 ws s 0)
 
-keys-long : (ws : List ℕ) (n : ℕ) → 1 + n ≤ length ws → length (scriptKeys ws n) ≡ n
+pub keys-long : (ws : List ℕ) (n : ℕ) → 1 + n ≤ length ws → length (scriptKeys ws n) ≡ n
 keys-long ws n h = simp length-map (length-take-le n (drop 1 ws) (simp length-drop (omega arith)))
 
 pub keys-loaded : (ws : List ℕ) (n : ℕ) (ks : List ℕ) → 1 + n ≤ length ws → n ≤ 64 → Filled (λ k. k) ks 0 (λ s. bits 0 24 (getD ws (1 + s) 0)) n → take n ks ≡ scriptKeys ws n
@@ -153,10 +153,10 @@ module _ (ws : List ℕ) (ok : scriptAnswer ws ≡ 0) where
   refuted : {P : Type 0} (a : ℕ) → isAccepted a ≡ false → scriptAnswer ws ≡ a → P
   refuted a f e = clash (ap isAccepted (sym e ∙ ok)) f
 
-  head-is : headFits ws ≡ true
+  pub head-is : headFits ws ≡ true
   head-is = decide (headFits ws) (λ h. h) (λ f. refuted _ refl (refused-head ws f))
 
-  sizes-are : sizesFit (sides ws) (n ws) ≡ true
+  pub sizes-are : sizesFit (sides ws) (n ws) ≡ true
   sizes-are = decide (sizesFit (sides ws) (n ws)) (λ h. h) (λ f. refuted _ refl (refused-sizes ws head-is f))
 
   keys-fit-is : keysFit ws (n ws) ≡ true

@@ -73,7 +73,7 @@ fn keys_fit(script: &[u32], n: usize) -> bool
 }
 
 // The keys of the n words after the first.
-fn keys(script: &[u32], n: usize) -> [u32; 64]
+pub fn keys(script: &[u32], n: usize) -> [u32; 64]
     requires lengths { ⌜ 1 + n ≤ length (now script) ⌝ }
     requires bounds { ⌜ n ≤ 64 ⌝ }
     ensures places { λ r. ⌜ length r ≡ 64 ⌝ }

@@ -1,8 +1,8 @@
 -- The lines of the nodes, one after the other.
-use mathlib.Core.Path.{_≡_, refl, sym, ap, _∙_}
+use mathlib.Core.Path.{_≡_, sym, ap, _∙_}
 use mathlib.Core.Bool.{Bool, true}
-use mathlib.Core.List.{List, [], _∷_, _++_, append-assoc, append-nil}
-use Prim.Native.Nat.{ℕ, zero, suc, _+_, _*_, _^_, _≤_, _<_}
+use mathlib.Core.List.{List, [], _∷_, _++_, append-assoc}
+use Prim.Native.Nat.{ℕ, zero, suc, _+_, _*_, _≤_, _<_}
 use native.Mathlib.Nat.{zero-add}
 use native.Mathlib.Numerals.{add-one}
 use native.Mathlib.Omega.{arith}
@@ -12,8 +12,8 @@ use lib.ListN.{length, getD}
 use Rattle.bench_lines.specs.Decimal.{decimal, spaced, newline, lineBytes, linesBytes}
 use Rattle.bench_lines.specs.Put.{Put}
 use Rattle.bench_lines.proofs.Decimals.{spaced-append, lines-append, one-line}
-use Rattle.bench_lines.proofs.Puts.{put-none, put-more, put-as}
-use Rattle.model.specs.Sets.{Set, ofBits, count, members, lowest, tabulateFrom, tabulate}
+use Rattle.bench_lines.proofs.Puts.{put-none}
+use Rattle.model.specs.Sets.{Set, ofBits, count, members, tabulateFrom, tabulate}
 use Rattle.model.specs.Leafset.{Table, size, key}
 use Rattle.model.specs.Ring.{Own}
 use Rattle.model.specs.Words.{isPair, pairPlace, decodeTable, decodeOwn, decodeNode, decode, ringLength, readsAsRing}
@@ -27,55 +27,13 @@ use Rattle.model.proofs.Laws.{and-left, and-right, count-le}
 use Rattle.model.proofs.Words.{reads-out}
 use Rattle.ring_head.proofs.ReadRing.{read-sizes}
 use Rattle.ring_pairs.specs.Loaded.{LoadedNode}
-use Rattle.sets.specs.Rest.{IsRest}
-use Rattle.sets.proofs.Members.{length-members, members-next, count-to, members-to}
-use Rattle.sets.proofs.Bits.{first-bit, members-end}
+use Rattle.sets.proofs.Members.{count-to, members-to}
 use Rattle.bench_report.specs.Report.{stateBytes, groupsWord, groupsBytes, endBytes}
 
--- ---- the members of a set
+-- ---- the held
 
--- those before `rest` are put
-pub record Listing (out₀ out : List ℕ) (at end set rest : ℕ) : Type 0 where
-  pub bytes : List ℕ
-  pub put : Put out₀ out at end bytes
-  pub left : bytes ++ spaced (members 64 (ofBits rest)) ≡ spaced (members 64 (ofBits set))
-  pub room : end + 21 * length (members 64 (ofBits rest)) ≤ at + 1344
-  pub fits : rest < 2 ^ 64
-
-pub listing-none : (out : List ℕ) (at set : ℕ) → set < 2 ^ 64 → Listing out out at at set set
-listing-none out at set h =
-    record {
-      bytes = [];
-      put = put-none out at;
-      left = refl;
-      room = omega (arith, length-members 64 (ofBits set), count-le 64 (ofBits set));
-      fits = h;
-    }
-
-module _ {out₀ out : List ℕ} {at end set rest : ℕ} (l : Listing out₀ out at end set rest) where
-  pub listing-more : {out' : List ℕ} {end' y r : ℕ} → y ≡ lowest 64 (ofBits rest) → Put out out' end end' (spaced (y ∷ [])) → end' ≤ end + 21 → IsRest rest r
-      → Listing out₀ out' at end' set r
-  listing-more {out'} {end'} {y} {r} is p h q =
-      let next : members 64 (ofBits rest) ≡ y ∷ members 64 (ofBits r) = q .next ∙ ap (λ (s : ℕ). s ∷ members 64 (ofBits r)) (sym is) in
-      record {
-        bytes = l .bytes ++ spaced (y ∷ []);
-        put = put-more (l .put) p;
-        left =
-            append-assoc (l .bytes) (spaced (y ∷ [])) _
-            ∙ ap (λ (s : List ℕ). l .bytes ++ s) (sym (spaced-append (y ∷ []) (members 64 (ofBits r))) ∙ ap spaced (sym next))
-            ∙ l .left;
-        room = omega (arith, l .room, ap length next);
-        fits = omega (arith, l .fits, q .less);
-      }
-
-  pub listing-room : (rest ≡ 0 → ⊥) → end + 21 ≤ at + 1344
-  listing-room d = omega (arith, l .room, ap length (members-next 64 (ofBits rest) _ (first-bit rest (l .fits) d)))
-
-  pub listing-all : rest ≡ 0 → Put out₀ out at end (spaced (members 64 (ofBits set)))
-  unfolding spaced
-  listing-all e =
-      put-as (l .put)
-      (sym (append-nil (l .bytes)) ∙ ap (λ (s : List ℕ). l .bytes ++ s) (ap spaced (sym (members-end e))) ∙ l .left)
+pub held-room : (S : Set) (at len : ℕ) → at + 1344 ≤ len → at + 21 * count 64 S ≤ len
+held-room S at len h = omega (arith, count-le 64 S)
 
 pub held-list : (S : ℕ) {n : ℕ} → n ≡ count 64 (ofBits S) → spaced (n ∷ []) ++ spaced (members 64 (ofBits S)) ≡ spaced (count 64 (ofBits S) ∷ members 64 (ofBits S))
 held-list S {n} e = sym (spaced-append (n ∷ []) (members 64 (ofBits S))) ∙ ap (λ (k : ℕ). spaced (k ∷ members 64 (ofBits S))) e

@@ -89,20 +89,5 @@ fn put_held(out: &mut [u8], at: usize, held: u64) -> usize
     ensures end { λ r. ⌜ r ≤ at + 1365 ⌝ }
 {
     let first = bench_lines::put_next(out, at, sets::size(held) as u64);
-    put_members(out, first, held)
-}
-
-// Puts each member of the set, in rising order.
-fn put_members(out: &mut [u8], at: usize, set: u64) -> usize
-    requires room { ⌜ at + 1344 ≤ length (now out) ⌝ }
-    ensures bytes { λ r. ⌜ Put (now (out .entry)) (now (out .exit)) at r (spaced (members 64 (ofBits set))) ⌝ }
-    ensures end { λ r. ⌜ r ≤ at + 1344 ⌝ }
-{
-    let mut end = at;
-    let mut rest = set;
-    while rest != 0 {
-        end = bench_lines::put_next(out, end, sets::lowest(rest).0 as u64);
-        rest = sets::rest(rest);
-    }
-    end
+    bench_sets::put_members(out, first, held)
 }

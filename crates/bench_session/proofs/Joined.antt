@@ -1,47 +1,39 @@
 -- The chunks of a script, one after the other, print what the definition of the bench says of the whole script.
-use mathlib.Core.Path.{_≡_, refl, sym, ap, _∙_, subst}
+use mathlib.Core.Path.{_≡_, refl, sym, ap, _∙_}
 use mathlib.Core.Bool.{true, false}
 use mathlib.Core.List.{List, [], _∷_, _++_, append-assoc, append-nil}
-use Prim.Native.Nat.{ℕ, zero, suc, _+_, _*_, _^_, _%_, _≤_, _<_}
+use Prim.Native.Nat.{ℕ, suc, _+_, _*_, _%_, _≤_}
 use native.Mathlib.Nat.{zero-add}
 use native.Mathlib.Omega.{arith}
-use borrow.Author.Tests.{eq-eqb, ne-eqb, le-leb, eqb-true, eqb-false, ltb-true, ltb-false}
-use lib.Dec.{ltb, eqb}
-use lib.ListN.{length, getD, take, drop, length-append, length-drop, take-append-drop, List·getD-append}
-use lib.Seq.{take-append-le, drop-append-le, length-take-le}
+use borrow.Author.Tests.{eq-eqb, ne-eqb, eqb-true, eqb-false}
+use lib.Dec.{eqb}
+use lib.ListN.{length, drop, length-append}
+use lib.Seq.{drop-append-le}
 use Rattle.bench_lines.specs.Decimal.{lineBytes, linesBytes}
 use Rattle.bench_lines.proofs.Decimals.{lines-append, one-line}
 use Rattle.model.specs.Choice.{if_then_else_}
 use Rattle.model.specs.Ring.{Ring, initial}
-use Rattle.model.specs.Sets.{all, tabulate}
-use Rattle.model.specs.Leafset.{Table, size, key}
-use Rattle.model.specs.Words.{keyWord}
+use Rattle.model.specs.Sets.{tabulate}
+use Rattle.model.specs.Leafset.{Table, size}
 use Rattle.model.specs.Play.{Played, playAnswer, playWord, playAll}
 use Rattle.model.specs.Events.{eventOf}
 use Rattle.model.specs.Answers.{numberOf, isAccepted}
-use Rattle.model.specs.Fields.{bits}
 use Rattle.model.specs.Connection.{groups}
 use Rattle.model.specs.Bench.{Line, littleEndian, eventLines, scriptTable, scriptAnswer, nodeLine, bench}
 use Rattle.bench_report.specs.Report.{groupsBytes, endBytes}
 use Rattle.model.specs.declared.answer.Answer.the-variants.{NotAnEvent}
 use Rattle.model.proofs.Cases.{after-table}
-use Rattle.model.proofs.Laws.{decide, if-law, same-test, all-in, all-out}
+use Rattle.model.proofs.Laws.{decide, if-law}
 use Rattle.model.proofs.Answers.{accepted-is}
+use Rattle.bench_script.specs.Chunks.{chunkSize, Cut, chunks}
+use Rattle.bench_script.specs.Chunks as script
+use Rattle.bench_script.proofs.Chunks.{words-append, few-words, many-words, every-script-is-cut}
 use Rattle.bench_open.proofs.Begins.{enough-words}
-use Rattle.bench_session.specs.Turns.{chunkSize, tailLines, endOf, playedTurn, firstTurn, wordsTurn}
-use Rattle.bench_session.specs.Whole.{Cut, chunksOf, chunks, turnsBytes, printedBytes}
-use Rattle.bench_session.specs.Whole as whole-session
-use Rattle.bench_session.proofs.Sessions.{few-words}
+use Rattle.bench_open.proofs.Longer.{table-same, answer-same}
+use Rattle.bench_session.specs.Turns.{tailLines, endOf, playedTurn, firstTurn, wordsTurn}
+use Rattle.bench_session.specs.Whole.{turnsBytes, printedBytes}
 
 -- ---- words and events of two parts
-
-words-append : (c d : List ℕ) → length c % 4 ≡ 0 → littleEndian (c ++ d) ≡ littleEndian c ++ littleEndian d
-unfolding littleEndian
-words-append [] d h = refl
-words-append (a ∷ []) d h = absurd (omega arith)
-words-append (a ∷ b ∷ []) d h = absurd (omega arith)
-words-append (a ∷ b ∷ c ∷ []) d h = absurd (omega arith)
-words-append (a ∷ b ∷ c ∷ e ∷ l) d h = ap (λ (s : List ℕ). (a + 2 ^ 8 * b + 2 ^ 16 * c + 2 ^ 24 * e) ∷ s) (words-append l d (omega arith))
 
 events-append : (k : ℕ) (r : Ring) (ws vs : List ℕ) → eventLines k r (ws ++ vs) ≡ eventLines k r ws ++ eventLines (k + length ws) (playAll r ws) vs
 unfolding eventLines playAll
@@ -85,8 +77,8 @@ joined k r ws vs a b e =
 
 pub after-opening : {bytes : List ℕ} {cs : List (List ℕ)} → Cut bytes cs → (k : ℕ) (r : Ring) → turnsBytes true k r cs ≡ whole k r (littleEndian bytes) (length bytes)
 unfolding turnsBytes wordsTurn playedTurn endOf whole
-after-opening (whole-session.last {c} h) k r = rw (ne-eqb (length c) chunkSize (λ e. omega arith)) (append-nil _)
-after-opening (whole-session.full {c} {d} {cs} h q) k r =
+after-opening (script.last {c} h) k r = rw (ne-eqb (length c) chunkSize (λ e. omega arith)) (append-nil _)
+after-opening (script.full {c} {d} {cs} h q) k r =
     let ws : List ℕ = littleEndian c in
     let e : length c % 4 ≡ 0 = omega arith in
     let f : length (c ++ d) % 4 ≡ length d % 4 = omega (arith, length-append c d) in
@@ -95,38 +87,6 @@ after-opening (whole-session.full {c} {d} {cs} h q) k r =
 
 -- ---- the opening
 
--- it looks at no more than the first 128 words
-module _ (ws vs : List ℕ) (long : 128 ≤ length ws) where
-  abbrev n : ℕ
-  n = bits 4 7 (getD ws 0 0)
-
-  head-same : getD (ws ++ vs) 0 0 ≡ getD ws 0 0
-  head-same = List·getD-append ws vs 0 0 (omega arith)
-
-  few : 1 + n ≤ length ws
-  few = omega arith
-
-  table-same : scriptTable (ws ++ vs) ≡ scriptTable ws
-  unfolding scriptTable
-  table-same =
-      rw (head-same, drop-append-le 1 ws vs (omega arith), take-append-le n (drop 1 ws) vs (simp length-drop (omega arith)))
-
-  key-same : (s : ℕ) → s < n → getD (ws ++ vs) (1 + s) 0 ≡ getD ws (1 + s) 0
-  key-same s h = List·getD-append ws vs 0 (1 + s) (omega (arith, few))
-
-  -- every key word passes in both, or in neither
-  keys-same : (f : ℕ → ℕ) → all n (λ s. eqb (getD (ws ++ vs) (1 + s) 0) (f s)) ≡ all n (λ s. eqb (getD ws (1 + s) 0) (f s))
-  keys-same f =
-      same-test _ _
-      (λ h. all-in n _ (λ s l. ap (λ (w : ℕ). eqb w (f s)) (sym (key-same s l)) ∙ all-out n _ h s l))
-      (λ h. all-in n _ (λ s l. ap (λ (w : ℕ). eqb w (f s)) (key-same s l) ∙ all-out n _ h s l))
-
-  answer-same : scriptAnswer (ws ++ vs) ≡ scriptAnswer ws
-  unfolding scriptAnswer
-  answer-same =
-      let more : 1 + n ≤ length (ws ++ vs) = omega (arith, few, length-append ws vs) in
-      rw (table-same, head-same, le-leb (1 + n) (length (ws ++ vs)) more, le-leb (1 + n) (length ws) few, keys-same (λ s. keyWord (key (scriptTable ws) s) false))
-
 -- the words ws of a script that ends after so many bytes
 unfoldable opening : List ℕ → ℕ → List ℕ
 opening ws bytes =
@@ -134,21 +94,13 @@ opening ws bytes =
     then whole 0 (initial (scriptTable ws)) (drop (1 + size (scriptTable ws)) ws) bytes
     else lineBytes (0 ∷ scriptAnswer ws ∷ 0 ∷ [])
 
-many-words : (l : List ℕ) → length l ≤ 4 * length (littleEndian l) + 3
-unfolding littleEndian
-many-words [] = omega arith
-many-words (a ∷ []) = omega arith
-many-words (a ∷ b ∷ []) = omega arith
-many-words (a ∷ b ∷ c ∷ []) = omega arith
-many-words (a ∷ b ∷ c ∷ d ∷ l) = let h = many-words l in omega arith
-
 turns-open : {bytes : List ℕ} {cs : List (List ℕ)} → Cut bytes cs → (r : Ring) → turnsBytes false 0 r cs ≡ opening (littleEndian bytes) (length bytes)
 unfolding turnsBytes wordsTurn firstTurn playedTurn endOf opening whole
-turns-open (whole-session.last {c} h) r = decide (isAccepted (scriptAnswer (littleEndian c))) accepted (λ e. rw e (append-nil _))
+turns-open (script.last {c} h) r = decide (isAccepted (scriptAnswer (littleEndian c))) accepted (λ e. rw e (append-nil _))
   where
     accepted : isAccepted (scriptAnswer (littleEndian c)) ≡ true → turnsBytes false 0 r (c ∷ []) ≡ opening (littleEndian c) (length c)
     accepted e = rw (e, ne-eqb (length c) chunkSize (λ x. omega arith)) (append-nil _)
-turns-open (whole-session.full {c} {d} {cs} h q) r = decide (isAccepted (scriptAnswer ws)) accepted refused
+turns-open (script.full {c} {d} {cs} h q) r = decide (isAccepted (scriptAnswer ws)) accepted refused
   where
     ws : List ℕ
     ws = littleEndian c
@@ -230,22 +182,6 @@ session-prints {b} q r = turns-open q r ∙ printed b
 
 -- ---- every script
 
-cut-of : (k : ℕ) (script : List ℕ) → length script ≤ k → Cut script (chunksOf k script)
-unfolding chunksOf
-cut-of zero script h = whole-session.last {c = script} (omega arith)
-cut-of (suc k) script h =
-    if-law (Cut script) (ltb (length script) chunkSize) (script ∷ []) (take chunkSize script ∷ chunksOf k (drop chunkSize script))
-    (λ t. whole-session.last (ltb-true (length script) chunkSize t))
-    (λ f.
-    let l : chunkSize ≤ length script = ltb-false (length script) chunkSize f in
-    subst (λ (s : List ℕ). Cut s (take chunkSize script ∷ chunksOf k (drop chunkSize script))) (take-append-drop chunkSize script)
-    (whole-session.full (length-take-le chunkSize script l) (cut-of k (drop chunkSize script) (simp length-drop (omega arith)))))
-
--- every list of bytes is cut into chunks
-pub every-script-is-cut : (script : List ℕ) → Cut script (chunks script)
-unfolding chunks
-every-script-is-cut script = cut-of (length script) script (omega arith)
-
--- so for every list of bytes, what its chunks print one after the other is what the definition says of it
+-- for every list of bytes, what its chunks print one after the other is what the definition says of it
 pub every-script-prints : (script : List ℕ) (r : Ring) → turnsBytes false 0 r (chunks script) ≡ printedBytes (bench script)
 every-script-prints script r = session-prints (every-script-is-cut script) r

@@ -17,7 +17,8 @@ use Rattle.model.specs.declared.answer.Answer.the-variants.{NotAnEvent}
 use Rattle.model.proofs.Words.{reads-out}
 use Rattle.bench_report.specs.Report.{endBytes}
 use Rattle.bench_session.specs.Playing.{AllPlayed}
-use Rattle.bench_session.specs.Turns.{chunkSize, tailLines, endOf, playedTurn, Stepped}
+use Rattle.bench_script.specs.Chunks.{chunkSize}
+use Rattle.bench_session.specs.Turns.{tailLines, endOf, playedTurn, Stepped}
 use Rattle.bench_session.specs.declared.turn.Session.{Session}
 
 -- ---- the tail

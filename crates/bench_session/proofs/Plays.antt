@@ -13,19 +13,15 @@ use Rattle.bench_lines.specs.Decimal.{lineBytes, linesBytes}
 use Rattle.bench_lines.specs.Put.{Put}
 use Rattle.bench_lines.proofs.Puts.{put-none, put-more, put-as}
 use Rattle.model.specs.Ring.{Ring}
-use Rattle.model.specs.WellFormed.{WellFormed}
 use Rattle.model.specs.Answers.{numberOf}
 use Rattle.model.specs.Words.{decode, readsAsRing}
 use Rattle.model.specs.Play.{playWord, playAll}
-use Rattle.model.specs.Buffer.{Written, playBuffer}
+use Rattle.model.specs.Buffer.{playBuffer}
 use Rattle.model.specs.Bench.{eventLines}
 use Rattle.model.specs.declared.answer.Answer.{Answer}
 use Rattle.model.proofs.Laws.{decide}
-use Rattle.model.proofs.Words.{decoded-back}
-use Rattle.model.proofs.Decoded.{reads-well}
-use Rattle.model.proofs.RoundTrip.{round-trip}
-use Rattle.model.proofs.WellFormedPlay.{word-well}
-use Rattle.model.proofs.Follows as model
+use Rattle.answers.specs.Applied.{written}
+use Rattle.event_play.proofs.Played.{still, ring-after, answer-is}
 use Rattle.bench_script.specs.Position.{readAt}
 use Rattle.bench_script.specs.declared.Next.the-variants.{Word, End}
 use Rattle.bench_script.specs.declared.Reading.{Reading}
@@ -33,33 +29,16 @@ use Rattle.bench_session.specs.Playing.{OnePlayed, AllPlayed}
 
 -- ---- one word
 
-module _ (ws : List ℕ) (reads : readsAsRing ws ≡ true) (w : ℕ) where
-  abbrev r : Ring
-  r = decode ws
-
-  abbrev well : WellFormed r
-  well = reads-well ws reads
-
-  followed : playBuffer ws w ≡ model.written (playWord r w)
-  followed = ap (λ (l : List ℕ). playBuffer l w) (decoded-back ws reads) ∙ model.follows r well w
-
-  module _ {ws' : List ℕ} (e : ws' ≡ playBuffer ws w .words) where
-    pub still : readsAsRing ws' ≡ true
-    still = ap readsAsRing e ∙ model.still-reads ws w reads
-
-    ring-after : decode ws' ≡ playWord r w .ring
-    ring-after = ap decode (e ∙ ap (λ (q : Written). q .words) followed) ∙ round-trip (playWord r w .ring) (word-well r w well)
-
-    pub one-played : {k n m at end : ℕ} {out out' : List ℕ} (a : Answer) → numberOf a ≡ playBuffer ws w .answer → n ≡ numberOf a → m ≡ length (decode ws' .messages)
-        → Put out out' at end (lineBytes (k ∷ n ∷ m ∷ [])) → end ≤ at + 63 → OnePlayed ws w k ws' out out' at end
-    one-played {k} {n} {m} a f g h p l =
-        let answer : numberOf a ≡ playWord r w .answer = f ∙ ap (λ (q : Written). q .answer) followed in
-        record {
-          reads = still;
-          ring = ring-after;
-          put = put-as p (rw (g ∙ answer, h ∙ ap (λ (ρ : Ring). length (ρ .messages)) ring-after));
-          room = l;
-        }
+module _ (ws : List ℕ) (reads : readsAsRing ws ≡ true) (w : ℕ) {ws' : List ℕ} (a : Answer) (e : written a ws' ≡ playBuffer ws w) where
+  pub one-played : {k n m at end : ℕ} {out out' : List ℕ} → n ≡ numberOf a → m ≡ length (decode ws' .messages)
+      → Put out out' at end (lineBytes (k ∷ n ∷ m ∷ [])) → end ≤ at + 63 → OnePlayed ws w k ws' out out' at end
+  one-played {k} {n} {m} g h p l =
+      record {
+        reads = still ws reads w a e;
+        ring = ring-after ws reads w a e;
+        put = put-as p (rw (g ∙ answer-is ws reads w a e, h ∙ ap (λ (ρ : Ring). length (ρ .messages)) (ring-after ws reads w a e)));
+        room = l;
+      }
 
 -- ---- what the reader gives
 

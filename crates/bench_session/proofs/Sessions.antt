@@ -2,85 +2,51 @@
 use mathlib.Core.Path.{_≡_, refl, sym, ap, _∙_}
 use mathlib.Core.Bool.{Bool, true, false}
 use mathlib.Core.List.{List, [], _∷_}
-use Prim.Native.Nat.{ℕ, _+_, _-_, _*_, _≤_}
+use Prim.Native.Nat.{ℕ, _+_, _*_, _≤_}
 use native.Mathlib.Omega.{arith}
-use borrow.Author.Tests.{eq-eqb, ne-eqb}
-use lib.ListN.{length, take, drop, length-drop}
-use lib.Seq.{take-all}
+use lib.ListN.{length, drop, length-drop}
 use Rattle.bench_lines.specs.Decimal.{lineBytes}
 use Rattle.bench_lines.specs.Put.{Put}
 use Rattle.model.specs.Choice.{if_then_else_}
 use Rattle.model.specs.Leafset.{size}
-use Rattle.model.specs.Ring.{Ring, initial}
+use Rattle.model.specs.Ring.{Ring}
 use Rattle.model.specs.Answers.{numberOf, isAccepted}
-use Rattle.model.specs.Words.{ringLength, encode, decodeTable, decode, readsAsRing}
-use Rattle.model.specs.Buffer.{Written}
-use Rattle.model.specs.Bench.{littleEndian, scriptTable, scriptAnswer}
+use Rattle.model.specs.Words.{ringLength, decodeTable, decode}
+use Rattle.model.specs.Bench.{littleEndian, scriptAnswer}
 use Rattle.model.specs.declared.answer.Answer.{Answer}
 use Rattle.model.proofs.Laws.{clash}
-use Rattle.model.proofs.Answers.{accepted-is}
 use Rattle.answers.specs.Applied.{written}
 use Rattle.bench_open.specs.Beginning.{openScript}
-use Rattle.bench_open.proofs.Begins.{enough-words, initial-reads, initial-back}
-use Rattle.bench_session.specs.Turns.{Turn, Ready, chunkSize, playedTurn, firstTurn, wordsTurn, turn, Stepped}
+use Rattle.bench_open.proofs.Opened.{Opened, the-answer, refused-ring, nodes-are}
+use Rattle.bench_script.specs.Chunks.{chunkSize}
+use Rattle.bench_script.proofs.Chunks.{few-words}
+use Rattle.bench_session.specs.Turns.{Turn, Ready, playedTurn, firstTurn, wordsTurn, turn, Stepped}
 use Rattle.bench_session.specs.declared.turn.Session.{Session}
 
 -- ---- the first chunk
 
-pub record Opened (ws script : List ℕ) : Type 0 where
-  pub accepted : isAccepted (scriptAnswer script) ≡ true
-  pub enough : 1 + size (scriptTable script) ≤ length script
-  pub reads : readsAsRing ws ≡ true
-  pub ring : decode ws ≡ initial (scriptTable script)
-
 module _ (ws script : List ℕ) {ws' : List ℕ} {n : ℕ} (a : Answer) (e : written a ws' ≡ openScript ws script) (number : n ≡ numberOf a) where
-  the-answer : numberOf a ≡ scriptAnswer script
-  unfolding openScript
-  the-answer = ap (λ (w : Written). w .answer) e
-
-  pub opened-ring : n ≡ 0 → Opened ws' script
-  unfolding openScript
-  opened-ring z =
-      let yes' : isAccepted (scriptAnswer script) ≡ true = ap isAccepted (sym the-answer) ∙ eq-eqb (numberOf a) 0 (sym number ∙ z) in
-      let ok : scriptAnswer script ≡ 0 = accepted-is (scriptAnswer script) yes' in
-      let words : ws' ≡ encode (initial (scriptTable script)) = ap (λ (w : Written). w .words) e ∙ rw yes' in
-      record {
-        accepted = yes';
-        enough = enough-words script ok;
-        reads = ap readsAsRing words ∙ initial-reads script ok;
-        ring = ap decode words ∙ initial-back script ok;
-      }
-
   pub refused-script : (bytes : ℕ) {out out' : List ℕ} {end : ℕ} → (n ≡ 0 → ⊥) → length ws ≡ ringLength → Put out out' 0 end (lineBytes (0 ∷ n ∷ 0 ∷ []))
       → Stepped (firstTurn script bytes) ws' out out' (record { more = false; opened = false; count = 0; end = end })
-  unfolding openScript firstTurn
+  unfolding firstTurn
   refused-script bytes d long p =
-      let no' : isAccepted (scriptAnswer script) ≡ false = ap isAccepted (sym the-answer) ∙ ne-eqb (numberOf a) 0 (λ z. d (number ∙ z)) in
-      let words : ws' ≡ ws = ap (λ (w : Written). w .words) e ∙ rw no' in
-      rw no'
+      let r = refused-ring ws script a e number d in
+      rw (r .refused)
       record {
         more = refl;
         opened = refl;
         count = refl;
-        put = rw (← the-answer, ← number) p;
-        long = ap length words ∙ long;
+        put = rw (← the-answer ws script a e number, ← number) p;
+        long = ap length (r .kept) ∙ long;
         reads = λ h. clash h refl;
         ring = λ h. clash h refl;
       }
 
--- the words after the first n + 1, as the code takes them
-pub the-rest : (script : List ℕ) {m n : ℕ} → m ≡ n → take (length script - (1 + m)) (drop (1 + m) script) ≡ drop (1 + n) script
-the-rest script {m} e = take-all (length script - (1 + m)) (drop (1 + m) script) (simp length-drop (omega arith)) ∙ ap (λ (k : ℕ). drop (1 + k) script) e
-
 module _ {ws script : List ℕ} (o : Opened ws script) where
-  pub nodes-are : size (decodeTable ws) ≡ size (scriptTable script)
-  unfolding decode initial
-  nodes-are = ap (λ (r : Ring). size (r .table)) (o .ring)
-
   pub first-played : (bytes : ℕ) {out out' ws' part : List ℕ} {s : Session} → part ≡ drop (1 + size (decodeTable ws)) script
       → Stepped (playedTurn 0 (decode ws) part bytes) ws' out out' s → Stepped (firstTurn script bytes) ws' out out' s
   unfolding firstTurn
-  first-played bytes e s = rw (o .accepted) (rw (e, nodes-are, o .ring) at s)
+  first-played bytes e s = rw (o .accepted) (rw (e, nodes-are o, o .ring) at s)
 
 -- ---- any chunk
 
@@ -98,14 +64,6 @@ pub turn-loaded : (already : Bool) (k : ℕ) (r : Ring) (chunk : List ℕ) {scri
 turn-loaded already k r chunk e p = rw e at p
 
 -- a chunk has at most 1,024 events
-
-pub few-words : (l : List ℕ) → 4 * length (littleEndian l) ≤ length l
-unfolding littleEndian
-few-words [] = omega arith
-few-words (a ∷ []) = omega arith
-few-words (a ∷ b ∷ []) = omega arith
-few-words (a ∷ b ∷ c ∷ []) = omega arith
-few-words (a ∷ b ∷ c ∷ d ∷ l) = let h = few-words l in omega arith
 
 few-first : (b : Bool) (p q : Turn) (n : ℕ) → p .events ≤ n → q .events ≤ n → (if b then p else q) .events ≤ n
 few-first true p q n h i = h

@@ -15,12 +15,9 @@ use Rattle.model.specs.Words.{ringLength, decode, readsAsRing}
 use Rattle.model.specs.Play.{playAll}
 use Rattle.model.specs.Bench.{Line, littleEndian, eventLines, scriptTable, scriptAnswer}
 use Rattle.model.specs.declared.answer.Answer.the-variants.{NotAnEvent}
+use Rattle.bench_script.specs.Chunks.{chunkSize}
 use Rattle.bench_report.specs.Report.{endBytes}
 use Rattle.bench_session.specs.declared.turn.Session.{Session}
-
--- a chunk of the input that is shorter than this is the last
-abbrev pub chunkSize : ℕ
-chunkSize = 4096
 
 -- what a chunk prints; the ring, the count of events and whether a ring is open after it; whether there is more to come
 pub record Turn : Type 0 where

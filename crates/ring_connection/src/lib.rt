@@ -14,7 +14,7 @@ use word_ring::PairWord;
 use word_ring::place;
 
 // Whether x holds z.
-fn holds(words: &[u32], x: NodeNumber, z: NodeNumber) -> bool
+pub fn holds(words: &[u32], x: NodeNumber, z: NodeNumber) -> bool
     requires words { ⌜ (length (now words) ≡ ringLength) × (x .0 < 64) × (z .0 < 64) ⌝ }
     ensures value { λ r. ⌜ r ≡ heldAt (now (words .entry)) (x .0) (z .0) ⌝ }
 {
@@ -58,6 +58,16 @@ fn apart(words: &[u32], set: u64, a: NodeNumber) -> u64
         todo = sets::rest(todo) | found;
     }
     unseen
+}
+
+// The members of the set that are connected to its member a.
+pub fn group(words: &[u32], set: u64, a: NodeNumber) -> u64
+    requires words { ⌜ (length (now words) ≡ ringLength) × Closed (decode (now words)) (ofBits set)
+        × (ofBits set (a .0) ≡ true) ⌝ }
+    ensures members { λ r. ⌜ ((b : ℕ)
+        → ofBits r b ≡ (ofBits set b && model.connected (decode (now (words .entry))) (a .0) b)) ⌝ }
+{
+    sets::minus(set, apart(words, set, a))
 }
 
 // Whether a and b are connected.

@@ -1,7 +1,11 @@
+use mathlib.Core.Path.{ap}
+use Prim.Native.Nat.{ℕ, _+_}
 use native.Mathlib.Omega.{arith}
 use lib.ListN.{length-take, length-drop}
 use borrow.Author.Needs.{needs}
-use Rattle.bench_session.proofs.Sessions.{refused-script, opened-ring, nodes-are, the-rest, first-played}
+use Rattle.bench_script.proofs.Chunks.{rest-from}
+use Rattle.bench_open.proofs.Opened.{opened-ring, nodes-are}
+use Rattle.bench_session.proofs.Sessions.{refused-script, first-played}
 use Rattle.bench_session.proofs.begin.Statement.{statement}
 use Rattle.bench_session.proofs.begin.Tie as tie
 
@@ -25,7 +29,7 @@ play-requires c κs =
 returns-2 : tie.Need-returns-2
 returns-2 c =
     let o = opened-ring _ _ (c .before .before .before .before .before .before .before .before .before .before .before .before .before .before .open-script .result) (c .before .before .before .before .before .before .before .before .before .before .before .before .before .before .open-script .ensures) (c .before .before .before .before .before .before .before .before .before .before .before .number .ensures) (c .before .before .before .before .before .before .before .before .before .before .if1 .left) in
-    first-played o _ (the-rest (c .before .before .before .before .before .before .before .before .before .before .before .before .before .before .before .before .before .before .before .args .script .now) (c .before .before .before .before .before .before .before .before .nodes .ensures .0)) (c .before .before .before .before .play .ensures)
+    first-played o _ (rest-from (c .before .before .before .before .before .before .before .before .before .before .before .before .before .before .before .before .before .before .before .args .script .now) (ap (λ (n : ℕ). 1 + n) (c .before .before .before .before .before .before .before .before .nodes .ensures .0))) (c .before .before .before .before .play .ensures)
 
 pub begin-spec : {M : Type 1} → statement M
 begin-spec =

@@ -1,0 +1,4 @@
+pub mod Points
+pub mod Partings
+pub mod Accounts
+pub mod Whole

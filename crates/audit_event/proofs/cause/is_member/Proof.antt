@@ -1,0 +1,19 @@
+use mathlib.Core.Path.{sym}
+use native.Mathlib.Omega.{arith}
+use Rattle.model.proofs.Laws.{is-false}
+use Rattle.model.proofs.Bits.{bit-below}
+use borrow.Author.Needs.{needs}
+use Rattle.audit_event.proofs.cause.is_member.Statement.{statement}
+use Rattle.audit_event.proofs.cause.is_member.Tie as tie
+
+returns : tie.Need-returns
+returns c = sym (is-false _ (λ t. absurd (omega (arith, bit-below 64 _ _ (c .before .before .fits .set .fits) t))))
+
+has-requires : tie.Need-has-requires
+has-requires c κs = search needs
+
+returns-2 : tie.Need-returns-2
+returns-2 c = search needs
+
+pub is-member-spec : {M : Type 1} → statement M
+is-member-spec = tie.close (tie.spec returns has-requires returns-2)

@@ -1,0 +1,43 @@
+use native.Mathlib.Omega.{arith}
+use Rattle.bench_lines.proofs.Puts.{put-as, put-more}
+use Rattle.audit_event.proofs.Tells.{parted-line}
+use borrow.Author.Needs.{needs}
+use Rattle.audit_event.proofs.tell.put_parted.Statement.{statement}
+use Rattle.audit_event.proofs.tell.put_parted.Tie as tie
+
+slice-aggregate-put-numbered : tie.Need-slice-aggregate-put-numbered
+slice-aggregate-put-numbered c = search needs
+
+put-numbered-requires : tie.Need-put-numbered-requires
+put-numbered-requires c κs = search needs
+
+put-byte-requires : tie.Need-put-byte-requires
+put-byte-requires c κs = search needs
+
+put-sides-requires : tie.Need-put-sides-requires
+put-sides-requires c κs = search needs
+
+put-byte-requires-2 : tie.Need-put-byte-requires-2
+put-byte-requires-2 c κs = search needs
+
+same-length : tie.Need-same-length
+same-length c = search needs
+
+returns : tie.Need-returns
+returns c =
+    let before = put-more (c .before .before .before .before .before .before .before .before .before .before .before .before .before .before .put-numbered .ensures .0) (c .before .before .before .before .before .before .before .before .before .before .put-byte .ensures) in (
+      λ r r' a is n. put-as (put-more (put-more before (c .before .before .before .before .before .before .put-sides .ensures .0 r r' a is n)) (c .before .before .put-byte2 .ensures)) (parted-line _ r r' n),
+      omega (arith, c .before .before .before .before .before .before .before .before .before .before .before .before .before .before .put-numbered .ensures .1, c .before .before .before .before .before .before .before .before .before .before .put-byte .ensures .ends, c .before .before .before .before .before .before .put-sides .ensures .1, c .before .before .put-byte2 .ensures .ends),
+    )
+
+pub put-parted-spec : {M : Type 1} → statement M
+put-parted-spec =
+    tie.close
+    (tie.spec
+    slice-aggregate-put-numbered
+    put-numbered-requires
+    put-byte-requires
+    put-sides-requires
+    put-byte-requires-2
+    same-length
+    returns)

@@ -1,0 +1,4 @@
+pub mod Joined
+pub mod Auditing
+pub mod Turning
+pub mod Beginning

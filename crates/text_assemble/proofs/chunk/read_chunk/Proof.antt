@@ -1,0 +1,64 @@
+use mathlib.Core.Path.{_≡_, refl, sym, _∙_}
+use Prim.Native.Nat.{_-_}
+use native.Mathlib.Omega.{arith}
+use lib.ListN.{length}
+use Rattle.text_assemble.specs.Chunks.{progressOf}
+use Rattle.text_assemble.proofs.Steps.{ReadTo, none-read, more-read, all-read}
+use borrow.Author.Needs.{needs}
+use Rattle.text_assemble.proofs.chunk.read_chunk.Statement.{statement}
+use Rattle.text_assemble.proofs.chunk.read_chunk.Tie as tie
+
+abbrev Inv-loop : tie.InvT-loop
+Inv-loop bytes keys₀ out₀ read₀ i₀ i-end keys out read i =
+    (i-end ≡ length bytes) × ReadTo (progressOf (read₀ .reader) keys₀) bytes (read₀ .reader .line) (read .reader) keys out₀ out (read .end) i
+
+abbrev μ-loop : tie.MeasureT-loop
+μ-loop bytes keys₀ out₀ read₀ i₀ i-end keys out read i = length bytes - i
+
+loop-holds : tie.Need-loop-holds Inv-loop μ-loop
+loop-holds c = (refl, none-read _ _ _ _ (c .before .before .before .pre .0) (c .before .before .before .pre .1))
+
+shared-slice-read-read-byte : tie.Need-shared-slice-read-read-byte Inv-loop μ-loop
+shared-slice-read-read-byte c = search needs
+
+read-byte-requires : tie.Need-read-byte-requires Inv-loop μ-loop
+read-byte-requires c κs =
+    let t = c .before .before .before .before .before .loop .inv .1 in
+    let pre = c .before .before .before .before .before .before .before .before .before .pre in
+    (t .reached .bounded, omega (arith, t .lines, pre .2), t .reached .bounded-keys, omega (arith, t .room, t .reached .put .long, pre .3))
+
+add-i : tie.Need-add-i Inv-loop μ-loop
+add-i c = search needs
+
+loop-less : tie.Need-loop-less Inv-loop μ-loop
+loop-less c = search needs
+
+loop-again : tie.Need-loop-again Inv-loop μ-loop
+loop-again c = (c .before .before .before .before .before .before .before .before .before .before .loop .inv .0, more-read (c .before .before .before .before .before .before .before .before .before .before .loop .inv .1) (search needs) (c .before .before .before .before .read-byte .ensures))
+
+same-length : tie.Need-same-length Inv-loop μ-loop
+same-length c = c .before .loop .inv .1 .reached .bounded-keys .long ∙ sym (c .before .before .before .before .before .pre .1 .long)
+
+same-length-2 : tie.Need-same-length-2 Inv-loop μ-loop
+same-length-2 c = c .before .loop .inv .1 .reached .put .long
+
+returns : tie.Need-returns Inv-loop μ-loop
+returns c =
+    let l = c .before .loop in
+    (all-read (l .inv .1) (omega (arith, l .inv .0)), omega (arith, l .inv .1 .lines, l .inv .1 .within))
+
+pub read-chunk-spec : {M : Type 1} → statement M
+read-chunk-spec =
+    tie.close
+    (tie.spec
+    Inv-loop
+    μ-loop
+    loop-holds
+    shared-slice-read-read-byte
+    read-byte-requires
+    add-i
+    loop-less
+    loop-again
+    same-length
+    same-length-2
+    returns)

@@ -1,0 +1,71 @@
+use mathlib.Core.Path.{_≡_}
+use Prim.Native.Nat.{_+_, _*_, _-_, _≤_}
+use native.Mathlib.Omega.{arith}
+use lib.ListN.{take}
+use Rattle.bench_lines.specs.Put.{Put}
+use Rattle.text_form.specs.Assemble.{keyBytes}
+use Rattle.bench_lines.proofs.Puts.{put-as, put-more}
+use Rattle.text_assemble.proofs.Gives.{word-length, no-keys, keys-more}
+use borrow.Author.Needs.{needs}
+use Rattle.text_assemble.proofs.put.put_keys.Statement.{statement}
+use Rattle.text_assemble.proofs.put.put_keys.Tie as tie
+
+abbrev Inv-loop : tie.InvT-loop
+Inv-loop keys n out₀ at end₀ i₀ out end i = (i ≤ n) × (end ≡ at + 4 * i) × Put out₀ out at end (keyBytes (take i keys))
+
+abbrev μ-loop : tie.MeasureT-loop
+μ-loop keys n out₀ at end₀ i₀ out end i = n - i
+
+loop-holds : tie.Need-loop-holds Inv-loop μ-loop
+loop-holds c = (search needs, search needs, no-keys _ _ (c .before .before .args .keys .now))
+
+mul-t9 : tie.Need-mul-t9 Inv-loop μ-loop
+mul-t9 c = search needs
+
+shared-slice-read-t11 : tie.Need-shared-slice-read-t11 Inv-loop μ-loop
+shared-slice-read-t11 c = let l = c .before .before .before .before .before .pre .0 .long in search needs
+
+new-requires : tie.Need-new-requires Inv-loop μ-loop
+new-requires c κs = c .before .before .before .before .before .pre .0 .each (c .before .before .loop .i)
+
+put-word-requires : tie.Need-put-word-requires Inv-loop μ-loop
+put-word-requires c κs = omega (arith, c .before .before .before .before .loop .inv .2 .long)
+
+add-i : tie.Need-add-i Inv-loop μ-loop
+add-i c = search needs
+
+loop-less : tie.Need-loop-less Inv-loop μ-loop
+loop-less c = search needs
+
+loop-again : tie.Need-loop-again Inv-loop μ-loop
+loop-again c =
+    let l = c .before .before .before .before .before .before .before .loop in
+    let w = c .before .before .put-word .ensures in
+    let long = c .before .before .before .before .before .before .before .before .before .before .pre .0 .long in
+    (search needs, omega (arith, l .inv .1, w .ends, word-length (c .before .before .before .before .new .result .0)), put-as (put-more (l .inv .2) w) (keys-more (c .before .before .before .before .before .before .before .before .before .before .args .keys .now) (l .i) (c .before .before .before .before .new .result .0) (omega arith) (c .before .before .before .before .new .ensures)))
+
+same-length : tie.Need-same-length Inv-loop μ-loop
+same-length c = c .before .loop .inv .2 .long
+
+returns : tie.Need-returns Inv-loop μ-loop
+returns c =
+    let l = c .before .loop in
+    let e : l .i ≡ c .before .before .before .before .args .n = omega arith in
+    (rw e at (l .inv .2), rw e at (l .inv .1))
+
+pub put-keys-spec : {M : Type 1} → statement M
+put-keys-spec =
+    tie.close
+    (tie.spec
+    Inv-loop
+    μ-loop
+    loop-holds
+    mul-t9
+    shared-slice-read-t11
+    new-requires
+    put-word-requires
+    add-i
+    loop-less
+    loop-again
+    same-length
+    returns)

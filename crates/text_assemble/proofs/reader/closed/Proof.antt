@@ -1,0 +1,79 @@
+use mathlib.Core.Path.{ap, _∙_}
+use Rattle.text_form.specs.Assemble.{silent}
+use Rattle.text_assemble.proofs.Readers.{closed-at-fault, closed-start, closed-sides, closed-keys, closed-events, closed-end}
+use borrow.Author.Needs.{needs}
+use Rattle.text_assemble.proofs.reader.closed.Statement.{statement}
+use Rattle.text_assemble.proofs.reader.closed.Tie as tie
+
+silent-requires : tie.Need-silent-requires
+silent-requires c κs = search needs
+
+returns : tie.Need-returns
+returns c = c .silent .ensures ∙ closed-at-fault _ (c .before .if1 .taken)
+
+enum-told : tie.Need-enum-told
+enum-told c = search needs
+
+silent-requires-2 : tie.Need-silent-requires-2
+silent-requires-2 c κs = search needs
+
+enum-told-2 : tie.Need-enum-told-2
+enum-told-2 c = search needs
+
+stopped-requires : tie.Need-stopped-requires
+stopped-requires c κs = search needs
+
+silent-requires-3 : tie.Need-silent-requires-3
+silent-requires-3 c κs = search needs
+
+enum-told-3 : tie.Need-enum-told-3
+enum-told-3 c = search needs
+
+enum-told-4 : tie.Need-enum-told-4
+enum-told-4 c = search needs
+
+silent-requires-4 : tie.Need-silent-requires-4
+silent-requires-4 c κs = search needs
+
+enum-told-5 : tie.Need-enum-told-5
+enum-told-5 c = search needs
+
+silent-requires-5 : tie.Need-silent-requires-5
+silent-requires-5 c κs = search needs
+
+returns-2 : tie.Need-returns-2
+returns-2 c = c .silent2 .ensures ∙ closed-start _ (c .before .before .before .if1 .left) (c .before .enum-told .given .1)
+
+returns-3 : tie.Need-returns-3
+returns-3 c = c .silent3 .ensures ∙ ap silent (c .before .stopped .ensures) ∙ closed-sides _ (c .before .before .before .before .if1 .left) (c .before .before .enum-told2 .given .1)
+
+returns-4 : tie.Need-returns-4
+returns-4 c = closed-keys _ (c .before .before .if1 .left) (c .enum-told3 .given .1)
+
+returns-5 : tie.Need-returns-5
+returns-5 c = c .silent4 .ensures ∙ closed-events _ (c .before .before .before .if1 .left) (c .before .enum-told4 .given .1)
+
+returns-6 : tie.Need-returns-6
+returns-6 c = c .silent5 .ensures ∙ closed-end _ (c .before .before .before .if1 .left) (c .before .enum-told5 .given .1)
+
+pub closed-spec : {M : Type 1} → statement M
+closed-spec =
+    tie.close
+    (tie.spec
+    silent-requires
+    returns
+    enum-told
+    silent-requires-2
+    enum-told-2
+    stopped-requires
+    silent-requires-3
+    enum-told-3
+    enum-told-4
+    silent-requires-4
+    enum-told-5
+    silent-requires-5
+    returns-2
+    returns-3
+    returns-4
+    returns-5
+    returns-6)

@@ -1,0 +1,4 @@
+pub mod Described
+pub mod Openings
+pub mod Pieces
+pub mod Steps

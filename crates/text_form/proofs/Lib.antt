@@ -1,0 +1,10 @@
+pub mod Base
+pub mod Tokens
+pub mod Reading
+pub mod Lines
+pub mod Tails
+pub mod Openings
+pub mod Scripts
+pub mod RoundTrip
+pub mod Blanks
+pub mod EmptyLines

@@ -1,0 +1,4 @@
+pub mod Ascii
+pub mod Names
+pub mod Describe
+pub mod Assemble
