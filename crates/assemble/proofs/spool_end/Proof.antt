@@ -6,35 +6,15 @@ use borrow.Author.Needs.{needs}
 use Rattle.assemble.proofs.spool_end.Statement.{statement}
 use Rattle.assemble.proofs.spool_end.Tie as tie
 
-close-requires : tie.Need-close-requires
-close-requires c κs = search needs
-
 slice-reshare-prefix-write-all : tie.Need-slice-reshare-prefix-write-all
 slice-reshare-prefix-write-all c = put-within (c .before .before .before .before .before .close .ensures .put)
 
 slice-aggregate-write-all : tie.Need-slice-aggregate-write-all
 slice-aggregate-write-all c = let h = put-within (c .before .before .before .before .before .before .close .ensures .put) in sym (simp length-take (omega arith))
 
-write-all-requires : tie.Need-write-all-requires
-write-all-requires c κs = search needs
-
-same-length : tie.Need-same-length
-same-length c = search needs
-
-same-length-2 : tie.Need-same-length-2
-same-length-2 c = search needs
-
-returns : tie.Need-returns
-returns c = search needs
-
 pub spool-end-spec : {M : Type 1} → statement M
 spool-end-spec =
     tie.close
     (tie.spec
-    close-requires
-    slice-reshare-prefix-write-all
-    slice-aggregate-write-all
-    write-all-requires
-    same-length
-    same-length-2
-    returns)
+    (λ c κs. search needs) slice-reshare-prefix-write-all slice-aggregate-write-all (λ c κs. search needs)
+    (λ c. search needs) (λ c. search needs) (λ c. search needs))

@@ -7,41 +7,11 @@ use borrow.Author.Needs.{needs}
 use Rattle.audit_event.proofs.report.Statement.{statement}
 use Rattle.audit_event.proofs.report.Tie as tie
 
-slice-aggregate-look : tie.Need-slice-aggregate-look
-slice-aggregate-look c = search needs
-
-look-requires : tie.Need-look-requires
-look-requires c κs = search needs
-
-put-event-requires : tie.Need-put-event-requires
-put-event-requires c κs = search needs
-
-slice-aggregate-torn : tie.Need-slice-aggregate-torn
-slice-aggregate-torn c = search needs
-
-slice-aggregate-torn-2 : tie.Need-slice-aggregate-torn-2
-slice-aggregate-torn-2 c = search needs
-
-torn-requires : tie.Need-torn-requires
-torn-requires c κs = search needs
-
-slice-aggregate-tell : tie.Need-slice-aggregate-tell
-slice-aggregate-tell c = search needs
-
-slice-aggregate-tell-2 : tie.Need-slice-aggregate-tell-2
-slice-aggregate-tell-2 c = search needs
-
 tell-requires : tie.Need-tell-requires
 tell-requires c κs =
     let start = c .before .before .before .before .before .before .before .before .before .before .before .before .before .before .before .before .before .before in
     let view = c .before .before .before .before .before .before .before .before .before .before .before .before .look .ensures in
     ((start .pre .1 .0 .2, view .0 .long, view .1 .1 .1 .0 .1), ((start .pre .1 .0 .0, start .pre .1 .0 .1, start .pre .0 .1), omega (arith, start .pre .1 .1, c .before .before .before .before .before .before .before .before .put-event .ensures .1, c .before .before .before .before .before .before .before .before .put-event .ensures .0 _ (view .1 .0) .long)))
-
-settled-requires : tie.Need-settled-requires
-settled-requires c κs = search needs
-
-same-length : tie.Need-same-length
-same-length c = search needs
 
 returns : tie.Need-returns
 returns c =
@@ -69,15 +39,6 @@ pub report-spec : {M : Type 1} → statement M
 report-spec =
     tie.close
     (tie.spec
-    slice-aggregate-look
-    look-requires
-    put-event-requires
-    slice-aggregate-torn
-    slice-aggregate-torn-2
-    torn-requires
-    slice-aggregate-tell
-    slice-aggregate-tell-2
-    tell-requires
-    settled-requires
-    same-length
-    returns)
+    (λ c. search needs) (λ c κs. search needs) (λ c κs. search needs) (λ c. search needs)
+    (λ c. search needs) (λ c κs. search needs) (λ c. search needs) (λ c. search needs) tell-requires
+    (λ c κs. search needs) (λ c. search needs) returns)

@@ -22,44 +22,14 @@ messages-requires c κs = long _ (c .before .pre .0)
 loop-holds : tie.Need-loop-holds Inv-loop μ-loop
 loop-holds c = looked-none _
 
-mul-acknowledgements : tie.Need-mul-acknowledgements Inv-loop μ-loop
-mul-acknowledgements c = search needs
-
-add-acknowledgements : tie.Need-add-acknowledgements Inv-loop μ-loop
-add-acknowledgements c = search needs
-
-mul-acknowledgements-2 : tie.Need-mul-acknowledgements-2 Inv-loop μ-loop
-mul-acknowledgements-2 c = search needs
-
 shared-slice-read-acknowledgements : tie.Need-shared-slice-read-acknowledgements Inv-loop μ-loop
 shared-slice-read-acknowledgements c = omega (arith, long _ (c .before .before .before .before .before .pre .0), room _ (c .before .before .before .before .before .pre .0), c .before .before .before .messages .ensures .0)
-
-tag-requires : tie.Need-tag-requires Inv-loop μ-loop
-tag-requires c κs = search needs
-
-mark-requires : tie.Need-mark-requires Inv-loop μ-loop
-mark-requires c κs = search needs
 
 add-acknowledgements-2 : tie.Need-add-acknowledgements-2 Inv-loop μ-loop
 add-acknowledgements-2 c = omega (arith, looked-few _ (c .before .before .before .before .loop .inv) .0, c .before .before .before .before .loop .inv .within, room _ (c .before .before .before .before .before .before .before .pre .0), c .mark .ensures .1)
 
-sender-requires : tie.Need-sender-requires Inv-loop μ-loop
-sender-requires c κs = search needs
-
-has-requires : tie.Need-has-requires Inv-loop μ-loop
-has-requires c κs = search needs
-
-mark-requires-2 : tie.Need-mark-requires-2 Inv-loop μ-loop
-mark-requires-2 c κs = search needs
-
 add-leaves : tie.Need-add-leaves Inv-loop μ-loop
 add-leaves c = omega (arith, looked-few _ (c .before .before .before .before .before .before .before .loop .inv) .1, c .before .before .before .before .before .before .before .loop .inv .within, room _ (c .before .before .before .before .before .before .before .before .before .before .pre .0), c .mark2 .ensures .1)
-
-add-i : tie.Need-add-i Inv-loop μ-loop
-add-i c = search needs
-
-loop-less : tie.Need-loop-less Inv-loop μ-loop
-loop-less c = search needs
 
 loop-again : tie.Need-loop-again Inv-loop μ-loop
 loop-again c =
@@ -79,22 +49,7 @@ pub look-spec : {M : Type 1} → statement M
 look-spec =
     tie.close
     (tie.spec
-    Inv-loop
-    μ-loop
-    messages-requires
-    loop-holds
-    mul-acknowledgements
-    add-acknowledgements
-    mul-acknowledgements-2
-    shared-slice-read-acknowledgements
-    tag-requires
-    mark-requires
-    add-acknowledgements-2
-    sender-requires
-    has-requires
-    mark-requires-2
-    add-leaves
-    add-i
-    loop-less
-    loop-again
-    returns)
+    Inv-loop μ-loop messages-requires loop-holds (λ c. search needs) (λ c. search needs) (λ c. search needs)
+    shared-slice-read-acknowledgements (λ c κs. search needs) (λ c κs. search needs) add-acknowledgements-2
+    (λ c κs. search needs) (λ c κs. search needs) (λ c κs. search needs) add-leaves (λ c. search needs)
+    (λ c. search needs) loop-again returns)

@@ -4,15 +4,10 @@ use borrow.Author.Needs.{needs}
 use Rattle.draw_places.proofs.between.Statement.{statement}
 use Rattle.draw_places.proofs.between.Tie as tie
 
-sub-result-2 : tie.Need-sub-result-2
-sub-result-2 c = search needs
-
 returns : tie.Need-returns
 unfolding betweenOf
 returns c = (refl, search needs)
 
 pub between-spec : {M : Type 1} → statement M
 between-spec =
-    tie.close
-    (tie.spec
-    (λ c. search needs) (λ c. search needs) (λ c. search needs) sub-result-2 returns)
+    tie.close (tie.spec (λ c. search needs) (λ c. search needs) (λ c. search needs) (λ c. search needs) returns)

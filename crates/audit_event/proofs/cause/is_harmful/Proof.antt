@@ -6,33 +6,6 @@ use borrow.Author.Needs.{needs}
 use Rattle.audit_event.proofs.cause.is_harmful.Statement.{statement}
 use Rattle.audit_event.proofs.cause.is_harmful.Tie as tie
 
-event-requires : tie.Need-event-requires
-event-requires c κs = search needs
-
-enum-told : tie.Need-enum-told
-enum-told c = search needs
-
-enum-told-2 : tie.Need-enum-told-2
-enum-told-2 c = search needs
-
-enum-known-e : tie.Need-enum-known-e
-enum-known-e c = search needs
-
-is-member-requires : tie.Need-is-member-requires
-is-member-requires c κs = search needs
-
-enum-told-3 : tie.Need-enum-told-3
-enum-told-3 c = search needs
-
-enum-told-4 : tie.Need-enum-told-4
-enum-told-4 c = search needs
-
-enum-told-5 : tie.Need-enum-told-5
-enum-told-5 c = search needs
-
-enum-told-6 : tie.Need-enum-told-6
-enum-told-6 c = search needs
-
 returns : tie.Need-returns
 returns c = λ ρ runs. ap (λ (e : Event). not (isHarmless ρ e)) (sym (c .enum-told .given .1) ∙ c .before .before .event .ensures)
 
@@ -58,19 +31,6 @@ pub is-harmful-spec : {M : Type 1} → statement M
 is-harmful-spec =
     tie.close
     (tie.spec
-    event-requires
-    enum-told
-    enum-told-2
-    enum-known-e
-    is-member-requires
-    enum-told-3
-    enum-told-4
-    enum-told-5
-    enum-told-6
-    returns
-    returns-2
-    returns-3
-    returns-4
-    returns-5
-    returns-6
-    returns-7)
+    (λ c κs. search needs) (λ c. search needs) (λ c. search needs) (λ c. search needs)
+    (λ c κs. search needs) (λ c. search needs) (λ c. search needs) (λ c. search needs) (λ c. search needs)
+    returns returns-2 returns-3 returns-4 returns-5 returns-6 returns-7)

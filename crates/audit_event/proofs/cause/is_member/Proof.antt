@@ -9,11 +9,5 @@ use Rattle.audit_event.proofs.cause.is_member.Tie as tie
 returns : tie.Need-returns
 returns c = sym (is-false _ (λ t. absurd (omega (arith, bit-below 64 _ _ (c .before .before .fits .set .fits) t))))
 
-has-requires : tie.Need-has-requires
-has-requires c κs = search needs
-
-returns-2 : tie.Need-returns-2
-returns-2 c = search needs
-
 pub is-member-spec : {M : Type 1} → statement M
-is-member-spec = tie.close (tie.spec returns has-requires returns-2)
+is-member-spec = tie.close (tie.spec returns (λ c κs. search needs) (λ c. search needs))

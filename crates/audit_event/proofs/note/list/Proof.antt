@@ -12,24 +12,6 @@ returns c = listed-not _ _ _ _ _ _ (c .before .pre .0) (c .before .pre .1) (λ t
 returns-2 : tie.Need-returns-2
 returns-2 c = listed-not _ _ _ _ _ _ (c .before .before .pre .0) (c .before .before .pre .1) (λ t h. absurd (omega arith))
 
-mul-counts : tie.Need-mul-counts
-mul-counts c = search needs
-
-slice-write-counts : tie.Need-slice-write-counts
-slice-write-counts c = search needs
-
-mul-words : tie.Need-mul-words
-mul-words c = search needs
-
-slice-write-words : tie.Need-slice-write-words
-slice-write-words c = search needs
-
-same-length : tie.Need-same-length
-same-length c = search needs
-
-same-length-2 : tie.Need-same-length-2
-same-length-2 c = search needs
-
 returns-3 : tie.Need-returns-3
 returns-3 c = listed-one _ _ _ _ _ _ (c .before .before .pre .0) (c .before .before .pre .1) (omega arith)
 
@@ -37,12 +19,5 @@ pub list-spec : {M : Type 1} → statement M
 list-spec =
     tie.close
     (tie.spec
-    returns
-    returns-2
-    mul-counts
-    slice-write-counts
-    mul-words
-    slice-write-words
-    same-length
-    same-length-2
-    returns-3)
+    returns returns-2 (λ c. search needs) (λ c. search needs) (λ c. search needs) (λ c. search needs)
+    (λ c. search needs) (λ c. search needs) returns-3)

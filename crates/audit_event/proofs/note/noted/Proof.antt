@@ -4,27 +4,6 @@ use borrow.Author.Needs.{needs}
 use Rattle.audit_event.proofs.note.noted.Statement.{statement}
 use Rattle.audit_event.proofs.note.noted.Tie as tie
 
-add-t4 : tie.Need-add-t4
-add-t4 c = search needs
-
-mark-requires : tie.Need-mark-requires
-mark-requires c κs = search needs
-
-cast-t6 : tie.Need-cast-t6
-cast-t6 c = search needs
-
-add-t7 : tie.Need-add-t7
-add-t7 c = search needs
-
-is-on-requires : tie.Need-is-on-requires
-is-on-requires c κs = search needs
-
-is-off-requires : tie.Need-is-off-requires
-is-off-requires c κs = search needs
-
-is-notice-requires : tie.Need-is-notice-requires
-is-notice-requires c κs = search needs
-
 returns : tie.Need-returns
 returns c =
     let few = c .before .before .before .before .before .before .before .before .before .pre .0 in
@@ -44,11 +23,5 @@ pub noted-spec : {M : Type 1} → statement M
 noted-spec =
     tie.close
     (tie.spec
-    add-t4
-    mark-requires
-    cast-t6
-    add-t7
-    is-on-requires
-    is-off-requires
-    is-notice-requires
-    returns)
+    (λ c. search needs) (λ c κs. search needs) (λ c. search needs) (λ c. search needs)
+    (λ c κs. search needs) (λ c κs. search needs) (λ c κs. search needs) returns)

@@ -4,9 +4,6 @@ use borrow.Author.Needs.{needs}
 use Rattle.audit_event.proofs.note.settled.Statement.{statement}
 use Rattle.audit_event.proofs.note.settled.Tie as tie
 
-begun-requires : tie.Need-begun-requires
-begun-requires c κs = search needs
-
 returns : tie.Need-returns
 returns c =
     let few = c .before .before .pre in
@@ -17,4 +14,4 @@ returns-2 : tie.Need-returns-2
 returns-2 c = (rw (c .if1 .left) refl, c .before .pre)
 
 pub settled-spec : {M : Type 1} → statement M
-settled-spec = tie.close (tie.spec begun-requires returns returns-2)
+settled-spec = tie.close (tie.spec (λ c κs. search needs) returns returns-2)

@@ -11,26 +11,11 @@ nodes-requires c κs = long _ (c .before .before .pre .0)
 running-requires : tie.Need-running-requires
 running-requires c κs = (long _ (c .before .before .before .pre .0), c .nodes .ensures .0, omega (arith, few _ (c .before .before .before .pre .0), c .nodes .ensures .0))
 
-look-requires : tie.Need-look-requires
-look-requires c κs = search needs
-
 messages-requires : tie.Need-messages-requires
 messages-requires c κs = long _ (c .before .before .before .before .before .pre .0)
 
-cast-t8 : tie.Need-cast-t8
-cast-t8 c = search needs
-
 find-requires : tie.Need-find-requires
 find-requires c κs = ((long _ (c .before .before .before .before .before .before .before .before .pre .0), c .before .before .before .before .before .nodes .ensures .0, omega (arith, few _ (c .before .before .before .before .before .before .before .before .pre .0), c .before .before .before .before .before .nodes .ensures .0)), c .before .before .before .before .before .before .before .before .pre .1)
-
-cast-t12 : tie.Need-cast-t12
-cast-t12 c = search needs
-
-add-t14 : tie.Need-add-t14
-add-t14 c = search needs
-
-same-length : tie.Need-same-length
-same-length c = search needs
 
 returns : tie.Need-returns
 returns c =
@@ -47,13 +32,5 @@ pub look-spec : {M : Type 1} → statement M
 look-spec =
     tie.close
     (tie.spec
-    nodes-requires
-    running-requires
-    look-requires
-    messages-requires
-    cast-t8
-    find-requires
-    cast-t12
-    add-t14
-    same-length
-    returns)
+    nodes-requires running-requires (λ c κs. search needs) messages-requires (λ c. search needs)
+    find-requires (λ c. search needs) (λ c. search needs) (λ c. search needs) returns)

@@ -14,36 +14,6 @@ nodes-requires c κs = long _ (c .before .before .before .before .pre .0)
 running-requires : tie.Need-running-requires
 running-requires c κs = (long _ (c .before .before .before .before .before .pre .0), c .nodes .ensures .0, omega (arith, few _ (c .before .before .before .before .before .pre .0), c .nodes .ensures .0))
 
-is-harmful-requires : tie.Need-is-harmful-requires
-is-harmful-requires c κs = search needs
-
-play-word-requires : tie.Need-play-word-requires
-play-word-requires c κs = search needs
-
-is-refusal-requires : tie.Need-is-refusal-requires
-is-refusal-requires c κs = search needs
-
-add-list : tie.Need-add-list
-add-list c = search needs
-
-list-requires : tie.Need-list-requires
-list-requires c κs = search needs
-
-event-requires : tie.Need-event-requires
-event-requires c κs = search needs
-
-noted-requires : tie.Need-noted-requires
-noted-requires c κs = search needs
-
-same-length : tie.Need-same-length
-same-length c = search needs
-
-same-length-2 : tie.Need-same-length-2
-same-length-2 c = search needs
-
-same-length-3 : tie.Need-same-length-3
-same-length-3 c = search needs
-
 returns : tie.Need-returns
 returns c =
     let start = c .before .before .before .before .before .before .before .before .before .before .before .before .before .before .before .before .before .before .before .before .before .before in
@@ -58,16 +28,6 @@ pub play-spec : {M : Type 1} → statement M
 play-spec =
     tie.close
     (tie.spec
-    nodes-requires
-    running-requires
-    is-harmful-requires
-    play-word-requires
-    is-refusal-requires
-    add-list
-    list-requires
-    event-requires
-    noted-requires
-    same-length
-    same-length-2
-    same-length-3
-    returns)
+    nodes-requires running-requires (λ c κs. search needs) (λ c κs. search needs) (λ c κs. search needs)
+    (λ c. search needs) (λ c κs. search needs) (λ c κs. search needs) (λ c κs. search needs)
+    (λ c. search needs) (λ c. search needs) (λ c. search needs) returns)

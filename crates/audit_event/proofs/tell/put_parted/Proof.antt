@@ -5,24 +5,6 @@ use borrow.Author.Needs.{needs}
 use Rattle.audit_event.proofs.tell.put_parted.Statement.{statement}
 use Rattle.audit_event.proofs.tell.put_parted.Tie as tie
 
-slice-aggregate-put-numbered : tie.Need-slice-aggregate-put-numbered
-slice-aggregate-put-numbered c = search needs
-
-put-numbered-requires : tie.Need-put-numbered-requires
-put-numbered-requires c κs = search needs
-
-put-byte-requires : tie.Need-put-byte-requires
-put-byte-requires c κs = search needs
-
-put-sides-requires : tie.Need-put-sides-requires
-put-sides-requires c κs = search needs
-
-put-byte-requires-2 : tie.Need-put-byte-requires-2
-put-byte-requires-2 c κs = search needs
-
-same-length : tie.Need-same-length
-same-length c = search needs
-
 returns : tie.Need-returns
 returns c =
     let before = put-more (c .before .before .before .before .before .before .before .before .before .before .before .before .before .before .put-numbered .ensures .0) (c .before .before .before .before .before .before .before .before .before .before .put-byte .ensures) in (
@@ -34,10 +16,5 @@ pub put-parted-spec : {M : Type 1} → statement M
 put-parted-spec =
     tie.close
     (tie.spec
-    slice-aggregate-put-numbered
-    put-numbered-requires
-    put-byte-requires
-    put-sides-requires
-    put-byte-requires-2
-    same-length
-    returns)
+    (λ c. search needs) (λ c κs. search needs) (λ c κs. search needs) (λ c κs. search needs)
+    (λ c κs. search needs) (λ c. search needs) returns)

@@ -12,18 +12,6 @@ returns c =
     let start = c .before .before .before .before .before .before in
     (λ s w a e l. none-told s w a (start .fits .torn .fits) (c .if1 .taken) e, (fresh-few (start .pre .1 .0 .2), omega arith))
 
-put-parted-requires : tie.Need-put-parted-requires
-put-parted-requires c κs = search needs
-
-put-verdict-requires : tie.Need-put-verdict-requires
-put-verdict-requires c κs = search needs
-
-counted-requires : tie.Need-counted-requires
-counted-requires c κs = search needs
-
-same-length : tie.Need-same-length
-same-length c = search needs
-
 returns-2 : tie.Need-returns-2
 returns-2 c =
     let start = c .before .before .before .before .before .before .before .before .before .before .before .before .before .before .before in
@@ -38,9 +26,5 @@ pub tell-spec : {M : Type 1} → statement M
 tell-spec =
     tie.close
     (tie.spec
-    returns
-    put-parted-requires
-    put-verdict-requires
-    counted-requires
-    same-length
+    returns (λ c κs. search needs) (λ c κs. search needs) (λ c κs. search needs) (λ c. search needs)
     returns-2)

@@ -5,27 +5,12 @@ use borrow.Author.Needs.{needs}
 use Rattle.text_assemble.proofs.chunk.close.Statement.{statement}
 use Rattle.text_assemble.proofs.chunk.close.Tie as tie
 
-read-byte-requires : tie.Need-read-byte-requires
-read-byte-requires c κs = search needs
-
-closed-requires : tie.Need-closed-requires
-closed-requires c κs = search needs
-
-cast-put-step : tie.Need-cast-put-step
-cast-put-step c = search needs
-
 put-step-requires : tie.Need-put-step-requires
 put-step-requires c κs =
     let pre = c .before .before .before .before .before .before .before .before .before .before .before .before .before .before .pre in
     let l = line-read (pre .0) (pre .1) (c .before .before .before .before .before .before .before .before .before .read-byte .ensures) in
     let s = closed-bounded (c .before .before .before .before .before .before .before .before .before .read-byte .result .reader) (l .bounded) in
     rw (c .before .before .before .closed .ensures) (s .reader, s .given, l .bounded-keys, omega (arith, s .keys, s .reader .keys), omega (arith, c .before .before .before .before .before .before .before .before .before .read-byte .ensures .gave .room, l .put .long, pre .3))
-
-same-length : tie.Need-same-length
-same-length c = search needs
-
-same-length-2 : tie.Need-same-length-2
-same-length-2 c = search needs
 
 returns : tie.Need-returns
 returns c =
@@ -36,10 +21,5 @@ pub close-spec : {M : Type 1} → statement M
 close-spec =
     tie.close
     (tie.spec
-    read-byte-requires
-    closed-requires
-    cast-put-step
-    put-step-requires
-    same-length
-    same-length-2
-    returns)
+    (λ c κs. search needs) (λ c κs. search needs) (λ c. search needs) put-step-requires (λ c. search needs)
+    (λ c. search needs) returns)

@@ -18,20 +18,11 @@ abbrev μ-loop : tie.MeasureT-loop
 loop-holds : tie.Need-loop-holds Inv-loop μ-loop
 loop-holds c = (refl, none-read _ _ _ _ (c .before .before .before .pre .0) (c .before .before .before .pre .1))
 
-shared-slice-read-read-byte : tie.Need-shared-slice-read-read-byte Inv-loop μ-loop
-shared-slice-read-read-byte c = search needs
-
 read-byte-requires : tie.Need-read-byte-requires Inv-loop μ-loop
 read-byte-requires c κs =
     let t = c .before .before .before .before .before .loop .inv .1 in
     let pre = c .before .before .before .before .before .before .before .before .before .pre in
     (t .reached .bounded, omega (arith, t .lines, pre .2), t .reached .bounded-keys, omega (arith, t .room, t .reached .put .long, pre .3))
-
-add-i : tie.Need-add-i Inv-loop μ-loop
-add-i c = search needs
-
-loop-less : tie.Need-loop-less Inv-loop μ-loop
-loop-less c = search needs
 
 loop-again : tie.Need-loop-again Inv-loop μ-loop
 loop-again c = (c .before .before .before .before .before .before .before .before .before .before .loop .inv .0, more-read (c .before .before .before .before .before .before .before .before .before .before .loop .inv .1) (search needs) (c .before .before .before .before .read-byte .ensures))
@@ -51,14 +42,5 @@ pub read-chunk-spec : {M : Type 1} → statement M
 read-chunk-spec =
     tie.close
     (tie.spec
-    Inv-loop
-    μ-loop
-    loop-holds
-    shared-slice-read-read-byte
-    read-byte-requires
-    add-i
-    loop-less
-    loop-again
-    same-length
-    same-length-2
-    returns)
+    Inv-loop μ-loop loop-holds (λ c. search needs) read-byte-requires (λ c. search needs)
+    (λ c. search needs) loop-again same-length same-length-2 returns)

@@ -9,36 +9,6 @@ use borrow.Author.Needs.{needs}
 use Rattle.text_assemble.proofs.fault.put_fault.Statement.{statement}
 use Rattle.text_assemble.proofs.fault.put_fault.Tie as tie
 
-slice-aggregate-put-bytes : tie.Need-slice-aggregate-put-bytes
-slice-aggregate-put-bytes c = search needs
-
-put-bytes-requires : tie.Need-put-bytes-requires
-put-bytes-requires c κs = search needs
-
-fault-line-requires : tie.Need-fault-line-requires
-fault-line-requires c κs = search needs
-
-put-number-requires : tie.Need-put-number-requires
-put-number-requires c κs = search needs
-
-slice-aggregate-put-bytes-2 : tie.Need-slice-aggregate-put-bytes-2
-slice-aggregate-put-bytes-2 c = search needs
-
-put-bytes-requires-2 : tie.Need-put-bytes-requires-2
-put-bytes-requires-2 c κs = search needs
-
-expected-requires : tie.Need-expected-requires
-expected-requires c κs = search needs
-
-put-expected-requires : tie.Need-put-expected-requires
-put-expected-requires c κs = search needs
-
-put-byte-requires : tie.Need-put-byte-requires
-put-byte-requires c κs = search needs
-
-same-length : tie.Need-same-length
-same-length c = search needs
-
 returns : tie.Need-returns
 unfolding faultBytes
 returns c =
@@ -50,14 +20,6 @@ pub put-fault-spec : {M : Type 1} → statement M
 put-fault-spec =
     tie.close
     (tie.spec
-    slice-aggregate-put-bytes
-    put-bytes-requires
-    fault-line-requires
-    put-number-requires
-    slice-aggregate-put-bytes-2
-    put-bytes-requires-2
-    expected-requires
-    put-expected-requires
-    put-byte-requires
-    same-length
-    returns)
+    (λ c. search needs) (λ c κs. search needs) (λ c κs. search needs) (λ c κs. search needs)
+    (λ c. search needs) (λ c κs. search needs) (λ c κs. search needs) (λ c κs. search needs)
+    (λ c κs. search needs) (λ c. search needs) returns)

@@ -3,27 +3,6 @@ use borrow.Author.Needs.{needs}
 use Rattle.text_assemble.proofs.line.allowed.Statement.{statement}
 use Rattle.text_assemble.proofs.line.allowed.Tie as tie
 
-enum-told : tie.Need-enum-told
-enum-told c = search needs
-
-enum-told-2 : tie.Need-enum-told-2
-enum-told-2 c = search needs
-
-enum-told-3 : tie.Need-enum-told-3
-enum-told-3 c = search needs
-
-is-later-requires : tie.Need-is-later-requires
-is-later-requires c κs = search needs
-
-enum-told-4 : tie.Need-enum-told-4
-enum-told-4 c = search needs
-
-is-later-requires-2 : tie.Need-is-later-requires-2
-is-later-requires-2 c κs = search needs
-
-enum-told-5 : tie.Need-enum-told-5
-enum-told-5 c = search needs
-
 returns : tie.Need-returns
 unfolding allowed
 returns c = rw (c .enum-told .given .1)
@@ -48,15 +27,5 @@ pub allowed-spec : {M : Type 1} → statement M
 allowed-spec =
     tie.close
     (tie.spec
-    enum-told
-    enum-told-2
-    enum-told-3
-    is-later-requires
-    enum-told-4
-    is-later-requires-2
-    enum-told-5
-    returns
-    returns-2
-    returns-3
-    returns-4
-    returns-5)
+    (λ c. search needs) (λ c. search needs) (λ c. search needs) (λ c κs. search needs) (λ c. search needs)
+    (λ c κs. search needs) (λ c. search needs) returns returns-2 returns-3 returns-4 returns-5)

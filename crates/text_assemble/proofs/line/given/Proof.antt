@@ -7,15 +7,6 @@ use borrow.Author.Needs.{needs}
 use Rattle.text_assemble.proofs.line.given.Statement.{statement}
 use Rattle.text_assemble.proofs.line.given.Tie as tie
 
-pairs-requires : tie.Need-pairs-requires
-pairs-requires c κs = search needs
-
-event-requires : tie.Need-event-requires
-event-requires c κs = search needs
-
-new-requires : tie.Need-new-requires
-new-requires c κs = search needs
-
 returns : tie.Need-returns
 unfolding lineGiven
 returns c = rw (c .match .keys1)
@@ -44,11 +35,5 @@ pub given-spec : {M : Type 1} → statement M
 given-spec =
     tie.close
     (tie.spec
-    pairs-requires
-    event-requires
-    new-requires
-    returns
-    returns-2
-    returns-3
-    returns-4
-    returns-5)
+    (λ c κs. search needs) (λ c κs. search needs) (λ c κs. search needs) returns returns-2 returns-3
+    returns-4 returns-5)

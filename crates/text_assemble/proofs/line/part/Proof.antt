@@ -10,9 +10,6 @@ use borrow.Author.Needs.{needs}
 use Rattle.text_assemble.proofs.line.part.Statement.{statement}
 use Rattle.text_assemble.proofs.line.part.Tie as tie
 
-arity-requires : tie.Need-arity-requires
-arity-requires c κs = search needs
-
 returns : tie.Need-returns
 returns c = sym (List·getD-eq-default (parts (c .before .before .args .kind)) LineEnd (omega (arith, c .before .arity .ensures)))
 
@@ -67,18 +64,5 @@ pub part-spec : {M : Type 1} → statement M
 part-spec =
     tie.close
     (tie.spec
-    arity-requires
-    returns
-    timer-part-requires
-    returns-2
-    returns-3
-    returns-4
-    returns-5
-    returns-6
-    returns-7
-    returns-8
-    returns-9
-    returns-10
-    returns-11
-    returns-12
-    returns-13)
+    (λ c κs. search needs) returns timer-part-requires returns-2 returns-3 returns-4 returns-5 returns-6
+    returns-7 returns-8 returns-9 returns-10 returns-11 returns-12 returns-13)

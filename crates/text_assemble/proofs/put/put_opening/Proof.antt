@@ -5,22 +5,10 @@ use borrow.Author.Needs.{needs}
 use Rattle.text_assemble.proofs.put.put_opening.Statement.{statement}
 use Rattle.text_assemble.proofs.put.put_opening.Tie as tie
 
-cast-new : tie.Need-cast-new
-cast-new c = search needs
-
-new-requires : tie.Need-new-requires
-new-requires c κs = search needs
-
-put-word-requires : tie.Need-put-word-requires
-put-word-requires c κs = search needs
-
 put-keys-requires : tie.Need-put-keys-requires
 put-keys-requires c κs =
     let w = c .before .before .before .put-word .ensures in
     (c .before .before .before .before .before .before .before .before .pre .1, c .before .before .before .before .before .before .before .before .pre .2, omega (arith, w .ends, w .long, word-length (c .before .before .before .before .before .new .result .0)))
-
-same-length : tie.Need-same-length
-same-length c = search needs
 
 returns : tie.Need-returns
 returns c =
@@ -32,4 +20,6 @@ returns c =
 pub put-opening-spec : {M : Type 1} → statement M
 put-opening-spec =
     tie.close
-    (tie.spec cast-new new-requires put-word-requires put-keys-requires same-length returns)
+    (tie.spec
+    (λ c. search needs) (λ c κs. search needs) (λ c κs. search needs) put-keys-requires (λ c. search needs)
+    returns)

@@ -6,38 +6,17 @@ use borrow.Author.Needs.{needs}
 use Rattle.text_assemble.proofs.put.put_tail.Statement.{statement}
 use Rattle.text_assemble.proofs.put.put_tail.Tie as tie
 
-cast-put-byte : tie.Need-cast-put-byte
-cast-put-byte c = search needs
-
-put-byte-requires : tie.Need-put-byte-requires
-put-byte-requires c κs = search needs
-
-put-two-requires : tie.Need-put-two-requires
-put-two-requires c κs = search needs
-
-put-three-requires : tie.Need-put-three-requires
-put-three-requires c κs = search needs
-
 returns : tie.Need-returns
 unfolding tailBytes
 returns c = (rw (c .match .keys1) (put-none _ _), omega arith)
-
-same-length : tie.Need-same-length
-same-length c = search needs
 
 returns-2 : tie.Need-returns-2
 unfolding tailBytes
 returns-2 c = (rw (c .before .before .before .before .match .keys2) (c .before .before .put-byte .ensures), omega (arith, c .before .before .put-byte .ensures .ends))
 
-same-length-2 : tie.Need-same-length-2
-same-length-2 c = search needs
-
 returns-3 : tie.Need-returns-3
 unfolding tailBytes
 returns-3 c = (rw (c .before .before .before .before .match .keys3) (c .before .before .put-two .ensures), omega (arith, c .before .before .put-two .ensures .ends))
-
-same-length-3 : tie.Need-same-length-3
-same-length-3 c = search needs
 
 returns-4 : tie.Need-returns-4
 unfolding tailBytes
@@ -50,14 +29,5 @@ pub put-tail-spec : {M : Type 1} → statement M
 put-tail-spec =
     tie.close
     (tie.spec
-    cast-put-byte
-    put-byte-requires
-    put-two-requires
-    put-three-requires
-    returns
-    same-length
-    returns-2
-    same-length-2
-    returns-3
-    same-length-3
-    returns-4)
+    (λ c. search needs) (λ c κs. search needs) (λ c κs. search needs) (λ c κs. search needs) returns
+    (λ c. search needs) returns-2 (λ c. search needs) returns-3 (λ c. search needs) returns-4)

@@ -5,18 +5,9 @@ use borrow.Author.Needs.{needs}
 use Rattle.text_assemble.proofs.put.put_three.Statement.{statement}
 use Rattle.text_assemble.proofs.put.put_three.Tie as tie
 
-put-two-requires : tie.Need-put-two-requires
-put-two-requires c κs = search needs
-
-cast-put-byte : tie.Need-cast-put-byte
-cast-put-byte c = search needs
-
 put-byte-requires : tie.Need-put-byte-requires
 unfolding tailBytes
 put-byte-requires c κs = omega (arith, c .before .before .before .put-two .ensures .ends, c .before .before .before .put-two .ensures .long)
-
-same-length : tie.Need-same-length
-same-length c = search needs
 
 returns : tie.Need-returns
 unfolding tailBytes
@@ -24,4 +15,4 @@ returns c = put-more (c .before .before .before .before .before .before .put-two
 
 pub put-three-spec : {M : Type 1} → statement M
 put-three-spec =
-    tie.close (tie.spec put-two-requires cast-put-byte put-byte-requires same-length returns)
+    tie.close (tie.spec (λ c κs. search needs) (λ c. search needs) put-byte-requires (λ c. search needs) returns)

@@ -5,41 +5,8 @@ use borrow.Author.Needs.{needs}
 use Rattle.text_assemble.proofs.reader.closed.Statement.{statement}
 use Rattle.text_assemble.proofs.reader.closed.Tie as tie
 
-silent-requires : tie.Need-silent-requires
-silent-requires c κs = search needs
-
 returns : tie.Need-returns
 returns c = c .silent .ensures ∙ closed-at-fault _ (c .before .if1 .taken)
-
-enum-told : tie.Need-enum-told
-enum-told c = search needs
-
-silent-requires-2 : tie.Need-silent-requires-2
-silent-requires-2 c κs = search needs
-
-enum-told-2 : tie.Need-enum-told-2
-enum-told-2 c = search needs
-
-stopped-requires : tie.Need-stopped-requires
-stopped-requires c κs = search needs
-
-silent-requires-3 : tie.Need-silent-requires-3
-silent-requires-3 c κs = search needs
-
-enum-told-3 : tie.Need-enum-told-3
-enum-told-3 c = search needs
-
-enum-told-4 : tie.Need-enum-told-4
-enum-told-4 c = search needs
-
-silent-requires-4 : tie.Need-silent-requires-4
-silent-requires-4 c κs = search needs
-
-enum-told-5 : tie.Need-enum-told-5
-enum-told-5 c = search needs
-
-silent-requires-5 : tie.Need-silent-requires-5
-silent-requires-5 c κs = search needs
 
 returns-2 : tie.Need-returns-2
 returns-2 c = c .silent2 .ensures ∙ closed-start _ (c .before .before .before .if1 .left) (c .before .enum-told .given .1)
@@ -60,20 +27,7 @@ pub closed-spec : {M : Type 1} → statement M
 closed-spec =
     tie.close
     (tie.spec
-    silent-requires
-    returns
-    enum-told
-    silent-requires-2
-    enum-told-2
-    stopped-requires
-    silent-requires-3
-    enum-told-3
-    enum-told-4
-    silent-requires-4
-    enum-told-5
-    silent-requires-5
-    returns-2
-    returns-3
-    returns-4
-    returns-5
-    returns-6)
+    (λ c κs. search needs) returns (λ c. search needs) (λ c κs. search needs) (λ c. search needs)
+    (λ c κs. search needs) (λ c κs. search needs) (λ c. search needs) (λ c. search needs)
+    (λ c κs. search needs) (λ c. search needs) (λ c κs. search needs) returns-2 returns-3 returns-4
+    returns-5 returns-6)

@@ -3,12 +3,9 @@ use borrow.Author.Needs.{needs}
 use Rattle.text_assemble.proofs.reader.complete.Statement.{statement}
 use Rattle.text_assemble.proofs.reader.complete.Tie as tie
 
-arity-requires : tie.Need-arity-requires
-arity-requires c κs = search needs
-
 returns : tie.Need-returns
 unfolding complete
 returns c = rw (c .before .arity .ensures)
 
 pub complete-spec : {M : Type 1} → statement M
-complete-spec = tie.close (tie.spec arity-requires returns)
+complete-spec = tie.close (tie.spec (λ c κs. search needs) returns)

@@ -7,21 +7,6 @@ use borrow.Author.Needs.{needs}
 use Rattle.text_assemble.proofs.reader.continued.Statement.{statement}
 use Rattle.text_assemble.proofs.reader.continued.Tie as tie
 
-expected-requires : tie.Need-expected-requires
-expected-requires c κs = search needs
-
-value-requires : tie.Need-value-requires
-value-requires c κs = search needs
-
-fits-requires : tie.Need-fits-requires
-fits-requires c κs = search needs
-
-stopped-requires : tie.Need-stopped-requires
-stopped-requires c κs = search needs
-
-silent-requires : tie.Need-silent-requires
-silent-requires c κs = search needs
-
 returns : tie.Need-returns
 returns c = c .silent .ensures ∙ ap silent (c .before .stopped .ensures) ∙ unfitted _ _ (c .before .before .before .before .before .expected .ensures) (c .before .before .before .fits2 .ensures) (c .before .before .if1 .taken)
 
@@ -31,15 +16,6 @@ cast-last c =
     let fit = fitted (c .before .before .before .before .args .reader) (c .before .before .before .before .args .token) (c .before .before .before .expected .ensures) (c .before .fits2 .ensures) (c .if1 .left) in
     let value = valued (c .before .before .before .before .args .reader) (c .before .before .before .before .args .token) (c .before .before .before .expected .ensures) (c .before .before .value .ensures) in
     omega (arith, value, value-small (c .before .before .before .before .args .reader) (pre .0) (pre .1) (c .before .before .before .before .args .token) fit)
-
-part-read-requires : tie.Need-part-read-requires
-part-read-requires c κs = search needs
-
-arity-requires : tie.Need-arity-requires
-arity-requires c κs = search needs
-
-silent-requires-2 : tie.Need-silent-requires-2
-silent-requires-2 c κs = search needs
 
 returns-2 : tie.Need-returns-2
 returns-2 c =
@@ -67,16 +43,6 @@ pub continued-spec : {M : Type 1} → statement M
 continued-spec =
     tie.close
     (tie.spec
-    expected-requires
-    value-requires
-    fits-requires
-    stopped-requires
-    silent-requires
-    returns
-    cast-last
-    part-read-requires
-    arity-requires
-    silent-requires-2
-    returns-2
-    given-requires
-    returns-3)
+    (λ c κs. search needs) (λ c κs. search needs) (λ c κs. search needs) (λ c κs. search needs)
+    (λ c κs. search needs) returns cast-last (λ c κs. search needs) (λ c κs. search needs)
+    (λ c κs. search needs) returns-2 given-requires returns-3)

@@ -4,15 +4,9 @@ use borrow.Author.Needs.{needs}
 use Rattle.text_assemble.proofs.reader.expected.Statement.{statement}
 use Rattle.text_assemble.proofs.reader.expected.Tie as tie
 
-expected-requires : tie.Need-expected-requires
-expected-requires c κs = search needs
-
 returns : tie.Need-returns
 unfolding expectedAt
 returns c = rw (eq-eqb _ _ (c .before .if1 .taken)) (c .expected .ensures)
-
-part-requires : tie.Need-part-requires
-part-requires c κs = search needs
 
 returns-2 : tie.Need-returns-2
 unfolding expectedAt
@@ -28,4 +22,4 @@ returns-4 c = rw (ne-eqb _ _ (c .before .before .before .before .if1 .left), eq-
 
 pub expected-spec : {M : Type 1} → statement M
 expected-spec =
-    tie.close (tie.spec expected-requires returns part-requires returns-2 returns-3 returns-4)
+    tie.close (tie.spec (λ c κs. search needs) returns (λ c κs. search needs) returns-2 returns-3 returns-4)

@@ -3,12 +3,9 @@ use borrow.Author.Needs.{needs}
 use Rattle.text_assemble.proofs.reader.grown_by.Statement.{statement}
 use Rattle.text_assemble.proofs.reader.grown_by.Tie as tie
 
-grown-requires : tie.Need-grown-requires
-grown-requires c κs = search needs
-
 returns : tie.Need-returns
 unfolding grownBy
 returns c = rw (c .grown .ensures)
 
 pub grown-by-spec : {M : Type 1} → statement M
-grown-by-spec = tie.close (tie.spec grown-requires returns)
+grown-by-spec = tie.close (tie.spec (λ c κs. search needs) returns)

@@ -2,14 +2,8 @@ use borrow.Author.Needs.{needs}
 use Rattle.text_assemble.proofs.reader.hash_read.Statement.{statement}
 use Rattle.text_assemble.proofs.reader.hash_read.Tie as tie
 
-token-ended-requires : tie.Need-token-ended-requires
-token-ended-requires c κs = search needs
-
-commented-requires : tie.Need-commented-requires
-commented-requires c κs = search needs
-
 returns : tie.Need-returns
 returns c = rw (c .commented .ensures, c .before .before .token-ended .ensures)
 
 pub hash-read-spec : {M : Type 1} → statement M
-hash-read-spec = tie.close (tie.spec token-ended-requires commented-requires returns)
+hash-read-spec = tie.close (tie.spec (λ c κs. search needs) (λ c κs. search needs) returns)

@@ -8,21 +8,15 @@ use Rattle.text_assemble.proofs.reader.line_ended.Tie as tie
 returns : tie.Need-returns
 returns c = line-at-fault _ (c .if1 .taken)
 
-complete-requires : tie.Need-complete-requires
-complete-requires c κs = search needs
-
-stopped-requires : tie.Need-stopped-requires
-stopped-requires c κs = search needs
-
 returns-2 : tie.Need-returns-2
 returns-2 c = c .stopped .ensures ∙ line-stopped _ (c .before .before .before .if1 .left) (sym (c .before .before .complete .ensures) ∙ not-true _ (c .before .if2 .taken))
-
-add-reader : tie.Need-add-reader
-add-reader c = search needs
 
 returns-3 : tie.Need-returns-3
 returns-3 c = line-ended _ (c .before .before .before .if1 .left) (sym (c .before .before .complete .ensures) ∙ not-false _ (c .before .if2 .left))
 
 pub line-ended-spec : {M : Type 1} → statement M
 line-ended-spec =
-    tie.close (tie.spec returns complete-requires stopped-requires returns-2 add-reader returns-3)
+
+    tie.close
+    (tie.spec
+    returns (λ c κs. search needs) (λ c κs. search needs) returns-2 (λ c. search needs) returns-3)

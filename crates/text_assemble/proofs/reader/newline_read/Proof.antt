@@ -4,9 +4,6 @@ use borrow.Author.Needs.{needs}
 use Rattle.text_assemble.proofs.reader.newline_read.Statement.{statement}
 use Rattle.text_assemble.proofs.reader.newline_read.Tie as tie
 
-token-ended-requires : tie.Need-token-ended-requires
-token-ended-requires c κs = search needs
-
 line-ended-requires : tie.Need-line-ended-requires
 line-ended-requires c κs =
     let pre = c .before .before .pre in
@@ -17,4 +14,4 @@ returns : tie.Need-returns
 returns c = rw (c .line-ended .ensures, c .before .before .token-ended .ensures)
 
 pub newline-read-spec : {M : Type 1} → statement M
-newline-read-spec = tie.close (tie.spec token-ended-requires line-ended-requires returns)
+newline-read-spec = tie.close (tie.spec (λ c κs. search needs) line-ended-requires returns)

@@ -4,22 +4,13 @@ use borrow.Author.Needs.{needs}
 use Rattle.text_assemble.proofs.reader.token_ended.Statement.{statement}
 use Rattle.text_assemble.proofs.reader.token_ended.Tie as tie
 
-silent-requires : tie.Need-silent-requires
-silent-requires c κs = search needs
-
 returns : tie.Need-returns
 unfolding tokenEnded
 returns c = rw (eq-eqb _ _ (c .before .if1 .taken)) (c .silent .ensures)
 
-begun-requires : tie.Need-begun-requires
-begun-requires c κs = search needs
-
 returns-2 : tie.Need-returns-2
 unfolding tokenEnded
 returns-2 c = rw (ne-eqb _ _ (c .before .before .before .if1 .left), eq-eqb _ _ (c .before .if2 .taken)) (c .begun .ensures)
-
-continued-requires : tie.Need-continued-requires
-continued-requires c κs = search needs
 
 returns-3 : tie.Need-returns-3
 unfolding tokenEnded
@@ -28,4 +19,5 @@ returns-3 c = rw (ne-eqb _ _ (c .before .before .before .if1 .left), ne-eqb _ _ 
 pub token-ended-spec : {M : Type 1} → statement M
 token-ended-spec =
     tie.close
-    (tie.spec silent-requires returns begun-requires returns-2 continued-requires returns-3)
+    (tie.spec
+    (λ c κs. search needs) returns (λ c κs. search needs) returns-2 (λ c κs. search needs) returns-3)

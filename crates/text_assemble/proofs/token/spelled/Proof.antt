@@ -33,9 +33,6 @@ mul-unit c =
     let u = unit-small (c .before .before .before .loop .inv) in
     omega (arith, mul-le-mul-left (c .before .before .before .loop .unit) (c .before .before .before .before .pre))
 
-loop-less : tie.Need-loop-less Inv-loop μ-loop
-loop-less c = search needs
-
 loop-again : tie.Need-loop-again Inv-loop μ-loop
 loop-again c =
     one-more _ _ _ _ _ (c .before .before .before .before .pre) (c .before .before .loop-test .taken) (c .before .before .before .loop .inv) _ (c .before .digit .ensures .0) (c .if1 .left)
@@ -47,4 +44,5 @@ pub spelled-spec : {M : Type 1} → statement M
 spelled-spec =
     tie.close
     (tie.spec
-    Inv-loop μ-loop loop-holds (λ c κs. search needs) returns mul-value add-value mul-unit loop-less loop-again returns-2)
+    Inv-loop μ-loop loop-holds (λ c κs. search needs) returns mul-value add-value mul-unit
+    (λ c. search needs) loop-again returns-2)
