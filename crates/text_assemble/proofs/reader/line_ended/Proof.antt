@@ -16,7 +16,6 @@ returns-3 c = line-ended _ (c .before .before .before .if1 .left) (sym (c .befor
 
 pub line-ended-spec : {M : Type 1} → statement M
 line-ended-spec =
-
     tie.close
     (tie.spec
     returns (λ c κs. search needs) (λ c κs. search needs) returns-2 (λ c. search needs) returns-3)
