@@ -1,3 +1,4 @@
 pub mod Valid
 pub mod Refusals
 pub mod Answered
+pub mod Stages

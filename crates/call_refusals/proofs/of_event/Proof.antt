@@ -1,7 +1,7 @@
 use mathlib.Core.Path.{sym, subst, _∙_}
 use borrow.Author.Needs.{needs}
 use borrow.Author.Tests.{eqb-true, not-true, not-false}
-use Rattle.event_play.proofs.Plays.{not-as-long, not-an-event, not-a-ring, an-event}
+use Rattle.answers.proofs.Stages.{not-as-long, not-an-event, not-a-ring, an-event}
 use Rattle.call_refusals.specs.Admitted.{Admitted}
 use Rattle.call_refusals.proofs.of_event.Statement.{statement}
 use Rattle.call_refusals.proofs.of_event.Tie as tie

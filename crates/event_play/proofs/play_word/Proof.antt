@@ -3,7 +3,7 @@ use borrow.Author.Needs.{needs}
 use borrow.Author.Tests.{eq-eqb}
 use Rattle.answers.proofs.Answered.{refused-word}
 use Rattle.answers.proofs.Valid.{long}
-use Rattle.event_play.proofs.Plays.{not-an-event, an-event}
+use Rattle.answers.proofs.Stages.{not-an-event, an-event}
 use Rattle.event_play.proofs.play_word.Statement.{statement}
 use Rattle.event_play.proofs.play_word.Tie as tie
 
