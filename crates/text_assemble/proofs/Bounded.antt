@@ -43,7 +43,7 @@ limit Tail = 2 ^ 32
 limit LineEnd = 0
 
 below-limit : (e : Expected) (t : ℕ) → fits e t ≡ true → valueOf e t < limit e
-unfolding limit fits valueOf
+unfolding limit
 below-limit Opening t h = clash h refl
 below-limit Keys t h = clash h refl
 below-limit Event t h = clash h refl
@@ -102,7 +102,7 @@ module _ (r : Reader) (b : ReaderBounded r) (started : 1 ≤ r .place) where
 
     -- there is a part at this place
     within-line : (r .command ≡ 1 → ⊥) → r .place ≤ length (parts (r .command))
-    unfolding expectedAt fits
+    unfolding expectedAt
     within-line other =
         decide (leb (r .place) (length (parts (r .command)))) (leb-true _ _)
         (λ e.
@@ -112,7 +112,7 @@ module _ (r : Reader) (b : ReaderBounded r) (started : 1 ≤ r .place) where
         clash fit (ap (λ (x : Expected). fits x t) beyond))
 
     room-for-key : r .command ≡ 1 → r .keys < 64
-    unfolding expectedAt fits
+    unfolding expectedAt
     room-for-key is =
         decide (ltb (r .keys) 64) (ltb-true _ _)
         (λ e.
@@ -176,7 +176,6 @@ unfolding stopped
 stops r b = silent-bounded (r .line) r (stopped r) (stopped-bounded r b) (omega arith) refl
 
 allowed-known : (s : Stage) (k c : ℕ) → allowed s k c ≡ true → c < 12
-unfolding allowed
 allowed-known stage.Start k c h =
     or-case (eqb c 0) (leb 10 c && leb c 11) h (λ e. let z = eqb-true c 0 e in omega arith) (λ e. let w = within 10 11 c e in omega arith)
 allowed-known stage.Sides k c h = let z = eqb-true c 1 h in omega arith

@@ -24,7 +24,7 @@ ascii (native._∷_ c s) = code c ∷ ascii s
 
 -- `unfolding computed` opens every definition, for what is shown by computing
 unfoldable pub computed : Unit {0}
-unfolding ascii Decimal.decimalIn Decimal.decimal Decimal.spaced Sets.all Words.headWord Words.keyWord Words.inRange Words.keysDiffer Answers.firstOf Events.eventOf Bench.littleEndian Bench.scriptTable Bench.scriptAnswer Describe.eventText Describe.rawText Describe.wordText Describe.wordLines Describe.keysText Describe.openingText Describe.hexBytes Describe.tailText Describe.wordsText Describe.describe Assemble.grown Assemble.packed Assemble.digitOf Assemble.isNumber Assemble.spelledBy Assemble.spelled Assemble.placeOf Assemble.allowed Assemble.stageAfter Assemble.opens Assemble.lineAt Assemble.expectedAt Assemble.pairsOf Assemble.valueOf Assemble.fits Assemble.lineGiven Assemble.start Assemble.stopped Assemble.begun Assemble.partRead Assemble.continued Assemble.tokenEnded Assemble.complete Assemble.lineEnded Assemble.commented Assemble.grownBy Assemble.byteRead Assemble.wordBytes Assemble.keyBytes Assemble.tailBytes Assemble.givenBytes Assemble.givenKeys Assemble.advanced Assemble.textRead Assemble.closed Assemble.assemble
+unfolding ascii Decimal.decimalIn Decimal.decimal Decimal.spaced Sets.all Words.headWord Words.keyWord Words.inRange Words.keysDiffer Answers.firstOf Events.eventOf Bench.littleEndian Bench.scriptTable Bench.scriptAnswer Describe.eventText Describe.rawText Describe.wordText Describe.wordLines Describe.keysText Describe.openingText Describe.hexBytes Describe.tailText Describe.wordsText Describe.describe Assemble.grown Assemble.packed Assemble.digitOf Assemble.isNumber Assemble.spelledBy Assemble.spelled Assemble.placeOf Assemble.stageAfter Assemble.expectedAt Assemble.pairsOf Assemble.lineGiven Assemble.start Assemble.stopped Assemble.begun Assemble.partRead Assemble.continued Assemble.tokenEnded Assemble.complete Assemble.lineEnded Assemble.commented Assemble.grownBy Assemble.byteRead Assemble.wordBytes Assemble.keyBytes Assemble.tailBytes Assemble.givenBytes Assemble.givenKeys Assemble.advanced Assemble.textRead Assemble.closed Assemble.assemble
 computed = tt
 
 -- ---- a text: its script, or its fault by the line and what was expected there

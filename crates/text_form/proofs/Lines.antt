@@ -88,19 +88,15 @@ named =
 
 module _ {bs : List ℕ} {n : ℕ} (w : Written 10 8 bs n) where
   node-suits : n < 64 → Suits expected.Node (packed 0 bs) n
-  unfolding fits valueOf
   node-suits h = record { there = token-there w; fit = rw (spelled-is w (lit≤ tt)) (lt-ltb n 64 h); value = spelled-is w (lit≤ tt) }
 
   position-suits : n < 1024 → Suits expected.Position (packed 0 bs) n
-  unfolding fits valueOf
   position-suits h = record { there = token-there w; fit = rw (spelled-is w (lit≤ tt)) (lt-ltb n 1024 h); value = spelled-is w (lit≤ tt) }
 
   timer-suits : isTimer n ≡ true → Suits expected.Timer (packed 0 bs) n
-  unfolding fits valueOf
   timer-suits h = record { there = token-there w; fit = rw (spelled-is w (lit≤ tt)) h; value = spelled-is w (lit≤ tt) }
 
 word-suits : (bs : List ℕ) (w : ℕ) → Written 16 8 bs w → Spells 16 8 (packed 0 bs) w → w < 2 ^ 32 → Suits expected.Word (packed 0 bs) w
-unfolding fits valueOf
 word-suits bs w r e h =
     record {
       there = token-there r;
@@ -113,7 +109,7 @@ unfolding isPlain
 at-plain = refl
 
 at-suits : Suits expected.At (packed 0 atName) 0
-unfolding packed grown fits valueOf
+unfolding packed grown
 at-suits = record { there = refl; fit = refl; value = refl }
 
 -- ---- lines
@@ -127,7 +123,7 @@ unopened stage.Events sides keys = []
 unopened stage.End sides keys = []
 
 pub opened-is : (s : Stage) (d : ℕ) (sides : Sides) (keys : List ℕ) → leb 2 d ≡ true → opened s d sides keys ≡ unopened s sides keys
-unfolding opened opens unopened
+unfolding opened unopened
 opened-is stage.Start d sides keys h = refl
 opened-is stage.Sides d sides keys h = refl
 opened-is stage.Keys d sides keys h = rw (ne-eqb d 1 (λ e. omega (arith, leb-true 2 d h)))
@@ -188,7 +184,6 @@ pub data Later : Stage → Type 0 where
   after-events : Later stage.Events
 
 pub later-allowed : {s : Stage} → Later s → (n d : ℕ) → isLater d ≡ true → allowed s n d ≡ true
-unfolding allowed
 later-allowed after-keys n d h = or-right (eqb d 1 && ltb n 64) h
 later-allowed after-events n d h = h
 

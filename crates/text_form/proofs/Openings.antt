@@ -26,13 +26,11 @@ use Rattle.text_form.proofs.Lines.{Leads, on, named, begins, two-spaced
 -- ---- what numbers suit
 
 side-suits : (a : ℕ) → 1 ≤ a → a ≤ 8 → Suits expected.Side (packed 0 (decimal a)) a
-unfolding fits valueOf
 side-suits a l h =
     let w = decimal-written a (omega arith) in
     record { there = token-there w; fit = rw (spelled-is w (lit≤ tt)) (and-in (le-leb 1 a l) (le-leb a 8 h)); value = spelled-is w (lit≤ tt) }
 
 key-suits : (k : ℕ) → k < 2 ^ 24 → Suits expected.Key (packed 0 (decimal k)) k
-unfolding fits valueOf
 key-suits k h =
     let w = decimal-written k (omega arith) in
     record { there = token-there w; fit = rw (spelled-is w (lit≤ tt)) (lt-ltb k (2 ^ 24) h); value = spelled-is w (lit≤ tt) }
@@ -90,14 +88,13 @@ module _ (sides : Sides) (script : List ℕ) where
   ends-on l e = record { line = e .line; first = e .first; leads = on l (e .leads) }
 
   keys-allowed : (n : ℕ) → n < 64 → allowed stage.Keys n 1 ≡ true
-  unfolding allowed
   keys-allowed n h = rw (lt-ltb n 64 h)
 
   -- key k' on a further line
   key-line : (line place f : ℕ) (keys : List ℕ) (k k' : ℕ) → eqb place 0 ≡ false → leb 1 place ≡ true → length keys + 1 < 64 → k < 2 ^ 24 → k' < 2 ^ 24
       → Leads (state line (packed 0 (decimal k)) stage.Keys 1 place f sides keys script) (newline ∷ keysName ++ spaced (k' ∷ []))
       (state (line + 1) (packed 0 (decimal k')) stage.Keys 1 1 0 sides (keys ++ k ∷ []) script)
-  unfolding opened opens stageAfter
+  unfolding opened stageAfter
   key-line line place f keys k k' in-line some few small small' =
       let w = decimal-written k' (omega arith) in
       let e : length (keys ++ k ∷ []) ≡ length keys + 1 = length-append keys (k ∷ []) in
@@ -158,7 +155,7 @@ module _ (line : ℕ) (a b : ℕ) (la : 1 ≤ a) (ha : a ≤ 8) (lb : 1 ≤ b) (
       }
 
   sides-read : Leads (state line 0 stage.Start 0 0 0 none [] []) (sidesName ++ spaced (a ∷ b ∷ [])) (state line (packed 0 (decimal b)) stage.Sides 0 2 a none [] [])
-  unfolding stageAfter opened opens allowed
+  unfolding stageAfter opened
   sides-read =
       rw (two-spaced a b, ← append-assoc sidesName (space ∷ decimal a) (space ∷ decimal b))
       (on (begins line stage.Start 0 0 none [] [] (named .sides-is) refl (decimal a) (decimal-written a (omega arith) .plain))
@@ -174,7 +171,7 @@ module _ (line : ℕ) (a b : ℕ) (la : 1 ≤ a) (ha : a ≤ 8) (lb : 1 ≤ b) (
       }
 
   first-key : (k : ℕ) → k < 2 ^ 24 → Leads (state (line + 1) (packed 0 keysName) stage.Sides 0 0 a sides [] []) (spaced (k ∷ [])) (state (line + 1) (packed 0 (decimal k)) stage.Keys 1 1 0 sides [] [])
-  unfolding stageAfter opened opens allowed
+  unfolding stageAfter opened
   first-key k h =
       let w = decimal-written k (omega arith) in
       rw (← one-more k)

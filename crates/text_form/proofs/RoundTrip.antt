@@ -62,7 +62,6 @@ WordLine : (Stage → Type 0) → (ℕ → List ℕ) → Type 0
 WordLine ok text = (w : ℕ) → Word w → (bytes : List ℕ) (p : Progress) → Stands ok bytes p → Stands ok (bytes ++ wordBytes w) (textRead p (text w ++ newline ∷ []))
 
 free-allowed : {s : Stage} → Free s → (n : ℕ) → (allowed s n 10 ≡ true) × (allowed s n 11 ≡ true)
-unfolding allowed
 free-allowed free-start n = (refl, refl)
 free-allowed free-events n = (refl, refl)
 

@@ -34,7 +34,6 @@ pub record Token (cs : List ℕ) (k v : ℕ) : Type 0 where
   pub bytes : tailBytes k v ≡ cs
 
 tail-suits : (bs : List ℕ) (k v : ℕ) → Written 16 8 bs v → pairsOf (packed 0 bs) ≡ k → eqb k 0 ≡ false → v < 2 ^ 32 → Suits expected.Tail (packed 0 bs) v
-unfolding fits valueOf
 tail-suits bs k v w e f h =
     record { there = token-there w; fit = rw (e, f, spelled-is w (lit≤ tt)) (lt-ltb v noNumber h); value = spelled-is w (lit≤ tt) }
 

@@ -103,7 +103,7 @@ abbrev pub isLater : ℕ → Bool
 isLater c = leb 2 c && leb c 11
 
 -- `sides` first, then `keys`, and more of them up to 64 keys; or `word` or `tail` at once. Nothing after `tail`
-unfoldable pub allowed : Stage → ℕ → ℕ → Bool
+abbrev pub allowed : Stage → ℕ → ℕ → Bool
 allowed stage.Start keys c = eqb c 0 || leb 10 c && leb c 11
 allowed stage.Sides keys c = eqb c 1
 allowed stage.Keys keys c = eqb c 1 && ltb keys 64 || isLater c
@@ -114,7 +114,7 @@ unfoldable pub stageAfter : ℕ → Stage
 stageAfter c = if eqb c 0 then stage.Sides else if eqb c 1 then stage.Keys else if eqb c 11 then stage.End else stage.Events
 
 -- the words of the opening come once it is known how many keys there are: with the first later line
-unfoldable pub opens : Stage → ℕ → Bool
+abbrev pub opens : Stage → ℕ → Bool
 opens stage.Start c = false
 opens stage.Sides c = false
 opens stage.Keys c = not (eqb c 1)
@@ -122,7 +122,7 @@ opens stage.Events c = false
 opens stage.End c = false
 
 -- which line is expected
-unfoldable pub lineAt : Stage → Expected
+abbrev pub lineAt : Stage → Expected
 lineAt stage.Start = expected.Opening
 lineAt stage.Sides = expected.Keys
 lineAt stage.Keys = expected.Event
@@ -145,7 +145,7 @@ pairsOf t =
     else 0
 
 -- numbers are in decimal, words and tails in hexadecimal
-unfoldable pub valueOf : Expected → ℕ → ℕ
+abbrev pub valueOf : Expected → ℕ → ℕ
 valueOf expected.Opening t = noNumber
 valueOf expected.Keys t = noNumber
 valueOf expected.Event t = noNumber
@@ -160,7 +160,7 @@ valueOf expected.Word t = spelled 16 t
 valueOf expected.Tail t = spelled 16 t
 valueOf expected.LineEnd t = noNumber
 
-unfoldable pub fits : Expected → ℕ → Bool
+abbrev pub fits : Expected → ℕ → Bool
 fits expected.Opening t = false
 fits expected.Keys t = false
 fits expected.Event t = false

@@ -1,83 +1,69 @@
 use native.Mathlib.Omega.{arith}
-use Rattle.text_assemble.specs.Faults.{expectedText}
 use borrow.Author.Needs.{needs}
 use Rattle.text_assemble.proofs.fault.put_expected.Statement.{statement}
 use Rattle.text_assemble.proofs.fault.put_expected.Tie as tie
 
 returns : tie.Need-returns
-unfolding expectedText
 returns c =
     let p = c .before .before .put-bytes .ensures in
     (rw (c .before .before .before .before .before .enum-told .given .1) p, omega (arith, p .ends))
 
 returns-2 : tie.Need-returns-2
-unfolding expectedText
 returns-2 c =
     let p = c .before .before .put-bytes2 .ensures in
     (rw (c .before .before .before .before .before .enum-told2 .given .1) p, omega (arith, p .ends))
 
 returns-3 : tie.Need-returns-3
-unfolding expectedText
 returns-3 c =
     let p = c .before .before .put-bytes3 .ensures in
     (rw (c .before .before .before .before .before .enum-told3 .given .1) p, omega (arith, p .ends))
 
 returns-4 : tie.Need-returns-4
-unfolding expectedText
 returns-4 c =
     let p = c .before .before .put-bytes4 .ensures in
     (rw (c .before .before .before .before .before .enum-told4 .given .1) p, omega (arith, p .ends))
 
 returns-5 : tie.Need-returns-5
-unfolding expectedText
 returns-5 c =
     let p = c .before .before .put-bytes5 .ensures in
     (rw (c .before .before .before .before .before .enum-told5 .given .1) p, omega (arith, p .ends))
 
 returns-6 : tie.Need-returns-6
-unfolding expectedText
 returns-6 c =
     let p = c .before .before .put-bytes6 .ensures in
     (rw (c .before .before .before .before .before .enum-told6 .given .1) p, omega (arith, p .ends))
 
 returns-7 : tie.Need-returns-7
-unfolding expectedText
 returns-7 c =
     let p = c .before .before .put-bytes7 .ensures in
     (rw (c .before .before .before .before .before .enum-told7 .given .1) p, omega (arith, p .ends))
 
 returns-8 : tie.Need-returns-8
-unfolding expectedText
 returns-8 c =
     let p = c .before .before .put-bytes8 .ensures in
     (rw (c .before .before .before .before .before .enum-told8 .given .1) p, omega (arith, p .ends))
 
 returns-9 : tie.Need-returns-9
-unfolding expectedText
 returns-9 c =
     let p = c .before .before .put-bytes9 .ensures in
     (rw (c .before .before .before .before .before .enum-told9 .given .1) p, omega (arith, p .ends))
 
 returns-10 : tie.Need-returns-10
-unfolding expectedText
 returns-10 c =
     let p = c .before .before .put-bytes10 .ensures in
     (rw (c .before .before .before .before .before .enum-told10 .given .1) p, omega (arith, p .ends))
 
 returns-11 : tie.Need-returns-11
-unfolding expectedText
 returns-11 c =
     let p = c .before .before .put-bytes11 .ensures in
     (rw (c .before .before .before .before .before .enum-told11 .given .1) p, omega (arith, p .ends))
 
 returns-12 : tie.Need-returns-12
-unfolding expectedText
 returns-12 c =
     let p = c .before .before .put-bytes12 .ensures in
     (rw (c .before .before .before .before .before .enum-told12 .given .1) p, omega (arith, p .ends))
 
 returns-13 : tie.Need-returns-13
-unfolding expectedText
 returns-13 c =
     let p = c .before .before .put-bytes13 .ensures in
     (rw (c .before .before .before .before .before .enum-told13 .given .1) p, omega (arith, p .ends))

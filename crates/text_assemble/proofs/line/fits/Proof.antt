@@ -1,59 +1,30 @@
-use Rattle.text_form.specs.Assemble.{fits, valueOf}
 use borrow.Author.Needs.{needs}
 use Rattle.text_assemble.proofs.line.fits.Statement.{statement}
 use Rattle.text_assemble.proofs.line.fits.Tie as tie
 
-returns : tie.Need-returns
-unfolding fits
-returns c = rw (c .enum-told .given .1)
-
-returns-2 : tie.Need-returns-2
-unfolding fits
-returns-2 c = rw (c .enum-told2 .given .1)
-
-returns-3 : tie.Need-returns-3
-unfolding fits
-returns-3 c = rw (c .enum-told3 .given .1)
-
-returns-4 : tie.Need-returns-4
-unfolding fits
-returns-4 c = rw (c .enum-told4 .given .1)
-
 returns-5 : tie.Need-returns-5
-unfolding fits valueOf
 returns-5 c = rw (c .before .before .pre, c .enum-told5 .given .1)
 
 returns-6 : tie.Need-returns-6
-unfolding fits valueOf
 returns-6 c = rw (c .before .before .pre, c .enum-told6 .given .1)
 
 returns-7 : tie.Need-returns-7
-unfolding fits valueOf
 returns-7 c = rw (c .before .before .pre, c .enum-told7 .given .1)
 
 returns-8 : tie.Need-returns-8
-unfolding fits valueOf
 returns-8 c = rw (c .before .before .pre, c .enum-told8 .given .1)
 
 returns-9 : tie.Need-returns-9
-unfolding fits
 returns-9 c = rw (c .is-at .ensures, c .before .enum-told9 .given .1)
 
 returns-10 : tie.Need-returns-10
-unfolding fits valueOf
 returns-10 c = rw (c .before .before .pre, c .enum-told10 .given .1)
 
 returns-11 : tie.Need-returns-11
-unfolding fits valueOf
 returns-11 c = rw (c .before .before .pre, c .enum-told11 .given .1)
 
 returns-12 : tie.Need-returns-12
-unfolding fits valueOf
 returns-12 c = rw (c .pairs .ensures, c .before .before .before .pre, c .before .enum-told12 .given .1)
-
-returns-13 : tie.Need-returns-13
-unfolding fits
-returns-13 c = rw (c .enum-told13 .given .1)
 
 pub fits-spec : {M : Type 1} → statement M
 fits-spec =
@@ -62,5 +33,5 @@ fits-spec =
     (λ c. search needs) (λ c. search needs) (λ c. search needs) (λ c. search needs) (λ c. search needs)
     (λ c. search needs) (λ c. search needs) (λ c. search needs) (λ c. search needs) (λ c κs. search needs)
     (λ c. search needs) (λ c. search needs) (λ c. search needs) (λ c κs. search needs) (λ c. search needs)
-    returns returns-2 returns-3 returns-4 returns-5 returns-6 returns-7 returns-8 returns-9 returns-10
-    returns-11 returns-12 returns-13)
+    (λ c. search needs) (λ c. search needs) (λ c. search needs) (λ c. search needs) returns-5 returns-6 returns-7 returns-8 returns-9 returns-10
+    returns-11 returns-12 (λ c. search needs))

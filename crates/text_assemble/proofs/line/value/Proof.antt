@@ -1,59 +1,27 @@
-use Rattle.text_form.specs.Assemble.{valueOf}
 use borrow.Author.Needs.{needs}
 use Rattle.text_assemble.proofs.line.value.Statement.{statement}
 use Rattle.text_assemble.proofs.line.value.Tie as tie
 
-returns : tie.Need-returns
-unfolding valueOf
-returns c = rw (c .enum-told .given .1)
-
-returns-2 : tie.Need-returns-2
-unfolding valueOf
-returns-2 c = rw (c .enum-told2 .given .1)
-
-returns-3 : tie.Need-returns-3
-unfolding valueOf
-returns-3 c = rw (c .enum-told3 .given .1)
-
-returns-4 : tie.Need-returns-4
-unfolding valueOf
-returns-4 c = rw (c .enum-told4 .given .1)
-
 returns-5 : tie.Need-returns-5
-unfolding valueOf
 returns-5 c = rw (c .spelled .ensures, c .before .enum-told5 .given .1)
 
 returns-6 : tie.Need-returns-6
-unfolding valueOf
 returns-6 c = rw (c .spelled2 .ensures, c .before .enum-told6 .given .1)
 
 returns-7 : tie.Need-returns-7
-unfolding valueOf
 returns-7 c = rw (c .spelled3 .ensures, c .before .enum-told7 .given .1)
 
 returns-8 : tie.Need-returns-8
-unfolding valueOf
 returns-8 c = rw (c .spelled4 .ensures, c .before .enum-told8 .given .1)
 
-returns-9 : tie.Need-returns-9
-unfolding valueOf
-returns-9 c = rw (c .enum-told9 .given .1)
-
 returns-10 : tie.Need-returns-10
-unfolding valueOf
 returns-10 c = rw (c .spelled5 .ensures, c .before .enum-told10 .given .1)
 
 returns-11 : tie.Need-returns-11
-unfolding valueOf
 returns-11 c = rw (c .spelled6 .ensures, c .before .enum-told11 .given .1)
 
 returns-12 : tie.Need-returns-12
-unfolding valueOf
 returns-12 c = rw (c .spelled7 .ensures, c .before .enum-told12 .given .1)
-
-returns-13 : tie.Need-returns-13
-unfolding valueOf
-returns-13 c = rw (c .enum-told13 .given .1)
 
 pub value-spec : {M : Type 1} → statement M
 value-spec =
@@ -63,5 +31,5 @@ value-spec =
     (λ c κs. search needs) (λ c. search needs) (λ c κs. search needs) (λ c. search needs)
     (λ c κs. search needs) (λ c. search needs) (λ c κs. search needs) (λ c. search needs)
     (λ c. search needs) (λ c κs. search needs) (λ c. search needs) (λ c κs. search needs)
-    (λ c. search needs) (λ c κs. search needs) (λ c. search needs) returns returns-2 returns-3 returns-4
-    returns-5 returns-6 returns-7 returns-8 returns-9 returns-10 returns-11 returns-12 returns-13)
+    (λ c. search needs) (λ c κs. search needs) (λ c. search needs) (λ c. search needs) (λ c. search needs) (λ c. search needs) (λ c. search needs)
+    returns-5 returns-6 returns-7 returns-8 (λ c. search needs) returns-10 returns-11 returns-12 (λ c. search needs))
