@@ -5,12 +5,12 @@
  * refused with 6. Where a call writes a ring, nobody else may read or write it meanwhile.
  *
  * Pointers are not null, also beside a length of 0, and what a call writes through one overlaps nothing else that it
- * is lent. What a pointer for a result holds before the call does not matter.
+ * is lent. What a pointer for a result holds before the call does not matter. Lengths have 64 bits on every machine,
+ * processors of 32 bits included.
  */
 #ifndef MEKVALGS_H
 #define MEKVALGS_H
 
-#include <stddef.h>
 #include <stdint.h>
 
 /* The version of this interface. */
@@ -85,48 +85,48 @@ enum mekvalgs_type {
  * old values do not matter. A leafset has the A nearest nodes clockwise and the B nearest the other way.
  * Answers 0, 1, 2 (A and B are 1 to 8, n is 1 to 64), 3. With n = 0 no key is read and the answer is 1 or 2; keys is
  * not null even then, any address of a uint32_t will do. */
-uint32_t mekvalgs_open(uint32_t *words, size_t length, uint32_t clockwise, uint32_t counter_clockwise,
-                       const uint32_t *keys, size_t n);
+uint32_t mekvalgs_open(uint32_t *words, uint64_t length, uint32_t clockwise, uint32_t counter_clockwise,
+                       const uint32_t *keys, uint64_t n);
 
 /* Plays an event word on the ring. Answers 0, 1, 4 to 11. */
-uint32_t mekvalgs_play(uint32_t *words, size_t length, uint32_t word);
+uint32_t mekvalgs_play(uint32_t *words, uint64_t length, uint32_t word);
 
 /* Shows what mekvalgs_play would answer and leave: preview becomes the words after it, and nothing of the ring is
  * written. The two buffers do not overlap; what preview holds before does not matter.
  * Answers 0, 1 (either buffer), 4 to 11. Where accepted, preview reads as a ring afterwards, so that calls can go on
  * from it; where refused, it stays whole. */
-uint32_t mekvalgs_preview(const uint32_t *words, size_t length, uint32_t word, uint32_t *preview,
-                          size_t preview_length);
+uint32_t mekvalgs_preview(const uint32_t *words, uint64_t length, uint32_t word, uint32_t *preview,
+                          uint64_t preview_length);
 
 /* Plays the script's words on the ring one by one, as mekvalgs_play does, but reads the words as a ring once only.
  * Answers 0, 1, 6. The answer to each word is written to its place in answers; answers past the places are dropped, and
  * places past the script stay. Where the call is refused, answers stays whole. */
-uint32_t mekvalgs_play_all(uint32_t *words, size_t length, const uint32_t *script, size_t script_length,
-                           uint8_t *answers, size_t places);
+uint32_t mekvalgs_play_all(uint32_t *words, uint64_t length, const uint32_t *script, uint64_t script_length,
+                           uint8_t *answers, uint64_t places);
 
 /* Opens a ring as mekvalgs_open does, and plays the script's words on it one by one.
  * Answers as mekvalgs_open. The answer to each word is written to its place in answers; answers past the places are
  * dropped, and places past the script stay. Where the opening is refused, answers stays whole. */
-uint32_t mekvalgs_replay(uint32_t *words, size_t length, uint32_t clockwise, uint32_t counter_clockwise,
-                         const uint32_t *keys, size_t n, const uint32_t *script, size_t script_length,
-                         uint8_t *answers, size_t places);
+uint32_t mekvalgs_replay(uint32_t *words, uint64_t length, uint32_t clockwise, uint32_t counter_clockwise,
+                         const uint32_t *keys, uint64_t n, const uint32_t *script, uint64_t script_length,
+                         uint8_t *answers, uint64_t places);
 
 /* The leafset of node x in its held set, bit s for node s. Answers 0, 1, 6, 7, 8; the set is empty where refused. */
-uint32_t mekvalgs_leafset(const uint32_t *words, size_t length, uint32_t x, uint64_t *set);
+uint32_t mekvalgs_leafset(const uint32_t *words, uint64_t length, uint32_t x, uint64_t *set);
 
 /* Whether nodes a and b, which may be one, are connected: 1, or 0. Answers 0, 1, 6, 7, 8; 0 where refused. */
-uint32_t mekvalgs_connected(const uint32_t *words, size_t length, uint32_t a, uint32_t b, uint32_t *connected);
+uint32_t mekvalgs_connected(const uint32_t *words, uint64_t length, uint32_t a, uint32_t b, uint32_t *connected);
 
 /* The number of connected groups of running nodes. Answers 0, 1, 6; 0 groups where refused. */
-uint32_t mekvalgs_groups(const uint32_t *words, size_t length, uint32_t *groups);
+uint32_t mekvalgs_groups(const uint32_t *words, uint64_t length, uint32_t *groups);
 
 /* The route from node start towards the key: from each node on to the nearest of the running nodes that it holds, as
  * long as that one is nearer; of two equally near, the clockwise one from the key is. Its nodes are written to the
  * first places of route, start first; places behind the last one stay. end is the last node, hops how often the route
  * goes on. Answers 0, 1, 6, 7, 8, 12, 13 (64 places are needed however small n is). Where refused, end is
  * MEKVALGS_NONE, hops is 0, and route stays whole. */
-uint32_t mekvalgs_route(const uint32_t *words, size_t length, uint32_t start, uint32_t key, uint8_t *route,
-                        size_t places, uint32_t *end, uint32_t *hops);
+uint32_t mekvalgs_route(const uint32_t *words, uint64_t length, uint32_t start, uint32_t key, uint8_t *route,
+                        uint64_t places, uint32_t *end, uint32_t *hops);
 
 /* The event of a word as three numbers: its kind; its node, or of deliver and lose the position; the other node of
  * notice and contact, the timer of timer (0, 2, 3 or 4), 1 of an off that is polite, else 0. Answers 0, 4, 5; all three

@@ -5,23 +5,23 @@ use crate::ring::{Ring, Routed, Sides};
 #[link(name = "mekvalgs", kind = "static")]
 extern "C" {
     fn mekvalgs_open(
-        words: *mut u32, len: usize, clockwise: u32, counter_clockwise: u32, keys: *const u32, n: usize,
+        words: *mut u32, len: u64, clockwise: u32, counter_clockwise: u32, keys: *const u32, n: u64,
     ) -> u32;
-    fn mekvalgs_play(words: *mut u32, len: usize, word: u32) -> u32;
-    fn mekvalgs_preview(words: *const u32, len: usize, word: u32, preview: *mut u32, preview_len: usize) -> u32;
+    fn mekvalgs_play(words: *mut u32, len: u64, word: u32) -> u32;
+    fn mekvalgs_preview(words: *const u32, len: u64, word: u32, preview: *mut u32, preview_len: u64) -> u32;
     fn mekvalgs_play_all(
-        words: *mut u32, len: usize, script: *const u32, script_len: usize, answers: *mut u8, places: usize,
+        words: *mut u32, len: u64, script: *const u32, script_len: u64, answers: *mut u8, places: u64,
     ) -> u32;
-    fn mekvalgs_leafset(words: *const u32, len: usize, node: u32, set: *mut u64) -> u32;
-    fn mekvalgs_connected(words: *const u32, len: usize, a: u32, b: u32, yes: *mut u32) -> u32;
-    fn mekvalgs_groups(words: *const u32, len: usize, number: *mut u32) -> u32;
+    fn mekvalgs_leafset(words: *const u32, len: u64, node: u32, set: *mut u64) -> u32;
+    fn mekvalgs_connected(words: *const u32, len: u64, a: u32, b: u32, yes: *mut u32) -> u32;
+    fn mekvalgs_groups(words: *const u32, len: u64, number: *mut u32) -> u32;
     fn mekvalgs_route(
-        words: *const u32, len: usize, start: u32, key: u32, route: *mut u8, places: usize, end: *mut u32,
+        words: *const u32, len: u64, start: u32, key: u32, route: *mut u8, places: u64, end: *mut u32,
         hops: *mut u32,
     ) -> u32;
     fn mekvalgs_replay(
-        words: *mut u32, len: usize, clockwise: u32, counter_clockwise: u32, keys: *const u32, n: usize,
-        script: *const u32, script_len: usize, answers: *mut u8, places: usize,
+        words: *mut u32, len: u64, clockwise: u32, counter_clockwise: u32, keys: *const u32, n: u64,
+        script: *const u32, script_len: u64, answers: *mut u8, places: u64,
     ) -> u32;
     fn mekvalgs_read_event(word: u32, kind: *mut u32, first: *mut u32, second: *mut u32) -> u32;
     fn mekvalgs_write_event(kind: u32, first: u32, second: u32, word: *mut u32) -> u32;
@@ -39,22 +39,29 @@ impl Ring for Library {
     fn open(&self, words: &mut [u32], sides: Sides, keys: &[u32]) -> u32 {
         let Sides { clockwise, counter_clockwise } = sides;
         unsafe {
-            mekvalgs_open(words.as_mut_ptr(), words.len(), clockwise, counter_clockwise, keys.as_ptr(), keys.len())
+            mekvalgs_open(
+                words.as_mut_ptr(), words.len() as u64, clockwise, counter_clockwise, keys.as_ptr(), keys.len() as u64,
+            )
         }
     }
 
     fn play(&self, words: &mut [u32], word: u32) -> u32 {
-        unsafe { mekvalgs_play(words.as_mut_ptr(), words.len(), word) }
+        unsafe { mekvalgs_play(words.as_mut_ptr(), words.len() as u64, word) }
     }
 
     fn preview(&self, words: &mut [u32], word: u32, second: &mut [u32]) -> u32 {
-        unsafe { mekvalgs_preview(words.as_mut_ptr(), words.len(), word, second.as_mut_ptr(), second.len()) }
+        unsafe {
+            mekvalgs_preview(
+                words.as_mut_ptr(), words.len() as u64, word, second.as_mut_ptr(), second.len() as u64,
+            )
+        }
     }
 
     fn play_all(&self, words: &mut [u32], list: &[u32], answers: &mut [u8]) -> u32 {
         unsafe {
             mekvalgs_play_all(
-                words.as_mut_ptr(), words.len(), list.as_ptr(), list.len(), answers.as_mut_ptr(), answers.len(),
+                words.as_mut_ptr(), words.len() as u64, list.as_ptr(), list.len() as u64, answers.as_mut_ptr(),
+                answers.len() as u64,
             )
         }
     }
@@ -63,24 +70,25 @@ impl Ring for Library {
 
     fn leafset_of(&self, words: &[u32], node: u32) -> (u32, u64) {
         let mut set = u64::MAX;
-        (unsafe { mekvalgs_leafset(words.as_ptr(), words.len(), node, &mut set) }, set)
+        (unsafe { mekvalgs_leafset(words.as_ptr(), words.len() as u64, node, &mut set) }, set)
     }
 
     fn connected(&self, words: &[u32], a: u32, b: u32) -> (u32, bool) {
         let mut yes = u32::MAX;
-        (unsafe { mekvalgs_connected(words.as_ptr(), words.len(), a, b, &mut yes) }, yes != 0)
+        (unsafe { mekvalgs_connected(words.as_ptr(), words.len() as u64, a, b, &mut yes) }, yes != 0)
     }
 
     fn groups(&self, words: &[u32]) -> (u32, u32) {
         let mut number = u32::MAX;
-        (unsafe { mekvalgs_groups(words.as_ptr(), words.len(), &mut number) }, number)
+        (unsafe { mekvalgs_groups(words.as_ptr(), words.len() as u64, &mut number) }, number)
     }
 
     fn route(&self, words: &[u32], start: u32, key: u32, list: &mut [u8]) -> Routed {
         let (mut end, mut hops) = (u32::MAX, u32::MAX);
         let answer = unsafe {
             mekvalgs_route(
-                words.as_ptr(), words.len(), start, key, list.as_mut_ptr(), list.len(), &mut end, &mut hops,
+                words.as_ptr(), words.len() as u64, start, key, list.as_mut_ptr(), list.len() as u64, &mut end,
+                &mut hops,
             )
         };
         Routed { answer, end, hops }
@@ -94,8 +102,8 @@ pub fn replay(words: &mut [u32], sides: Sides, keys: &[u32], script: &[u32]) {
     let mut answers = vec![0; script.len()];
     unsafe {
         mekvalgs_replay(
-            words.as_mut_ptr(), words.len(), clockwise, counter_clockwise, keys.as_ptr(), keys.len(),
-            script.as_ptr(), script.len(), answers.as_mut_ptr(), answers.len(),
+            words.as_mut_ptr(), words.len() as u64, clockwise, counter_clockwise, keys.as_ptr(), keys.len() as u64,
+            script.as_ptr(), script.len() as u64, answers.as_mut_ptr(), answers.len() as u64,
         )
     };
 }
