@@ -1,6 +1,6 @@
 -- A change written part by part: the message out, the node, the first messages, the second. Together that is the ring that the change
 -- leaves, and each part has room.
-use mathlib.Core.Path.{_≡_, refl, sym, ap, _∙_}
+use mathlib.Core.Path.{_≡_, refl, sym, ap, subst, _∙_}
 use mathlib.Core.List.{List, _++_, append-assoc}
 use Prim.Native.Nat.{ℕ, _+_, _-_, _≤_, _<_}
 use native.Mathlib.Omega.{arith}
@@ -59,8 +59,17 @@ module _ (ws : List ℕ) (c : Change) (w : Writable ws c) where
   abbrev second : List Message
   second = sendsOf (c .node .0) (c .time .0) (c .effect .own) (c .effect .second)
 
-  pub rises : c .becomes ≡ Starts → c .time .0 ≡ out .node (c .node .0) .clock + 1
+  rises : c .becomes ≡ Starts → c .time .0 ≡ out .node (c .node .0) .clock + 1
   rises s = w .fits .rises s ∙ ap (λ (f : ℕ → Node). f (c .node .0) .clock + 1) (sym (taken-nodes (c .taken) (decode ws)))
+
+  -- words in which the node became b, if its clock rises where it starts: b is what the change says
+  abbrev NodeWritten : List ℕ → ℕ → ℕ → Becomes → Type 0
+  NodeWritten words n m b =
+      (b ≡ Starts → c .time .0 ≡ out .node (c .node .0) .clock + 1)
+      → Encodes words n m (nodeChanged b (c .node .0) (c .time .0) (ownOf (c .effect .own)) out)
+
+  pub node-written : {b : Becomes} {words : List ℕ} {n m : ℕ} → NodeWritten words n m b → b ≡ c .becomes → Encodes words n m node
+  node-written {words = words} {n} {m} written e = subst (NodeWritten words n m) e written rises
 
   kept : node .messages ≡ out .messages
   kept = node-messages (c .becomes) (c .node .0) (c .time .0) (ownOf (c .effect .own)) out
