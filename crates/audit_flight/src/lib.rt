@@ -10,10 +10,6 @@ use word_ring::MessageWord;
 use word_ring::mark;
 use word_ring::place;
 
-const ACKNOWLEDGEMENT: u8 = 10;
-
-const LEAVE: u8 = 13;
-
 // How many are acknowledgements, and how many are of type 13, although their sender runs.
 pub struct Flight {
     pub acknowledgements: u32,
@@ -35,8 +31,8 @@ pub fn look(words: &[u32], running: u64) -> Flight
     for i in 0..m {
         let message = MessageWord(words[place::MESSAGES + 5 * i]);
         let tag = message.tag();
-        acknowledgements += mark(tag == ACKNOWLEDGEMENT);
-        let late = (tag == LEAVE) & sets::has(running, message.sender());
+        acknowledgements += mark(tag == MessageWord::PONG_REPLACE);
+        let late = (tag == MessageWord::LEAVE) & sets::has(running, message.sender());
         leaves += mark(late);
     }
     Flight {
