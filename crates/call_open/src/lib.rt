@@ -13,8 +13,8 @@ use model::values::Sides;
 use word_ring::limit;
 use word_ring::place;
 
-// "Opening takes [A, then B,] and a list of n keys, stand 0's first, and writes a fresh ring over the lent buffer, whose
-// old words don't matter."
+// "Opening takes [A, then B,] and a list of n keys, stand 0's first, and writes a fresh ring over the lent buffer,
+// whose old words don't matter."
 pub fn open(words: &mut [u32], clockwise: u32, counter_clockwise: u32, keys: &[u32]) -> Answer
     ensures written { λ r. ⌜ written r (now (words .exit))
         ≡ openBuffer (now (words .entry))

@@ -87,7 +87,8 @@ pub fn outside(keys: &[u32], sides: Sides, me: NodeNumber, held: u64) -> u64
     requires sides { ⌜ RoomSides sides ⌝ }
     ensures members { λ r. ⌜ ofBits r
         ≡
-        (λ (z : ℕ). ofBits held z && not (model.leafset (tableOf sides (now (keys .entry))) (me .0) (ofBits held) z)) ⌝ }
+        (λ (z : ℕ). ofBits held z
+        && not (model.leafset (tableOf sides (now (keys .entry))) (me .0) (ofBits held) z)) ⌝ }
 {
     sets::minus(held, leafset(keys, sides, me, held))
 }
