@@ -88,11 +88,7 @@ struct Audit<'a> {
 /// The account of a script.
 pub fn run(ring: &dyn Ring, script: &[u8]) -> String {
     let mut words = vec![0; LENGTH];
-    let opened = bench::opening(script).and_then(|opening| match ring.open(&mut words, opening.sides, &opening.keys) {
-        0 => Ok(opening.events),
-        refusal => Err(refusal),
-    });
-    match opened {
+    match bench::open(ring, &mut words, script) {
         Ok(events) => {
             let (uncovered, verdicts) = (Vec::new(), Vec::new());
             let mut audit = Audit { ring, words, count: 0, point: 0, uncovered, verdicts, out: String::new() };
@@ -100,7 +96,7 @@ pub fn run(ring: &dyn Ring, script: &[u8]) -> String {
             audit.end();
             audit.out
         }
-        Err(refusal) => format!("no ring: {}\n", answer_text(refusal)),
+        Err(refusal) => format!("no ring: refused, {refusal}: {}\n", bench::fault(refusal)),
     }
 }
 

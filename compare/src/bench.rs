@@ -61,6 +61,15 @@ pub fn open<'a>(ring: &dyn Ring, words: &mut [u32], input: &'a [u8]) -> Result<&
     }
 }
 
+/// Why a script opens no ring: "word 0 with m = 0 (any fault is 2), n key words with running 0 (a wrong one is 3, a
+/// missing or cut one 2)".
+pub fn fault(refusal: u32) -> &'static str {
+    match refusal {
+        2 => "the first word is at fault, or a key is missing",
+        _ => "a key is at fault, or two are equal",
+    }
+}
+
 fn play_all(ring: &dyn Ring, words: &mut [u32], events: &[u8], out: &mut String) {
     for (before, event) in events.chunks(4).enumerate() {
         // "A tail under 4 bytes is an event answered 4."

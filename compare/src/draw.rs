@@ -92,11 +92,8 @@ pub fn run(ring: &dyn Ring, input: &[u8]) -> String {
 }
 
 fn refused(refusal: u32) -> String {
-    let words = match refusal {
-        2 => "the first word is at fault, or a key is missing",
-        _ => "a key is at fault, or two are equal",
-    };
-    format!("{HEAD}<text class='t' x='40' y='66'>no ring, refusal {refusal}: {words}</text>\n{END}")
+    let fault = bench::fault(refusal);
+    format!("{HEAD}<text class='t' x='40' y='66'>no ring, refusal {refusal}: {fault}</text>\n{END}")
 }
 
 #[derive(Clone, Copy)]

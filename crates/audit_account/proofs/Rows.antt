@@ -28,7 +28,18 @@ use Rattle.audit_account.proofs.ExampleRing.{ring, from-0, from-1, from
 
 -- `unfolding computed` opens every definition, for what is shown by computing
 unfoldable computed : Unit {0}
-unfolding ring from-0 from-1 from-1-all request acknowledgement left Decimal.decimalIn Decimal.decimal Decimal.spaced Describe.eventText Describe.rawText Describe.wordText Describe.hexBytes Sets.all Sets.some Sets.count Sets.members Sets.tabulateFrom Ring.initial Words.headWord Words.keyWord Words.inRange Words.keysDiffer Bench.littleEndian Bench.scriptTable Bench.scriptAnswer Steps.hold Steps.contact Steps.notice Steps.forget Steps.release Steps.leaving Steps.onPingContact Steps.onPongContact Steps.onLeave Steps.deliver Answers.firstOf Events.eventOf Play.removeMessage Play.act Play.after Play.playAnswer Play.playWord Connection.reached Connection.connected Connection.groups Points.acknowledgements Points.lateLeaves Points.isPoint Points.isUncoveredWord Partings.torn Partings.parts Partings.side Partings.isFirst Partings.sidesText Accounts.opened Accounts.noted Accounts.counted Accounts.begun Accounts.entered Accounts.afterParting Accounts.played Accounts.answerText Accounts.stateText Accounts.eventText Accounts.entryText Accounts.entriesText Accounts.moreText Accounts.verdictText Accounts.partedText Accounts.wordLines Accounts.endText Whole.playedAll Whole.allLines Whole.tailLine Whole.rest Whole.audit
+unfolding ring from-0 from-1 from-1-all request acknowledgement left Decimal.decimalIn Decimal.decimal Decimal.spaced
+    Describe.eventText Describe.rawText Describe.wordText Describe.hexBytes Sets.all Sets.some Sets.count Sets.members
+    Sets.tabulateFrom Ring.initial Words.headWord Words.keyWord Words.inRange Words.keysDiffer Bench.littleEndian
+    Bench.scriptTable Bench.scriptAnswer Steps.hold Steps.contact Steps.notice Steps.forget Steps.release
+    Steps.leaving Steps.onPingContact Steps.onPongContact Steps.onLeave Steps.deliver Answers.firstOf Events.eventOf
+    Play.removeMessage Play.act Play.after Play.playAnswer Play.playWord Connection.reached Connection.connected
+    Connection.groups Points.acknowledgements Points.lateLeaves Points.isPoint Points.isUncoveredWord Partings.torn
+    Partings.parts Partings.side Partings.isFirst Partings.sidesText Accounts.opened Accounts.noted Accounts.counted
+    Accounts.begun Accounts.entered Accounts.afterParting Accounts.played Accounts.answerText Accounts.noRingText
+    Accounts.stateText Accounts.eventText Accounts.entryText Accounts.entriesText Accounts.moreText
+    Accounts.verdictText Accounts.partedText Accounts.wordLines Accounts.endText Whole.playedAll Whole.allLines
+    Whole.tailLine Whole.rest Whole.audit
 computed = tt
 
 -- 26 events were played, and the last left a point
@@ -227,8 +238,56 @@ pub record Scripts : Type 0 where
       ++ ascii "7 tail ff: refused, 4: not an event; in flight 0, acknowledgements 0, groups 2\n"
       ++ ascii "times parted: 1; "
       ++ ascii "an on in the verdict: 0, an off: 0, a wrong notice: 1\n"
-  pub no-words : Whole.audit (0x31 ∷ []) ≡ ascii "no ring: refused, 2: n, A or B is out of range\n"
 
 pub scripts : Scripts
 unfolding computed bytes
-scripts = record { two-nodes = refl; no-words = refl }
+scripts = record { two-nodes = refl }
+
+-- ---- scripts that open no ring
+
+pub first-at-fault : List ℕ
+first-at-fault = ascii "no ring: refused, 2: the first word is at fault, or a key is missing\n"
+
+pub key-at-fault : List ℕ
+key-at-fault = ascii "no ring: refused, 3: a key is at fault, or two are equal\n"
+
+-- of two nodes, unless a row says otherwise
+pub record NoRings : Type 0 where
+  pub no-byte : Whole.audit [] ≡ first-at-fault
+  pub no-word : Whole.audit (0x31 ∷ []) ≡ first-at-fault
+  -- a key word for the first word
+  pub other-kind : Whole.audit (bytes (0x2000000A ∷ 0x2000000A ∷ 0x20000014 ∷ [])) ≡ first-at-fault
+  -- m is 1
+  pub message : Whole.audit (bytes (0x10400821 ∷ 0x2000000A ∷ 0x20000014 ∷ [])) ≡ first-at-fault
+  -- n is 0
+  pub no-nodes : Whole.audit (bytes (0x10400001 ∷ [])) ≡ first-at-fault
+  -- A is 0
+  pub none-ahead : Whole.audit (bytes (0x10400020 ∷ 0x2000000A ∷ 0x20000014 ∷ [])) ≡ first-at-fault
+  pub missing-key : Whole.audit (bytes (0x10400021 ∷ 0x2000000A ∷ [])) ≡ first-at-fault
+  pub cut-key : Whole.audit (bytes (0x10400021 ∷ 0x2000000A ∷ []) ++ 0x14 ∷ 0 ∷ 0 ∷ []) ≡ first-at-fault
+  -- a wrong key does not hide that another is missing
+  pub wrong-and-missing : Whole.audit (bytes (0x10400021 ∷ 0x2100000A ∷ [])) ≡ first-at-fault
+  pub running-key : Whole.audit (bytes (0x10400021 ∷ 0x2000000A ∷ 0x21000014 ∷ [])) ≡ key-at-fault
+  -- an event for the second key
+  pub key-of-other-kind : Whole.audit (bytes (0x10400021 ∷ 0x2000000A ∷ 0x90000000 ∷ [])) ≡ key-at-fault
+  pub unnamed-bit : Whole.audit (bytes (0x10400021 ∷ 0x2000000A ∷ 0x22000014 ∷ [])) ≡ key-at-fault
+  pub equal-keys : Whole.audit (bytes (0x10400021 ∷ 0x2000000A ∷ 0x2000000A ∷ [])) ≡ key-at-fault
+
+pub no-rings : NoRings
+unfolding computed bytes first-at-fault key-at-fault
+no-rings =
+    record {
+      no-byte = refl;
+      no-word = refl;
+      other-kind = refl;
+      message = refl;
+      no-nodes = refl;
+      none-ahead = refl;
+      missing-key = refl;
+      cut-key = refl;
+      wrong-and-missing = refl;
+      running-key = refl;
+      key-of-other-kind = refl;
+      unnamed-bit = refl;
+      equal-keys = refl;
+    }

@@ -144,6 +144,14 @@ answerTexts =
 unfoldable pub answerText : ℕ → List ℕ
 answerText answer = getD answerTexts answer []
 
+-- the line of a script that opens no ring: "word 0 with m = 0 (any fault is 2), n key words with running 0 (a wrong one is
+-- 3, a missing or cut one 2)"
+unfoldable pub noRingText : ℕ → List ℕ
+noRingText refusal =
+    if eqb refusal 2
+    then ascii "no ring: refused, 2: the first word is at fault, or a key is missing\n"
+    else ascii "no ring: refused, 3: a key is at fault, or two are equal\n"
+
 -- what is in flight, and how many groups there are
 unfoldable pub stateText : Ring → List ℕ
 stateText r =

@@ -2,8 +2,7 @@
 use Prim.Native.Nat.{ℕ, _+_, _*_}
 use mathlib.Core.List.{List, [], _∷_, _++_}
 use lib.ListN.{length, drop}
-use Rattle.bench_lines.specs.Decimal.{space, newline}
-use Rattle.text_form.specs.Ascii.{ascii}
+use Rattle.bench_lines.specs.Decimal.{space}
 use Rattle.text_form.specs.Names.{tailName}
 use Rattle.text_form.specs.Describe.{hexBytes}
 use Rattle.model.specs.Choice.{if_then_else_}
@@ -12,7 +11,7 @@ use Rattle.model.specs.Ring.{initial}
 use Rattle.model.specs.Answers.{isAccepted, numberOf}
 use Rattle.model.specs.Bench.{littleEndian, scriptTable, scriptAnswer}
 use Rattle.model.specs.declared.answer.Answer.the-variants.{NotAnEvent}
-use Rattle.audit_account.specs.Accounts.{opened, Standing, played, answerText, eventText, wordLines, endText}
+use Rattle.audit_account.specs.Accounts.{opened, Standing, played, noRingText, eventText, wordLines, endText}
 
 abbrev pub begins : Table → Standing
 begins t = record { ring = initial t; account = opened; listed = [] }
@@ -39,7 +38,7 @@ unfoldable pub audit : List ℕ → List ℕ
 audit bytes =
     if isAccepted (scriptAnswer ws)
     then rest (begins (scriptTable ws)) (drop (1 + size (scriptTable ws)) ws) (drop (4 * length ws) bytes)
-    else ascii "no ring: " ++ answerText (scriptAnswer ws) ++ newline ∷ []
+    else noRingText (scriptAnswer ws)
   where
     ws : List ℕ
     ws = littleEndian bytes

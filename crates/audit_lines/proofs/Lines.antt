@@ -45,21 +45,23 @@ verdict-parts a b c d e f = simp append-assoc
 
 -- ---- the lines
 
-if-true : {b : Bool} → b ≡ true → (l m : List ℕ) → (if b then l else m) ≡ l
+pub if-true : {b : Bool} → b ≡ true → (l m : List ℕ) → (if b then l else m) ≡ l
 if-true e l m = rw e
 
-if-false : {b : Bool} → b ≡ false → (l m : List ℕ) → (if b then l else m) ≡ m
+pub if-false : {b : Bool} → b ≡ false → (l m : List ℕ) → (if b then l else m) ≡ m
 if-false e l m = rw e
 
 abbrev stateLine : ℕ → ℕ → ℕ → List ℕ
 stateLine m a g = ascii "; in flight " ++ decimal m ++ ascii ", acknowledgements " ++ decimal a ++ ascii ", groups " ++ decimal g ++ newline ∷ []
 
 pub state-line : (r : Ring) (s : Sight) → Sees s r
-    → (((ascii "; in flight " ++ decimal (s .messages)) ++ (ascii ", acknowledgements " ++ decimal (s .acknowledgements))) ++ (ascii ", groups " ++ decimal (s .groups))) ++ newline ∷ []
+    → (((ascii "; in flight " ++ decimal (s .messages)) ++ (ascii ", acknowledgements " ++ decimal (s .acknowledgements)))
+    ++ (ascii ", groups " ++ decimal (s .groups))) ++ newline ∷ []
     ≡ stateText r
 unfolding stateText
 state-line r s q =
-    three-numbers (ascii "; in flight ") (decimal (s .messages)) (ascii ", acknowledgements ") (decimal (s .acknowledgements)) (ascii ", groups ") (decimal (s .groups)) (newline ∷ [])
+    three-numbers (ascii "; in flight ") (decimal (s .messages)) (ascii ", acknowledgements ") (decimal (s .acknowledgements))
+    (ascii ", groups ") (decimal (s .groups)) (newline ∷ [])
     ∙ ap (λ (k : ℕ). stateLine k (s .acknowledgements) (s .groups)) (q .messages)
     ∙ ap (λ (k : ℕ). stateLine (length (r .messages)) k (s .groups)) (q .acknowledgements)
     ∙ ap (λ (k : ℕ). stateLine (length (r .messages)) (acknowledgements r) k) (q .groups)
@@ -75,11 +77,13 @@ unfolding entryText
 entry-line k w = numbered-word (ascii "    ") (decimal k) (ascii " ") (wordText w) (newline ∷ [])
 
 pub verdict-lines : (a : Account) (es : List Entry)
-    → (((ascii "  the promise last began after event " ++ decimal (a .point)) ++ (ascii "; it does not cover, since then:" ++ newline ∷ [])) ++ entriesText es) ++ moreText (a .uncovered)
+    → (((ascii "  the promise last began after event " ++ decimal (a .point)) ++ (ascii "; it does not cover, since then:" ++ newline ∷ []))
+    ++ entriesText es) ++ moreText (a .uncovered)
     ≡ verdictText a es
 unfolding verdictText
 verdict-lines a es =
-    verdict-parts (ascii "  the promise last began after event ") (decimal (a .point)) (ascii "; it does not cover, since then:") (newline ∷ []) (entriesText es) (moreText (a .uncovered))
+    verdict-parts (ascii "  the promise last began after event ") (decimal (a .point)) (ascii "; it does not cover, since then:") (newline ∷ [])
+    (entriesText es) (moreText (a .uncovered))
 
 pub no-more : (k : ℕ) → k ≤ most → [] ≡ moreText k
 unfolding moreText
@@ -130,6 +134,8 @@ put-one-more {counts = counts} {words = words} {i = i} {k = k} {w = w} p e f q l
       room = omega (arith, p .room);
     }
   where
-    the-next : k ≡ getD counts i 0 → w ≡ getD words i 0 → entriesText (entriesOf counts words i) ++ entryText (record { number = k; word = w }) ≡ entriesText (entriesOf counts words (i + 1))
+    the-next : k ≡ getD counts i 0 → w ≡ getD words i 0
+        → entriesText (entriesOf counts words i) ++ entryText (record { number = k; word = w }) ≡ entriesText (entriesOf counts words (i + 1))
     the-next e f =
-        rw (add-one i, e, f) (sym (entries-append (entriesOf counts words i) _ ∙ ap (λ (l : List ℕ). entriesText (entriesOf counts words i) ++ l) (append-nil _)))
+        rw (add-one i, e, f)
+        (sym (entries-append (entriesOf counts words i) _ ∙ ap (λ (l : List ℕ). entriesText (entriesOf counts words i) ++ l) (append-nil _)))

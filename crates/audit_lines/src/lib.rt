@@ -1,16 +1,16 @@
 // The lines of an account, as bytes.
 ghost use mathlib.Core.Path.{_≡_};
-ghost use mathlib.Core.List.{List, [], _∷_, _++_};
+ghost use mathlib.Core.List.{List, _++_};
 ghost use Prim.Native.Nat.{_+_, _≤_, min};
 ghost use lib.ListN.{length};
-ghost use Rattle.bench_lines.specs.Decimal.{decimal, newline};
+ghost use Rattle.bench_lines.specs.Decimal.{decimal};
 ghost use Rattle.bench_lines.specs.Put.{Put};
 ghost use Rattle.model.specs.Answers.{numberOf};
 ghost use Rattle.model.specs.Ring.{Ring};
 ghost use Rattle.text_form.specs.Ascii.{ascii};
 ghost use Rattle.text_form.specs.Describe.{wordText};
 ghost use Rattle.audit_account.specs.Accounts.{most, Entry, answerText, stateText, eventText, entryText, entriesText};
-ghost use Rattle.audit_account.specs.Accounts.{moreText, verdictText, endText};
+ghost use Rattle.audit_account.specs.Accounts.{noRingText, moreText, verdictText, endText};
 ghost use Rattle.audit_lines.specs.Seen.{Sees, entriesOf};
 use audit_account::Account;
 use bench_lines::put_byte;
@@ -43,8 +43,8 @@ pub fn put_numbered(out: &mut [u8], at: usize, text: &[u8], n: u64) -> usize
     put_number(out, start, n)
 }
 
-// Puts the answer of an event or of an opening in words.
-pub fn put_answer(out: &mut [u8], at: usize, answer: Answer) -> usize
+// Puts an answer in words.
+fn put_answer(out: &mut [u8], at: usize, answer: Answer) -> usize
     requires room { ⌜ at + 60 ≤ length (now out) ⌝ }
     ensures bytes { λ r. ⌜ Put (now (out .entry)) (now (out .exit)) at r (answerText (numberOf answer)) ⌝ }
     ensures end { λ r. ⌜ r ≤ at + 60 ⌝ }
@@ -213,14 +213,22 @@ pub fn put_end(out: &mut [u8], at: usize, account: Account) -> usize
     put_byte(out, fourth, NEWLINE)
 }
 
-// Puts the line of an opening that is refused.
-pub fn put_no_ring(out: &mut [u8], at: usize, answer: Answer) -> usize
+// Puts the line of a script that opens no ring.
+pub fn put_no_ring(out: &mut [u8], at: usize, refusal: u32) -> usize
     requires room { ⌜ at + 70 ≤ length (now out) ⌝ }
-    ensures bytes { λ e. ⌜ Put (now (out .entry)) (now (out .exit)) at e
-        (ascii "no ring: " ++ answerText (numberOf answer) ++ newline ∷ []) ⌝ }
+    ensures bytes { λ e. ⌜ Put (now (out .entry)) (now (out .exit)) at e (noRingText refusal) ⌝ }
     ensures end { λ e. ⌜ e ≤ at + 70 ⌝ }
 {
-    let first = put_bytes(out, at, b"no ring: ");
-    let second = put_answer(out, first, answer);
-    put_byte(out, second, NEWLINE)
+    if refusal == 2 {
+        return put_bytes(
+            out,
+            at,
+            b"no ring: refused, 2: the first word is at fault, or a key is missing\n",
+        );
+    }
+    put_bytes(
+        out,
+        at,
+        b"no ring: refused, 3: a key is at fault, or two are equal\n",
+    )
 }

@@ -5,7 +5,6 @@ use mathlib.Core.List.{List, [], _∷_, _++_}
 use Prim.Native.Nat.{ℕ, _+_, _*_, _^_, _≤_, _<_}
 use native.Mathlib.Omega.{arith}
 use lib.ListN.{length, drop, replicate, length-drop, getD-replicate}
-use Rattle.bench_lines.specs.Decimal.{newline}
 use Rattle.bench_lines.specs.Put.{Put}
 use Rattle.bench_open.specs.Beginning.{openScript}
 use Rattle.bench_open.proofs.Opened.{Opened, the-answer, refused-ring, nodes-are}
@@ -24,8 +23,7 @@ use Rattle.model.specs.declared.answer.Answer.{Answer}
 use Rattle.model.proofs.Laws.{clash}
 use Rattle.model.proofs.Decoded.{reads-well}
 use Rattle.sets.proofs.Bits.{of-none}
-use Rattle.text_form.specs.Ascii.{ascii}
-use Rattle.audit_account.specs.Accounts.{Standing, most, opened, answerText}
+use Rattle.audit_account.specs.Accounts.{Standing, most, opened, noRingText}
 use Rattle.audit_account.specs.Whole.{begins}
 use Rattle.audit_account.specs.declared.Account.{Account}
 use Rattle.audit_lines.specs.Seen.{entriesOf}
@@ -51,8 +49,8 @@ few-opened : Few opened
 unfolding opened
 few-opened = record { point = omega arith; uncovered = omega arith; partings = omega arith; ons = omega arith; offs = omega arith; notices = omega arith }
 
-module _ {ws script : List ℕ} (counts words : List ℕ) {groups : List ℕ} {a : Account} (o : Opened ws script) (cl : length counts ≡ most) (wl : length words ≡ most)
-    (account : a ≡ opened) (grouped : groups ≡ replicate 64 0) where
+module _ {ws script : List ℕ} (counts words : List ℕ) {groups : List ℕ} {a : Account} (o : Opened ws script)
+    (cl : length counts ≡ most) (wl : length words ≡ most) (account : a ≡ opened) (grouped : groups ≡ replicate 64 0) where
   begun-holds : Holds (begins (scriptTable script)) ws counts words groups a
   unfolding opened entriesOf initial
   begun-holds =
@@ -87,7 +85,7 @@ begins-count e = rw e (omega arith)
 module _ (ws script : List ℕ) {ws' : List ℕ} {n : ℕ} (a : Answer) (e : written a ws' ≡ openScript ws script) (number : n ≡ numberOf a) where
   pub refused-script : (chunk : List ℕ) {counts words out out' : List ℕ} {end : ℕ} {s : Session} → (n ≡ 0 → ⊥)
       → (length ws ≡ ringLength) × (length counts ≡ most) × (length words ≡ most)
-      → Put out out' 0 end (ascii "no ring: " ++ answerText (numberOf a) ++ newline ∷ [])
+      → Put out out' 0 end (noRingText n)
       → (s .more ≡ false) × (s .opened ≡ false) × (s .account ≡ opened) × (s .end ≡ end)
       → Stepped (firstTurn script chunk) ws' counts words out out' s
   unfolding firstTurn
@@ -98,7 +96,7 @@ module _ (ws script : List ℕ) {ws' : List ℕ} {n : ℕ} (a : Answer) (e : wri
         more = q .0;
         opened = q .1;
         account = q .2;
-        put = rw (q .3, ← the-answer ws script a e number) p;
+        put = rw (q .3, ← the-answer ws script a e number, ← number) p;
         long = ap length (r .kept) ∙ long .0;
         counts-long = long .1;
         words-long = long .2;
@@ -124,7 +122,8 @@ turn-loaded already s chunk e p = rw e at p
 
 -- a chunk has at most 1,024 events
 
-few-first : (b : Bool) (p q : Turn) (n : ℕ) → p .standing .account .count ≤ n → q .standing .account .count ≤ n → (if b then p else q) .standing .account .count ≤ n
+few-first : (b : Bool) (p q : Turn) (n : ℕ) → p .standing .account .count ≤ n → q .standing .account .count ≤ n
+    → (if b then p else q) .standing .account .count ≤ n
 few-first true p q n h i = h
 few-first false p q n h i = i
 

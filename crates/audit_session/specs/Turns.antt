@@ -4,14 +4,12 @@ use mathlib.Core.List.{List, [], _∷_, _++_}
 use Prim.Native.Nat.{ℕ, _+_}
 use lib.Dec.{eqb}
 use lib.ListN.{length, drop}
-use Rattle.bench_lines.specs.Decimal.{newline}
 use Rattle.bench_script.specs.Chunks.{chunkSize, tailOf}
-use Rattle.text_form.specs.Ascii.{ascii}
 use Rattle.model.specs.Choice.{if_then_else_}
 use Rattle.model.specs.Leafset.{size}
 use Rattle.model.specs.Answers.{isAccepted}
 use Rattle.model.specs.Bench.{littleEndian, scriptTable, scriptAnswer}
-use Rattle.audit_account.specs.Accounts.{Standing, answerText, endText}
+use Rattle.audit_account.specs.Accounts.{Standing, noRingText, endText}
 use Rattle.audit_account.specs.Whole.{begins, playedAll, allLines, tailLine}
 use Rattle.audit_account.specs.declared.Account.{Account}
 
@@ -46,7 +44,7 @@ firstTurn ws chunk =
     if isAccepted (scriptAnswer ws)
     then playedTurn (begins (scriptTable ws)) (drop (1 + size (scriptTable ws)) ws) chunk
     else record {
-      bytes = ascii "no ring: " ++ answerText (scriptAnswer ws) ++ newline ∷ [];
+      bytes = noRingText (scriptAnswer ws);
       standing = begins (scriptTable ws);
       opened = false;
       more = false;

@@ -72,9 +72,9 @@ fn begin(
     ensures turn { λ r. ⌜ Stepped (firstTurn (now (script .entry)) (now (bytes .entry)))
         (now (words .exit)) (now (counts .exit)) (now (listed .exit)) (now (out .entry)) (now (out .exit)) r ⌝ }
 {
-    let answer = bench_open::open_script(script, words);
-    if answers::number(answer) != 0 {
-        return Session::ended(audit_lines::put_no_ring(out, 0, answer));
+    let refusal = answers::number(bench_open::open_script(script, words));
+    if refusal != 0 {
+        return Session::ended(audit_lines::put_no_ring(out, 0, refusal));
     }
     let first = 1 + ring_head::nodes(words);
     turn::play(
