@@ -3,7 +3,8 @@ ghost use mathlib.Core.Path.{_≡_};
 ghost use mathlib.Core.Bool.{true};
 ghost use Rattle.model.specs.Answers.{numberOf};
 ghost use Rattle.model.specs.Events.{wordAnswer};
-ghost use Rattle.mekvalgs_event.specs.Parts.{numbers, partsOf, readParts, partsAre, eventOfParts, partsAnswer, writeParts};
+ghost use Rattle.mekvalgs_event.specs.Parts.{numbers, partsOf, readParts, partsAre, eventOfParts};
+ghost use Rattle.mekvalgs_event.specs.Parts.{partsAnswer, writeParts};
 use model::answer::Answer;
 use model::event::Event;
 use model::event::Reading;
@@ -14,7 +15,8 @@ use word_event::word::EventWord;
 use word_event::write_event;
 use word_ring::mark;
 
-// The kind; the node or the position; the other node, the timer, or 1 for a polite off; 0 where the event has none of them.
+// The kind; the node or the position; the other node, the timer, or 1 for a polite off; 0 where the event has none of
+// them.
 pub struct Parts {
     pub kind: u32,
     pub first: u32,
