@@ -3,7 +3,7 @@
 ghost use mathlib.Core.Path.{_≡_};
 ghost use Prim.Native.Nat.{_+_, _^_, _<_};
 ghost use lib.ListN.{length};
-ghost use Rattle.text_assemble.specs.Bounds.{ReaderBounded};
+ghost use Rattle.text_reader.specs.Bounds.{ReaderBounded};
 ghost use Rattle.text_assemble.specs.Chunks.{KeysBounded};
 use libc::SEEK_SET;
 use libc::STDERR_FILENO;
@@ -12,7 +12,6 @@ use libc::STDOUT_FILENO;
 use text_assemble::chunk;
 use text_assemble::chunk::ChunkRead;
 use text_assemble::fault;
-use text_assemble::reader;
 use text_form::Reader;
 
 // More chunks than any text has.
@@ -44,7 +43,7 @@ fn spool_text(file: i32, bytes: &mut [u8], keys: &mut [u32], out: &mut [u8]) -> 
     requires ready { ⌜ KeysBounded (now keys) × (length (now bytes) ≡ 1024) × (length (now out) ≡ 266240) ⌝ }
     ensures kind { λ r. ⌜ r .reader .command < 12 ⌝ }
 {
-    let mut reader = reader::start();
+    let mut reader = text_reader::start();
     for _ in 0..MOST {
         let next = chunk::read_next(STDIN_FILENO, reader, bytes, keys, out);
         let after = next.reader;

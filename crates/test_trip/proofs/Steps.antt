@@ -7,9 +7,9 @@ use native.Mathlib.Omega.{arith}
 use lib.ListN.{length, getD, replicate, length-replicate}
 use Rattle.text_form.specs.declared.Reader.{Reader}
 use Rattle.text_form.specs.Assemble.{start}
-use Rattle.text_assemble.specs.Bounds.{ReaderBounded}
+use Rattle.text_reader.specs.Bounds.{ReaderBounded}
 use Rattle.text_assemble.specs.Chunks.{KeysBounded}
-use Rattle.text_assemble.proofs.Bounded.{start-bounded}
+use Rattle.text_reader.proofs.Bounded.{start-bounded}
 use Rattle.test_trip.specs.Trips.{Ready}
 use Rattle.test_trip.specs.declared.Trip.{Trip}
 

@@ -3,7 +3,7 @@ use mathlib.Core.Path.{_≡_}
 use mathlib.Core.List.{List}
 use Prim.Native.Nat.{ℕ, _≤_}
 use lib.ListN.{length}
-use Rattle.text_assemble.specs.Bounds.{ReaderBounded}
+use Rattle.text_reader.specs.Bounds.{ReaderBounded}
 use Rattle.text_assemble.specs.Chunks.{KeysBounded}
 use Rattle.test_trip.specs.declared.Trip.{Trip}
 

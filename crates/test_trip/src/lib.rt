@@ -7,7 +7,6 @@ ghost use Rattle.text_assemble.specs.Chunks.{KeysBounded};
 ghost use Rattle.test_trip.specs.Trips.{Ready};
 use text_assemble::chunk;
 use text_assemble::chunk::ChunkRead;
-use text_assemble::reader;
 use text_describe::Session;
 use text_form::Reader;
 
@@ -111,7 +110,7 @@ pub fn comes_back(script: &[u8], text: &mut [u8], keys: &mut [u32], out: &mut [u
 {
     let mut session = Session::new();
     let mut trip = Trip {
-        reader: reader::start(),
+        reader: text_reader::start(),
         back: 0,
         same: true,
     };

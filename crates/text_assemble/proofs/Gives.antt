@@ -1,13 +1,13 @@
 -- What is given, as bytes and keys.
 use mathlib.Core.Path.{_≡_, refl, sym, ap, _∙_}
 use mathlib.Core.List.{List, [], _∷_, _++_, append-assoc, append-nil}
-use Prim.Native.Nat.{ℕ, _+_, _^_, _≤_, _<_}
+use Prim.Native.Nat.{ℕ, zero, suc, _+_, _-_, _/_, _%_, _^_, _≤_, _<_}
 use native.Mathlib.Numerals.{add-one}
 use native.Mathlib.Nat.{add-zero}
 use native.Mathlib.Decide.{ℕ-discrete}
 use native.Mathlib.Omega.{arith}
 use mathlib.Core.Bool.{false}
-use lib.ListN.{length, getD, take, set, length-set}
+use lib.ListN.{length, getD, take, drop, set, length-set}
 use lib.Seq.{take-suc, take-suc-set, getD-set-same, getD-set-other, length-take-le}
 use Rattle.bench_lines.specs.Put.{Put}
 use Rattle.bench_lines.proofs.Puts.{put-none}
@@ -16,7 +16,7 @@ use Rattle.model.specs.declared.values.Sides.{Sides}
 use Rattle.text_form.specs.Assemble.{wordBytes, keyBytes, tailBytes, givenBytes, givenKeys}
 use Rattle.text_form.specs.declared.Given.{Given}
 use Rattle.text_form.specs.declared.Given.the-variants as given
-use Rattle.text_assemble.specs.Bounds.{GivenBounded}
+use Rattle.text_reader.specs.Bounds.{GivenBounded}
 use Rattle.text_assemble.specs.Chunks.{KeysBounded, Gave}
 
 pub word-length : (w : ℕ) → length (wordBytes w) ≡ 4
@@ -46,11 +46,23 @@ pub opening-bytes : (sides : Sides) (ks : List ℕ) (n w : ℕ) → n ≤ length
 unfolding givenBytes
 opening-bytes sides ks n w h e = rw (e, length-take-le n ks h)
 
-pub three-left : (k : ℕ) → k ≤ 3 → (k ≡ 0 → ⊥) → (k ≡ 1 → ⊥) → (k ≡ 2 → ⊥) → k ≡ 3
-three-left k h a b c = omega arith
+-- the last k of the three bytes of a tail, and how many they are
+pub tail-part : (k v : ℕ) → k ≤ 3
+    → take (3 - (3 - k)) (drop (3 - k) (v / 2 ^ 8 / 2 ^ 8 % 2 ^ 8 ∷ v / 2 ^ 8 % 2 ^ 8 ∷ v % 2 ^ 8 ∷ [])) ≡ tailBytes k v
+unfolding tailBytes
+tail-part zero v h = refl
+tail-part (suc zero) v h = refl
+tail-part (suc (suc zero)) v h = refl
+tail-part (suc (suc (suc zero))) v h = refl
+tail-part (suc (suc (suc (suc k)))) v h = absurd (omega arith)
 
-pub three-put : (at end : ℕ) → end ≡ at + 3 → end ≤ at + 3
-three-put at end e = omega arith
+pub tail-short : (k v : ℕ) → k ≤ 3 → length (tailBytes k v) ≤ 3
+unfolding tailBytes
+tail-short zero v h = omega arith
+tail-short (suc zero) v h = omega arith
+tail-short (suc (suc zero)) v h = omega arith
+tail-short (suc (suc (suc zero))) v h = omega arith
+tail-short (suc (suc (suc (suc k)))) v h = omega arith
 
 -- ---- what is given, by its case
 

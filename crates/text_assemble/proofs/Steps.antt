@@ -11,10 +11,10 @@ use Rattle.bench_lines.proofs.Puts.{put-none, put-more, put-as}
 use Rattle.text_form.specs.Assemble.{Progress, byteRead, closed, advanced, textRead, givenBytes, givenKeys}
 use Rattle.text_form.specs.declared.Reader.{Reader}
 use Rattle.text_form.specs.declared.Step.{Step}
-use Rattle.text_assemble.specs.Bounds.{ReaderBounded}
+use Rattle.text_reader.specs.Bounds.{ReaderBounded}
 use Rattle.text_assemble.specs.Chunks.{KeysBounded, StepPut, progressOf, ended, Reached}
 use Rattle.text_assemble.specs.declared.chunk.ChunkRead.{ChunkRead}
-use Rattle.text_assemble.proofs.Bounded.{StepBounded, byte-bounded, closed-bounded}
+use Rattle.text_reader.proofs.Bounded.{StepBounded, byte-bounded, closed-bounded}
 
 pub nothing-read : (r : Reader) (ks out : List ℕ) → ReaderBounded r → KeysBounded ks → Reached (progressOf r ks) r ks out out 0
 nothing-read r ks out b k = record { reader = refl; keys = refl; put = put-none out 0; bounded = b; bounded-keys = k }

@@ -10,7 +10,7 @@ use Rattle.text_form.specs.Assemble.{Progress, byteRead, closed, advanced, text
 use Rattle.text_form.specs.declared.Given.{Given}
 use Rattle.text_form.specs.declared.Reader.{Reader}
 use Rattle.text_form.specs.declared.Step.{Step}
-use Rattle.text_assemble.specs.Bounds.{ReaderBounded}
+use Rattle.text_reader.specs.Bounds.{ReaderBounded}
 use Rattle.text_assemble.specs.declared.chunk.ChunkRead.{ChunkRead}
 
 -- the lent places of the keys

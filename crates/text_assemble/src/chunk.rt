@@ -4,12 +4,12 @@ ghost use Prim.Native.Nat.{_+_, _*_, _^_, _<_, _≤_};
 ghost use lib.ListN.{length, take};
 ghost use Rattle.io.specs.Counts.{Counts};
 ghost use Rattle.text_form.specs.Assemble.{byteRead, textRead, givenKeys};
-ghost use Rattle.text_assemble.specs.Bounds.{ReaderBounded, GivenBounded};
+ghost use Rattle.text_reader.specs.Bounds.{ReaderBounded, GivenBounded};
 ghost use Rattle.text_assemble.specs.Chunks.{KeysBounded, StepPut, progressOf, ended, Reached};
 use super::put;
-use super::reader;
 use text_form::Reader;
 use text_form::Step;
+use text_reader::NEWLINE;
 
 // The reader after what was read, and where the bytes end that were put.
 pub struct ChunkRead {
@@ -49,7 +49,7 @@ fn read_byte(reader: Reader, byte: u8, keys: &mut [u32], out: &mut [u8], at: usi
     ensures put { λ r. ⌜ StepPut (byteRead reader byte) (reader .keys) (now (keys .entry)) (now (keys .exit))
         (now (out .entry)) (now (out .exit)) at r ⌝ }
 {
-    let step = reader::byte_read(reader, byte);
+    let step = text_reader::byte_read(reader, byte);
     put_step(step, reader.keys as usize, keys, out, at)
 }
 
@@ -110,8 +110,8 @@ pub fn close(reader: Reader, keys: &mut [u32], out: &mut [u8]) -> ChunkRead
     ensures read { λ r. ⌜ Reached (ended (progressOf reader (now (keys .entry)))) (r .reader) (now (keys .exit))
         (now (out .entry)) (now (out .exit)) (r .end) ⌝ }
 {
-    let line = read_byte(reader, reader::NEWLINE, keys, out, 0);
+    let line = read_byte(reader, NEWLINE, keys, out, 0);
     let last = line.reader;
-    let step = reader::closed(last);
+    let step = text_reader::closed(last);
     put_step(step, last.keys as usize, keys, out, line.end)
 }

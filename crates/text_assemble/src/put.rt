@@ -5,9 +5,9 @@ ghost use lib.ListN.{length, take};
 ghost use Rattle.bench_lines.specs.Put.{Put};
 ghost use Rattle.model.specs.Structs.{RoomSides};
 ghost use Rattle.text_form.specs.Assemble.{wordBytes, keyBytes, tailBytes, givenBytes, givenKeys};
-ghost use Rattle.text_assemble.specs.Bounds.{GivenBounded};
+ghost use Rattle.text_reader.specs.Bounds.{GivenBounded};
 ghost use Rattle.text_assemble.specs.Chunks.{KeysBounded, Gave};
-use bench_lines::put_byte;
+use bench_lines::put_bytes;
 use model::values::Key;
 use model::values::Sides;
 use text_form::Given;
@@ -18,10 +18,13 @@ fn put_word(word: u32, out: &mut [u8], at: usize) -> usize
     requires room { ⌜ at + 4 ≤ length (now out) ⌝ }
     ensures bytes { λ r. ⌜ Put (now (out .entry)) (now (out .exit)) at r (wordBytes word) ⌝ }
 {
-    let first = put_byte(out, at, (word % 256) as u8);
-    let second = put_byte(out, first, (word / 256 % 256) as u8);
-    let third = put_byte(out, second, (word / 0x1_0000 % 256) as u8);
-    put_byte(out, third, (word / 0x100_0000 % 256) as u8)
+    let bytes = [
+        (word % 256) as u8,
+        (word / 256 % 256) as u8,
+        (word / 0x1_0000 % 256) as u8,
+        (word / 0x100_0000 % 256) as u8,
+    ];
+    put_bytes(out, at, &bytes)
 }
 
 // Puts the words of the first n keys.
@@ -49,34 +52,19 @@ fn put_opening(sides: Sides, keys: &[u32], n: usize, out: &mut [u8], at: usize) 
     put_keys(keys, n, out, first)
 }
 
-fn put_two(value: u32, out: &mut [u8], at: usize) -> usize
-    requires room { ⌜ at + 2 ≤ length (now out) ⌝ }
-    ensures bytes { λ r. ⌜ Put (now (out .entry)) (now (out .exit)) at r (tailBytes 2 value) ⌝ }
-{
-    let first = put_byte(out, at, (value / 256 % 256) as u8);
-    put_byte(out, first, (value % 256) as u8)
-}
-
-fn put_three(value: u32, out: &mut [u8], at: usize) -> usize
-    requires room { ⌜ at + 3 ≤ length (now out) ⌝ }
-    ensures bytes { λ r. ⌜ Put (now (out .entry)) (now (out .exit)) at r (tailBytes 3 value) ⌝ }
-{
-    let second = put_two(value / 256, out, at);
-    put_byte(out, second, (value % 256) as u8)
-}
-
 // Puts the last bytes of a script, at most three.
 fn put_tail(count: u8, value: u32, out: &mut [u8], at: usize) -> usize
     requires room { ⌜ (count ≤ 3) × (at + 3 ≤ length (now out)) ⌝ }
     ensures bytes { λ r. ⌜ Put (now (out .entry)) (now (out .exit)) at r (tailBytes count value) ⌝ }
     ensures end { λ r. ⌜ r ≤ at + 3 ⌝ }
 {
-    match count {
-        0 => at,
-        1 => put_byte(out, at, (value % 256) as u8),
-        2 => put_two(value, out, at),
-        _ => put_three(value, out, at),
-    }
+    let bytes = [
+        (value / 256 / 256 % 256) as u8,
+        (value / 256 % 256) as u8,
+        (value % 256) as u8,
+    ];
+    let start = 3 - count as usize;
+    put_bytes(out, at, &bytes[start..])
 }
 
 // Puts what is given, n keys being there before: bytes from `at` on, a key at place n.

@@ -3,9 +3,9 @@ use Prim.Native.Nat.{_+_, _*_, _-_, _≤_}
 use native.Mathlib.Omega.{arith}
 use lib.ListN.{length}
 use Rattle.text_form.specs.Assemble.{start}
-use Rattle.text_assemble.specs.Bounds.{ReaderBounded}
+use Rattle.text_reader.specs.Bounds.{ReaderBounded}
 use Rattle.text_assemble.specs.Chunks.{KeysBounded}
-use Rattle.text_assemble.proofs.Bounded.{start-bounded}
+use Rattle.text_reader.proofs.Bounded.{start-bounded}
 use borrow.Author.Needs.{needs}
 use Rattle.assemble.proofs.spool_text.Statement.{statement}
 use Rattle.assemble.proofs.spool_text.Tie as tie

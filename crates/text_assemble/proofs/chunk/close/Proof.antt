@@ -1,5 +1,5 @@
 use native.Mathlib.Omega.{arith}
-use Rattle.text_assemble.proofs.Bounded.{closed-bounded}
+use Rattle.text_reader.proofs.Bounded.{closed-bounded}
 use Rattle.text_assemble.proofs.Steps.{line-read, text-ended}
 use borrow.Author.Needs.{needs}
 use Rattle.text_assemble.proofs.chunk.close.Statement.{statement}

@@ -1,5 +1,5 @@
 use native.Mathlib.Omega.{arith}
-use Rattle.text_assemble.proofs.Bounded.{byte-bounded}
+use Rattle.text_reader.proofs.Bounded.{byte-bounded}
 use borrow.Author.Needs.{needs}
 use Rattle.text_assemble.proofs.chunk.read_byte.Statement.{statement}
 use Rattle.text_assemble.proofs.chunk.read_byte.Tie as tie

@@ -1,9 +1,0 @@
-use borrow.Author.Needs.{needs}
-use Rattle.text_assemble.proofs.reader.hash_read.Statement.{statement}
-use Rattle.text_assemble.proofs.reader.hash_read.Tie as tie
-
-returns : tie.Need-returns
-returns c = rw (c .commented .ensures, c .before .before .token-ended .ensures)
-
-pub hash-read-spec : {M : Type 1} → statement M
-hash-read-spec = tie.close (tie.spec (λ c κs. search needs) (λ c κs. search needs) returns)

@@ -1,0 +1,4 @@
+pub mod Tokens
+pub mod Lines
+pub mod Readers
+pub mod Bounded
