@@ -7,6 +7,7 @@ ghost use Rattle.text_form.specs.Assemble.{byteRead, textRead, givenKeys};
 ghost use Rattle.text_reader.specs.Bounds.{ReaderBounded, GivenBounded};
 ghost use Rattle.text_assemble.specs.Chunks.{KeysBounded, StepPut, progressOf, ended, Reached};
 use super::put;
+use model::values::NodeNumber;
 use text_form::Reader;
 use text_form::Step;
 use text_reader::NEWLINE;
@@ -25,7 +26,7 @@ impl ChunkRead {
     pub const ROOM: usize = 266_240;
 
     // The places of the keys.
-    pub const KEYS: usize = 64;
+    pub const KEYS: usize = NodeNumber::NONE.0 as usize;
 }
 
 // Puts what a step gives, n keys being there before.

@@ -2,7 +2,7 @@
 ghost use mathlib.Core.Path.{_≡_};
 ghost use Prim.Native.Nat.{_-_, _<_, _≤_};
 ghost use lib.ListN.{length, getD};
-ghost use Rattle.model.specs.Events.{wordOf};
+ghost use Rattle.model.specs.Events.{wordOf, isTimer};
 ghost use Rattle.text_form.specs.Assemble as form;
 ghost use Rattle.text_reader.specs.Bounds.{PartsBounded};
 use super::token;
@@ -13,11 +13,21 @@ use text_form::Given;
 use text_form::Stage;
 use text_form::command;
 use word_event::word::EventWord;
+use word_ring::limit;
 
 const ARITIES: [u8; 12] = [2, 1, 1, 1, 1, 2, 2, 3, 1, 1, 1, 1];
 
-// The most keys of an opening.
-pub const KEYS: u8 = 64;
+// The most keys of an opening: one for each node.
+pub const KEYS: u8 = NodeNumber::NONE.0;
+
+// What a node, a key and a position are below.
+const NODE_END: u64 = KEYS as u64;
+
+const KEY_END: u64 = limit::KEY as u64 + 1;
+
+const POSITION_END: u64 = EventWord::POSITIONS as u64;
+
+const SIDE: u64 = limit::SIDE as u64;
 
 fn is_later(kind: u8) -> bool
     ensures value { λ r. ⌜ r ≡ form.isLater kind ⌝ }
@@ -145,6 +155,16 @@ pub fn value(expected: Expected, token: u64) -> u64
     }
 }
 
+// Whether the value is that of a timer.
+fn is_timer(value: u64) -> bool
+    ensures value { λ r. ⌜ r ≡ isTimer value ⌝ }
+{
+    if token::NO_NUMBER <= value {
+        return false;
+    }
+    EventWord::is_timer(value as u32)
+}
+
 // Whether a token of this value is the part that is expected.
 pub fn fits(expected: Expected, token: u64, value: u64) -> bool
     requires value { ⌜ value ≡ form.valueOf expected token ⌝ }
@@ -155,12 +175,12 @@ pub fn fits(expected: Expected, token: u64, value: u64) -> bool
         Expected::Keys => false,
         Expected::Event => false,
         Expected::NoLine => false,
-        Expected::Side => (1 <= value) & (value <= 8),
-        Expected::Key => value < 0x100_0000,
-        Expected::Node => value < 64,
-        Expected::Timer => (value <= 4) & (value != 1),
+        Expected::Side => (1 <= value) & (value <= SIDE),
+        Expected::Key => value < KEY_END,
+        Expected::Node => value < NODE_END,
+        Expected::Timer => is_timer(value),
         Expected::At => token::is_at(token),
-        Expected::Position => value < 1024,
+        Expected::Position => value < POSITION_END,
         Expected::Word => (0x100_0000_0000_0000 <= token) & (value < token::NO_NUMBER),
         Expected::Tail => (token::pairs(token) != 0) & (value < token::NO_NUMBER),
         Expected::LineEnd => false,

@@ -1,3 +1,4 @@
+-- `fits` meets its contract: in each arm the case is known, and the value is that of the token.
 use borrow.Author.Needs.{needs}
 use Rattle.text_reader.proofs.line.fits.Statement.{statement}
 use Rattle.text_reader.proofs.line.fits.Tie as tie
@@ -12,7 +13,7 @@ returns-7 : tie.Need-returns-7
 returns-7 c = rw (c .before .before .pre, c .enum-told7 .given .1)
 
 returns-8 : tie.Need-returns-8
-returns-8 c = rw (c .before .before .pre, c .enum-told8 .given .1)
+returns-8 c = rw (c .is-timer .ensures, c .before .before .before .pre, c .before .enum-told8 .given .1)
 
 returns-9 : tie.Need-returns-9
 returns-9 c = rw (c .is-at .ensures, c .before .enum-told9 .given .1)
@@ -31,7 +32,7 @@ fits-spec =
     tie.close
     (tie.spec
     (λ c. search needs) (λ c. search needs) (λ c. search needs) (λ c. search needs) (λ c. search needs)
-    (λ c. search needs) (λ c. search needs) (λ c. search needs) (λ c. search needs) (λ c κs. search needs)
     (λ c. search needs) (λ c. search needs) (λ c. search needs) (λ c κs. search needs) (λ c. search needs)
-    (λ c. search needs) (λ c. search needs) (λ c. search needs) (λ c. search needs) returns-5 returns-6 returns-7 returns-8 returns-9 returns-10
-    returns-11 returns-12 (λ c. search needs))
+    (λ c κs. search needs) (λ c. search needs) (λ c. search needs) (λ c. search needs) (λ c κs. search needs)
+    (λ c. search needs) (λ c. search needs) (λ c. search needs) (λ c. search needs) (λ c. search needs)
+    returns-5 returns-6 returns-7 returns-8 returns-9 returns-10 returns-11 returns-12 (λ c. search needs))
