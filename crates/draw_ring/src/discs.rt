@@ -10,7 +10,7 @@ use bench_lines::put_bytes;
 use draw_circle::curve::DISCS;
 use draw_circle::point_at;
 use draw_svg::node;
-use draw_svg::put_labelled;
+use draw_svg::put_filled;
 use model::values::NodeNumber;
 
 // The radius of a disc, of n: neighbours leave it room.
@@ -86,8 +86,8 @@ pub fn put_discs(
     ensures room { λ r. ⌜ Room (now (out .entry)) (now (out .exit)) at r 19250 ⌝ }
 {
     let radius = radius(keys.len());
-    let size = put_labelled(out, at, b"<g font-size='", (radius + radius / 4) as u64);
-    let start = put_bytes(out, size, b"'>\n");
+    let size = (radius + radius / 4) as u64;
+    let start = put_filled(out, at, b"<g font-size='%'>\n", &[size]);
     let end = put_each(words, discs, radius, groups, out, start);
     put_bytes(out, end, b"</g>\n")
 }

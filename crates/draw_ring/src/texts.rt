@@ -6,9 +6,8 @@ ghost use Rattle.model.specs.Leafset.{size};
 ghost use Rattle.model.specs.Words.{ringLength, decodeTable};
 ghost use Rattle.draw_svg.specs.Room.{Room};
 ghost use Rattle.draw_ring.specs.Scene.{Scene};
-use bench_lines::put_bytes;
 use draw_svg::node;
-use draw_svg::put_labelled;
+use draw_svg::put_filled;
 use model::values::NodeNumber;
 
 // Puts the title: how many nodes, running nodes, groups and messages in flight there are.
@@ -18,12 +17,18 @@ pub fn put_title(words: &[u32], n: usize, groups: u32, out: &mut [u8], at: usize
     ensures room { λ r. ⌜ Room (now (out .entry)) (now (out .exit)) at r 180 ⌝ }
 {
     let running = sets::size(ring_nodes::running(words, n));
-    let nodes = put_labelled(out, at, b"<text class='t' x='40' y='66'>nodes: ", n as u64);
-    let run = put_labelled(out, nodes, b", running: ", running as u64);
-    let parts = put_labelled(out, run, b", groups: ", groups as u64);
-    let flight = ring_head::messages(words) as u64;
-    let end = put_labelled(out, parts, b", messages in flight: ", flight);
-    put_bytes(out, end, b"</text>\n")
+    let numbers = [
+        n as u64,
+        running as u64,
+        groups as u64,
+        ring_head::messages(words) as u64,
+    ];
+    put_filled(
+        out,
+        at,
+        b"<text class='t' x='40' y='66'>nodes: %, running: %, groups: %, messages in flight: %</text>\n",
+        &numbers,
+    )
 }
 
 // Puts the line of node x, of n.

@@ -2,7 +2,7 @@
 ghost use Prim.Native.Nat.{_+_, _≤_};
 ghost use lib.ListN.{length};
 ghost use Rattle.draw_svg.specs.Room.{Room};
-use super::put_labelled;
+use super::put_filled;
 use bench_lines::put_bytes;
 
 // Puts the first line, the styles and the ground.
@@ -128,8 +128,8 @@ pub fn put_refusal(out: &mut [u8], refusal: u32) -> usize
     ensures room { λ r. ⌜ Room (now (out .entry)) (now (out .exit)) 0 r 900 ⌝ }
 {
     let head = put_head(out, 0);
-    let label = b"<text class='t' x='40' y='66'>no ring, refusal ";
-    let number = put_labelled(out, head, label, refusal as u64);
+    let label = b"<text class='t' x='40' y='66'>no ring, refusal %";
+    let number = put_filled(out, head, label, &[refusal as u64]);
     let words = put_reason(out, number, refusal);
     put_end(out, words)
 }

@@ -3,33 +3,37 @@
 pub mod frame;
 pub mod node;
 
-ghost use Prim.Native.Nat.{_+_, _≤_};
+ghost use Prim.Native.Nat.{_+_, _*_, _≤_};
 ghost use lib.ListN.{length};
 ghost use Rattle.draw_svg.specs.Room.{Room};
 use bench_lines::put_byte;
-use bench_lines::put_bytes;
-use bench_lines::put_next;
 use bench_lines::put_number;
-use draw_circle::Point;
 use draw_circle::curve::Half;
 
-// Puts a text, and a number.
-pub fn put_labelled(out: &mut [u8], at: usize, label: &[u8], n: u64) -> usize
-    requires room { ⌜ at + length (now label) + 20 ≤ length (now out) ⌝ }
-    ensures room { λ r. ⌜ Room (now (out .entry)) (now (out .exit)) at r (length (now (label .entry)) + 20) ⌝ }
-{
-    let start = put_bytes(out, at, label);
-    put_number(out, start, n)
-}
+// Stands in a text for a number.
+const MARK: u8 = b'%';
 
-// Puts a letter, and the numbers of a point.
-pub fn put_point(out: &mut [u8], at: usize, letter: u8, p: Point) -> usize
-    requires room { ⌜ at + 42 ≤ length (now out) ⌝ }
-    ensures room { λ r. ⌜ Room (now (out .entry)) (now (out .exit)) at r 42 ⌝ }
+// Puts the text, with the next of the numbers in the place of each mark.
+pub fn put_filled(out: &mut [u8], at: usize, text: &[u8], numbers: &[u64]) -> usize
+    requires room { ⌜ at + length (now text) + 19 * length (now numbers) ≤ length (now out) ⌝ }
+    ensures room { λ r. ⌜ Room (now (out .entry)) (now (out .exit)) at r
+        (length (now (text .entry)) + 19 * length (now (numbers .entry))) ⌝ }
 {
-    let start = put_byte(out, at, letter);
-    let middle = put_number(out, start, p.x as u64);
-    put_next(out, middle, p.y as u64)
+    let mut end = at;
+    let mut next = 0;
+    for i in 0..text.len() {
+        let byte = text[i];
+        if byte != MARK {
+            end = put_byte(out, end, byte);
+            continue;
+        }
+        if numbers.len() <= next {
+            continue;
+        }
+        end = put_number(out, end, numbers[next]);
+        next += 1;
+    }
+    end
 }
 
 // Puts the curve and the end of its element.
@@ -37,20 +41,26 @@ fn put_curve(out: &mut [u8], at: usize, half: Half) -> usize
     requires room { ⌜ at + 180 ≤ length (now out) ⌝ }
     ensures room { λ r. ⌜ Room (now (out .entry)) (now (out .exit)) at r 180 ⌝ }
 {
-    let start = put_bytes(out, at, b"' d='");
-    let begin = put_point(out, start, b'M', half.begin);
-    let first = put_point(out, begin, b'C', half.first);
-    let second = put_point(out, first, b' ', half.second);
-    let end = put_point(out, second, b' ', half.end);
-    put_bytes(out, end, b"'/>\n")
+    let begin = half.begin;
+    let first = half.first;
+    let second = half.second;
+    let end = half.end;
+    let numbers = [
+        begin.x as u64,
+        begin.y as u64,
+        first.x as u64,
+        first.y as u64,
+        second.x as u64,
+        second.y as u64,
+        end.x as u64,
+        end.y as u64,
+    ];
+    put_filled(out, at, b"' d='M% %C% % % % % %'/>\n", &numbers)
 }
 
-// Puts the class of a group's colour. Colours repeat after eight.
-fn put_colour(out: &mut [u8], at: usize, group: u8) -> usize
-    requires room { ⌜ at + 22 ≤ length (now out) ⌝ }
-    ensures room { λ r. ⌜ Room (now (out .entry)) (now (out .exit)) at r 22 ⌝ }
-{
-    put_labelled(out, at, b" g", group as u64 % 8)
+// The class of a group's colour. Colours repeat after eight.
+fn colour(group: u8) -> u64 {
+    group as u64 % 8
 }
 
 // Puts the half of a link at the node that holds the other, dashed if that lies outside its leafset.
@@ -58,21 +68,19 @@ pub fn put_held(out: &mut [u8], at: usize, half: Half, group: u8, outside: bool)
     requires room { ⌜ at + 218 ≤ length (now out) ⌝ }
     ensures room { λ r. ⌜ Room (now (out .entry)) (now (out .exit)) at r 218 ⌝ }
 {
-    let class = put_bytes(out, at, b"<path class='h");
-    let dash = put_dash(out, class, outside);
-    let colour = put_colour(out, dash, group);
-    put_curve(out, colour, half)
+    let class = put_held_class(out, at, colour(group), outside);
+    put_curve(out, class, half)
 }
 
-// Puts the class of dashed links, if it is one.
-fn put_dash(out: &mut [u8], at: usize, dashed: bool) -> usize
-    requires room { ⌜ at + 2 ≤ length (now out) ⌝ }
-    ensures room { λ r. ⌜ Room (now (out .entry)) (now (out .exit)) at r 2 ⌝ }
+// Puts the classes of such a half.
+fn put_held_class(out: &mut [u8], at: usize, colour: u64, dashed: bool) -> usize
+    requires room { ⌜ at + 38 ≤ length (now out) ⌝ }
+    ensures room { λ r. ⌜ Room (now (out .entry)) (now (out .exit)) at r 38 ⌝ }
 {
-    if !dashed {
-        return at;
+    if dashed {
+        return put_filled(out, at, b"<path class='h o g%", &[colour]);
     }
-    put_bytes(out, at, b" o")
+    put_filled(out, at, b"<path class='h g%", &[colour])
 }
 
 // Puts the half of a link at a node that only is held.
@@ -80,6 +88,6 @@ pub fn put_only_held(out: &mut [u8], at: usize, half: Half) -> usize
     requires room { ⌜ at + 194 ≤ length (now out) ⌝ }
     ensures room { λ r. ⌜ Room (now (out .entry)) (now (out .exit)) at r 194 ⌝ }
 {
-    let class = put_bytes(out, at, b"<path class='i");
+    let class = put_filled(out, at, b"<path class='i", &[]);
     put_curve(out, class, half)
 }
