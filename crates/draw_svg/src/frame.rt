@@ -5,75 +5,30 @@ ghost use Rattle.draw_svg.specs.Room.{Room};
 use super::put_filled;
 use bench_lines::put_bytes;
 
-// Puts the first line, the styles and the ground.
+// Puts the first line, the styles and the ground: styles of the lines and the discs, of the discs of nodes that are off
+// and the texts, and the colours of the groups.
 pub fn put_head(out: &mut [u8], at: usize) -> usize
     requires room { ⌜ at + 760 ≤ length (now out) ⌝ }
     ensures room { λ r. ⌜ Room (now (out .entry)) (now (out .exit)) at r 760 ⌝ }
 {
-    let first = put_bytes(
+    put_bytes(
         out,
         at,
         b"<svg xmlns='http://www.w3.org/2000/svg' viewBox='0 0 2560 2100' font-family='sans-serif' font-size='24'>
 <style>
-",
-    );
-    let lines = put_line_styles(out, first);
-    let texts = put_text_styles(out, lines);
-    let colours = put_colours(out, texts);
-    put_bytes(
-        out,
-        colours,
-        b"</style>
-<rect width='2560' height='2100'/>
-",
-    )
-}
-
-// Puts the styles of the ground, the lines and the discs.
-fn put_line_styles(out: &mut [u8], at: usize) -> usize
-    requires room { ⌜ at + 240 ≤ length (now out) ⌝ }
-    ensures room { λ r. ⌜ Room (now (out .entry)) (now (out .exit)) at r 240 ⌝ }
-{
-    put_bytes(
-        out,
-        at,
-        b"rect{fill:#fff}
+rect{fill:#fff}
 path,circle{fill:none}
 .k{stroke:#bbb;stroke-width:2}
 .h{stroke:currentColor;stroke-width:5}
 .o{stroke-dasharray:14 9}
 .i{stroke:#999;stroke-width:2}
 .r{fill:currentColor}
-",
-    )
-}
-
-// Puts the styles of the discs of nodes that are off, and of the texts.
-fn put_text_styles(out: &mut [u8], at: usize) -> usize
-    requires room { ⌜ at + 180 ≤ length (now out) ⌝ }
-    ensures room { λ r. ⌜ Room (now (out .entry)) (now (out .exit)) at r 180 ⌝ }
-{
-    put_bytes(
-        out,
-        at,
-        b".f{fill:#fff;stroke:#999;stroke-width:3;stroke-dasharray:6 4}
+.f{fill:#fff;stroke:#999;stroke-width:3;stroke-dasharray:6 4}
 .n{fill:#fff;text-anchor:middle}
 .m{fill:#777;text-anchor:middle}
 .l{fill:currentColor}
 .t{font-size:44px}
-",
-    )
-}
-
-// Puts the colours of the groups.
-fn put_colours(out: &mut [u8], at: usize) -> usize
-    requires room { ⌜ at + 160 ≤ length (now out) ⌝ }
-    ensures room { λ r. ⌜ Room (now (out .entry)) (now (out .exit)) at r 160 ⌝ }
-{
-    put_bytes(
-        out,
-        at,
-        b".g0{color:#1b6ca8}
+.g0{color:#1b6ca8}
 .g1{color:#c8401e}
 .g2{color:#2e8b3d}
 .g3{color:#7b3fa0}
@@ -81,6 +36,8 @@ fn put_colours(out: &mut [u8], at: usize) -> usize
 .g5{color:#0f8f8f}
 .g6{color:#c2317f}
 .g7{color:#5a4a3a}
+</style>
+<rect width='2560' height='2100'/>
 ",
     )
 }
