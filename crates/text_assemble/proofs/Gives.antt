@@ -94,7 +94,8 @@ module _ {g : Given} where
     unfolding givenBytes givenKeys
     gave-word {w} e p = rw e (record { put = p; keys = keys-kept n ks; bounded = bounded; room = omega (arith, p .ends, word-length w) })
 
-    pub gave-tail : {k v : ℕ} {out' : List ℕ} {end : ℕ} → g ≡ given.Tail k v → Put out out' at end (tailBytes k v) → end ≤ at + 3 → Gave g sides n ks ks out out' at end
+    pub gave-tail : {k v : ℕ} {out' : List ℕ} {end : ℕ} → g ≡ given.Tail k v → Put out out' at end (tailBytes k v)
+        → end ≤ at + 3 → Gave g sides n ks ks out out' at end
     unfolding givenBytes givenKeys
     gave-tail e p h = rw e (record { put = p; keys = keys-kept n ks; bounded = bounded; room = omega arith })
 

@@ -51,7 +51,8 @@ turns-join p [] = refl
 turns-join p (c ∷ cs) =
     ap (onto (q .script)) (turns-join q cs)
     ∙ sym (ended-onto (q .script) (textRead (cleared q) (joined cs)))
-    ∙ ap ended (sym (text-onto (q .script) (cleared q) (joined cs)) ∙ ap (λ (x : Progress). textRead x (joined cs)) (back q) ∙ sym (text-append (cleared p) c (joined cs)))
+    ∙ ap ended (sym (text-onto (q .script) (cleared q) (joined cs)) ∙ ap (λ (x : Progress). textRead x (joined cs)) (back q)
+    ∙ sym (text-append (cleared p) c (joined cs)))
   where
     q : Progress
     q = textRead (cleared p) c
@@ -68,7 +69,8 @@ turns-cleared p (c ∷ cs) = refl
 
 reached-progress : {p : Progress} {r : Reader} {ks out out' : List ℕ} {end : ℕ} → Reached p r ks out out' end → progressOf r ks ≡ cleared p
 reached-progress {p} {r} {ks} a =
-    ap (λ (l : List ℕ). record { reader = r; keys = l; script = [] }) (a .keys) ∙ ap (λ (x : Reader). record { reader = x; keys = p .keys; script = [] }) (a .reader)
+    ap (λ (l : List ℕ). record { reader = r; keys = l; script = [] }) (a .keys)
+    ∙ ap (λ (x : Reader). record { reader = x; keys = p .keys; script = [] }) (a .reader)
 
 record WrittenBy (p : Progress) (w : List ℕ) (r : Reader) : Type 0 where
   pub script : w ≡ p .script

@@ -26,7 +26,8 @@ unfolding advanced
 stepped {p} {r} {ks} {ks'} {s = s} {q = q} a b c =
     record {
       reader = c .reader;
-      keys = ap (λ (x : Reader). take (x .keys) ks') (c .reader) ∙ ap (λ (n : ℕ). take n ks') (b .keys) ∙ c .gave .keys ∙ ap (λ (l : List ℕ). l ++ givenKeys (s .given)) (a .keys);
+      keys = ap (λ (x : Reader). take (x .keys) ks') (c .reader) ∙ ap (λ (n : ℕ). take n ks') (b .keys) ∙ c .gave .keys
+          ∙ ap (λ (l : List ℕ). l ++ givenKeys (s .given)) (a .keys);
       put = put-as (put-more (a .put) (c .gave .put)) (ap (λ (l : List ℕ). p .script ++ givenBytes (s .reader .sides) l (s .given)) (a .keys));
       bounded = rw (c .reader) (b .reader);
       bounded-keys = c .gave .bounded;
@@ -85,7 +86,8 @@ all-read {p} {bytes} {r = r} {ks} {out} {out'} {end} {i} t h =
     }
 
 -- the end of a text: two steps more
-module _ {r : Reader} {ks ks' out out' : List ℕ} {line : ChunkRead} (bounded : ReaderBounded r) (keys : KeysBounded ks) (newline-put : StepPut (byteRead r newline) (r .keys) ks ks' out out' 0 line) where
+module _ {r : Reader} {ks ks' out out' : List ℕ} {line : ChunkRead} (bounded : ReaderBounded r) (keys : KeysBounded ks)
+    (newline-put : StepPut (byteRead r newline) (r .keys) ks ks' out out' 0 line) where
   pub line-read : Reached (advanced (progressOf r ks) (byteRead r newline)) (line .reader) ks' out out' (line .end)
   line-read = stepped (nothing-read r ks out bounded keys) (byte-bounded r newline bounded) newline-put
 

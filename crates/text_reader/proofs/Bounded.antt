@@ -11,7 +11,9 @@ use Rattle.model.specs.Sets.{all}
 use Rattle.model.specs.Structs.{RoomSides}
 use Rattle.model.proofs.Laws.{clash, and-left, and-right, or-case, if-law, all-out, decide}
 use Rattle.bench_lines.specs.Decimal.{newline}
-use Rattle.text_form.specs.Assemble.{parts, isLater, allowed, opens, commandOf, expectedAt, pairsOf, spelled, valueOf, fits, eventGiven, lineGiven, silent, stopped, begun, partRead, continued, tokenEnded, complete, lineEnded, commented, grownBy, after, hash, byteRead, closed, givenKeys, start}
+use Rattle.text_form.specs.Assemble.{parts, isLater, allowed, opens, commandOf, expectedAt, pairsOf, spelled, valueOf, fits, eventGiven, lineGiven}
+use Rattle.text_form.specs.Assemble.{silent, stopped, begun, partRead, continued, tokenEnded, complete, lineEnded, commented, grownBy, after}
+use Rattle.text_form.specs.Assemble.{hash, byteRead, closed, givenKeys, start}
 use Rattle.text_form.specs.declared.Stage.{Stage}
 use Rattle.text_form.specs.declared.Stage.the-variants as stage
 use Rattle.text_form.specs.declared.Expected.{Expected}
@@ -76,7 +78,10 @@ few-parts c h = leb-true _ _ (all-out 12 (λ k. leb (length (parts k)) 3) refl c
 -- notice, contact and timer have more than one
 two-parts : (c : ℕ) → 5 ≤ c → c ≤ 7 → 2 ≤ length (parts c)
 unfolding all
-two-parts c l h = leb-true _ _ (or-case (ltb c 5) _ (all-out 8 (λ k. ltb k 5 || leb 2 (length (parts k))) refl c (omega arith)) (λ e. let w = ltb-true c 5 e in absurd (omega arith)) (λ e. e))
+two-parts c l h =
+    leb-true _ _
+    (or-case (ltb c 5) _ (all-out 8 (λ k. ltb k 5 || leb 2 (length (parts k))) refl c (omega arith))
+    (λ e. let w = ltb-true c 5 e in absurd (omega arith)) (λ e. e))
 
 bound-0 : (c n : ℕ) → c ≡ 0 → n < bound c → n < 9
 bound-0 c n e h = rw e at h
@@ -89,7 +94,8 @@ module _ (r : Reader) (b : ReaderBounded r) (started : 1 ≤ r .place) where
   unfolding expectedAt limit
   limit-of-expected =
       rw (ne-eqb (r .place) 0 (λ e. absurd (omega arith)))
-      (if-law (λ (e : Expected). limit e ≤ bound (r .command)) (eqb (r .command) 1) (if ltb (r .keys) 64 then Key else LineEnd) (getD (parts (r .command)) (r .place - 1) LineEnd)
+      (if-law (λ (e : Expected). limit e ≤ bound (r .command)) (eqb (r .command) 1)
+      (if ltb (r .keys) 64 then Key else LineEnd) (getD (parts (r .command)) (r .place - 1) LineEnd)
       (λ e. rw (eqb-true (r .command) 1 e) (if-law (λ (x : Expected). limit x ≤ 2 ^ 24) (ltb (r .keys) 64) Key LineEnd (λ d. omega arith) (λ d. omega arith)))
       (λ e. limit-of-part (r .command) (r .place - 1) (b .command) (omega (arith, b .place))))
 
@@ -142,7 +148,8 @@ module _ (r : Reader) (b : ReaderBounded r) (started : 1 ≤ r .place) where
           first = λ h. if-law (λ (n : ℕ). n < bound (r .command)) (eqb (r .place) 1) (valueOf (expectedAt r) t) (r .first) (λ e. value-bounded)
               (λ e. b .first (let other = eqb-false (r .place) 1 e in omega arith));
           sides = if-law RoomSides (eqb (r .command) 0 && eqb (r .place) 2) (record { ahead = r .first; behind = valueOf (expectedAt r) t }) (r .sides)
-              (λ e. sides-bounded (eqb-true (r .command) 0 (and-left (eqb (r .command) 0) (eqb (r .place) 2) e)) (eqb-true (r .place) 2 (and-right (eqb (r .command) 0) (eqb (r .place) 2) e)))
+              (λ e. sides-bounded (eqb-true (r .command) 0 (and-left (eqb (r .command) 0) (eqb (r .place) 2) e))
+              (eqb-true (r .place) 2 (and-right (eqb (r .command) 0) (eqb (r .place) 2) e)))
               (λ e. b .sides);
           keys = if-law (λ (n : ℕ). n ≤ 64) (eqb (r .command) 1) (r .keys + 1) (r .keys)
               (λ e. omega (arith, room-for-key (eqb-true (r .command) 1 e))) (λ e. b .keys);
@@ -224,7 +231,8 @@ line-law P c a v t none key word tail =
     if-law P (eqb c 0) given.Nothing _ (λ e. none)
     (λ e. if-law P (eqb c 1) (given.Key v) _ (λ f. key (eqb-true c 1 f))
     (λ f. if-law P (eqb c 10) (given.Word v) _ (λ g. word v (eqb-false c 1 f))
-    (λ g. if-law P (eqb c 11) (given.Tail (pairsOf t) v) (given.Word (eventGiven c a v)) (λ h. tail (eqb-false c 1 f)) (λ h. word (eventGiven c a v) (eqb-false c 1 f)))))
+    (λ g. if-law P (eqb c 11) (given.Tail (pairsOf t) v) (given.Word (eventGiven c a v)) (λ h. tail (eqb-false c 1 f))
+    (λ h. word (eventGiven c a v) (eqb-false c 1 f)))))
 
 one-key : (p a v t k : ℕ) → 1 ≤ p → k + 1 ≡ k + length (givenKeys (if leb 1 p then lineGiven 1 a v t else given.Nothing))
 unfolding givenKeys lineGiven
@@ -314,7 +322,8 @@ comment-changed r b =
       keys = refl;
     }
 
-after-bounded : (r : Reader) (s : Step) (f : Reader → Reader) → StepBounded (r .line) r s → Changed (s .reader) (f (s .reader)) → StepBounded (r .line + 1) r (after s f)
+after-bounded : (r : Reader) (s : Step) (f : Reader → Reader) → StepBounded (r .line) r s
+    → Changed (s .reader) (f (s .reader)) → StepBounded (r .line + 1) r (after s f)
 after-bounded r s f b c =
     record { reader = c .reader; line = omega (arith, c .line, b .line); keys = c .keys ∙ b .keys; given = b .given }
 
@@ -355,7 +364,9 @@ closed-bounded r b = decide (r .fault) (λ e. subst (StepBounded (r .line) r) (c
     by-stage : (s : Stage) → r .stage ≡ s → r .fault ≡ false → StepBounded (r .line) r (closed r)
     by-stage stage.Start g e = subst (StepBounded (r .line) r) (closed-start r e g) same
     by-stage stage.Sides g e = subst (StepBounded (r .line) r) (closed-sides r e g) (stops r b)
-    by-stage stage.Keys g e = subst (StepBounded (r .line) r) (closed-keys r e g) (record { reader = b; line = omega arith; keys = omega arith; given = opening-bounded })
+    by-stage stage.Keys g e =
+        subst (StepBounded (r .line) r) (closed-keys r e g)
+        (record { reader = b; line = omega arith; keys = omega arith; given = opening-bounded })
     by-stage stage.Events g e = subst (StepBounded (r .line) r) (closed-events r e g) same
     by-stage stage.End g e = subst (StepBounded (r .line) r) (closed-end r e g) same
 

@@ -5,7 +5,8 @@ use Prim.Native.Nat.{ℕ, _+_, _≤_, _<_}
 use lib.ListN.{length}
 use borrow.Author.Tests.{eq-eqb, ne-eqb, le-leb, lt-leb, not-true, not-false}
 use Rattle.bench_lines.specs.Decimal.{newline}
-use Rattle.text_form.specs.Assemble.{parts, expectedAt, valueOf, fits, lineGiven, silent, stopped, partRead, continued, complete, lineEnded, commented, grownBy, after, tokenEnded, hash, byteRead, closed}
+use Rattle.text_form.specs.Assemble.{parts, expectedAt, valueOf, fits, lineGiven, silent, stopped, partRead, continued, complete}
+use Rattle.text_form.specs.Assemble.{lineEnded, commented, grownBy, after, tokenEnded, hash, byteRead, closed}
 use Rattle.text_form.specs.declared.Expected.{Expected}
 use Rattle.text_form.specs.declared.Reader.{Reader}
 use Rattle.text_form.specs.declared.Stage.the-variants as stage

@@ -1,3 +1,4 @@
+-- `closed` meets its contract: each stage is a case of the definition.
 use mathlib.Core.Path.{ap, _∙_}
 use Rattle.text_form.specs.Assemble.{silent}
 use Rattle.text_reader.proofs.Readers.{closed-at-fault, closed-start, closed-sides, closed-keys, closed-events, closed-end}
@@ -12,7 +13,9 @@ returns-2 : tie.Need-returns-2
 returns-2 c = c .silent2 .ensures ∙ closed-start _ (c .before .before .before .if1 .left) (c .before .enum-told .given .1)
 
 returns-3 : tie.Need-returns-3
-returns-3 c = c .silent3 .ensures ∙ ap silent (c .before .stopped .ensures) ∙ closed-sides _ (c .before .before .before .before .if1 .left) (c .before .before .enum-told2 .given .1)
+returns-3 c =
+    c .silent3 .ensures ∙ ap silent (c .before .stopped .ensures) ∙ closed-sides _ (c .before .before .before .before .if1 .left)
+    (c .before .before .enum-told2 .given .1)
 
 returns-4 : tie.Need-returns-4
 returns-4 c = closed-keys _ (c .before .before .if1 .left) (c .enum-told3 .given .1)

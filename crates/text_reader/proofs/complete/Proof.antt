@@ -1,3 +1,4 @@
+-- `complete` meets its contract: the line is complete by its place or its number of parts.
 use Rattle.text_form.specs.Assemble.{complete}
 use borrow.Author.Needs.{needs}
 use Rattle.text_reader.proofs.complete.Statement.{statement}

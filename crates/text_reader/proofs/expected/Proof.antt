@@ -1,3 +1,4 @@
+-- `expected` meets its contract: each early return is a case of the definition, by its test.
 use borrow.Author.Tests.{eq-eqb, ne-eqb, lt-ltb, le-ltb}
 use Rattle.text_form.specs.Assemble.{expectedAt}
 use borrow.Author.Needs.{needs}

@@ -1,3 +1,4 @@
+-- `first_after` meets its contract: the first part is kept or set as the place says, one test.
 use borrow.Author.Tests.{eq-eqb, ne-eqb}
 use Rattle.text_reader.proofs.first_after.Statement.{statement}
 use Rattle.text_reader.proofs.first_after.Tie as tie

@@ -1,3 +1,4 @@
+-- `grown_by` meets its contract: one field is set to what the call ensures.
 use Rattle.text_form.specs.Assemble.{grownBy}
 use borrow.Author.Needs.{needs}
 use Rattle.text_reader.proofs.grown_by.Statement.{statement}

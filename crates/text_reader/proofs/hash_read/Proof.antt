@@ -1,3 +1,4 @@
+-- `hash_read` meets its contract: the token ends, then the comment begins: what both calls ensure, joined.
 use borrow.Author.Needs.{needs}
 use Rattle.text_reader.proofs.hash_read.Statement.{statement}
 use Rattle.text_reader.proofs.hash_read.Tie as tie

@@ -1,3 +1,4 @@
+-- `keys_after` meets its contract: one key more on a line of keys, one test.
 use borrow.Author.Tests.{eq-eqb, ne-eqb}
 use borrow.Author.Needs.{needs}
 use Rattle.text_reader.proofs.keys_after.Statement.{statement}

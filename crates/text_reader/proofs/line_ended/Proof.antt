@@ -1,3 +1,4 @@
+-- `line_ended` meets its contract: each early return is a case of the definition, by its test.
 use mathlib.Core.Path.{sym, _∙_}
 use borrow.Author.Tests.{not-true, not-false}
 use Rattle.text_reader.proofs.Readers.{line-at-fault, line-stopped, line-ended}
@@ -9,7 +10,9 @@ returns : tie.Need-returns
 returns c = line-at-fault _ (c .if1 .taken)
 
 returns-2 : tie.Need-returns-2
-returns-2 c = c .stopped .ensures ∙ line-stopped _ (c .before .before .before .if1 .left) (sym (c .before .before .complete .ensures) ∙ not-true _ (c .before .if2 .taken))
+returns-2 c =
+    c .stopped .ensures ∙ line-stopped _ (c .before .before .before .if1 .left)
+    (sym (c .before .before .complete .ensures) ∙ not-true _ (c .before .if2 .taken))
 
 returns-3 : tie.Need-returns-3
 returns-3 c = line-ended _ (c .before .before .before .if1 .left) (sym (c .before .before .complete .ensures) ∙ not-false _ (c .before .if2 .left))

@@ -1,3 +1,4 @@
+-- `newline_read` meets its contract: the token ends, then the line: what both calls ensure, joined.
 use native.Mathlib.Omega.{arith}
 use Rattle.text_reader.proofs.Bounded.{token-bounded}
 use borrow.Author.Needs.{needs}

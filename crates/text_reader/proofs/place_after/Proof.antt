@@ -1,3 +1,4 @@
+-- `place_after` meets its contract: one place further, but on a line of keys, one test.
 use borrow.Author.Tests.{eq-eqb, ne-eqb}
 use borrow.Author.Needs.{needs}
 use Rattle.text_reader.proofs.place_after.Statement.{statement}

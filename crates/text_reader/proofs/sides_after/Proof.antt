@@ -1,3 +1,4 @@
+-- `sides_after` meets its contract: the sides are set with the second part of their line, one test.
 use Rattle.text_reader.proofs.sides_after.Statement.{statement}
 use Rattle.text_reader.proofs.sides_after.Tie as tie
 

@@ -1,3 +1,4 @@
+-- `start` meets its contract: by definition.
 use mathlib.Core.Path.{refl}
 use Rattle.text_form.specs.Assemble.{start}
 use Rattle.text_reader.proofs.start.Statement.{statement}

@@ -1,3 +1,4 @@
+-- `stopped` meets its contract: one field is set, by definition.
 use mathlib.Core.Path.{refl}
 use Rattle.text_form.specs.Assemble.{stopped}
 use Rattle.text_reader.proofs.stopped.Statement.{statement}

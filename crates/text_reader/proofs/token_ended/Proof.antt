@@ -1,3 +1,4 @@
+-- `token_ended` meets its contract: each early return is a case of the definition, by its test.
 use borrow.Author.Tests.{eq-eqb, ne-eqb}
 use Rattle.text_form.specs.Assemble.{tokenEnded}
 use borrow.Author.Needs.{needs}

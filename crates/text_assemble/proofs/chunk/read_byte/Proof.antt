@@ -1,3 +1,4 @@
+-- `read_byte` meets its contract: the step is that of the byte, and stays within its bounds.
 use native.Mathlib.Omega.{arith}
 use Rattle.text_reader.proofs.Bounded.{byte-bounded}
 use borrow.Author.Needs.{needs}
@@ -6,12 +7,15 @@ use Rattle.text_assemble.proofs.chunk.read_byte.Tie as tie
 
 put-step-requires : tie.Need-put-step-requires
 put-step-requires c κs =
-    let pre = c .before .before .before .before .before .before .pre in
-    let s = byte-bounded (c .before .before .before .before .before .before .args .reader) (c .before .before .before .before .before .before .args .byte) (pre .0) in
+    let entry = c .before .before .before .before .before .before in
+    let pre = entry .pre in
+    let s = byte-bounded (entry .args .reader) (entry .args .byte) (pre .0) in
     rw (c .before .before .before .byte-read .ensures) (s .reader, s .given, pre .2, omega (arith, s .keys, s .reader .keys), pre .3)
 
 returns : tie.Need-returns
-returns c = rw (c .before .before .before .before .before .before .before .before .byte-read .ensures) at (c .before .before .before .before .put-step .ensures)
+returns c =
+    let at-byte-read = c .before .before .before .before .before .before .before .before in
+    rw (at-byte-read .byte-read .ensures) at (c .before .before .before .before .put-step .ensures)
 
 pub read-byte-spec : {M : Type 1} → statement M
 read-byte-spec =

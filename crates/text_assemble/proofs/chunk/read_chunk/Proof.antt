@@ -1,3 +1,4 @@
+-- `read_chunk` meets its contract: the progress after the bytes so far is the invariant.
 use mathlib.Core.Path.{_≡_, refl, sym, _∙_}
 use Prim.Native.Nat.{_-_}
 use native.Mathlib.Omega.{arith}
@@ -20,15 +21,21 @@ loop-holds c = (refl, none-read _ _ _ _ (c .before .before .before .pre .0) (c .
 
 read-byte-requires : tie.Need-read-byte-requires Inv-loop μ-loop
 read-byte-requires c κs =
-    let t = c .before .before .before .before .before .loop .inv .1 in
-    let pre = c .before .before .before .before .before .before .before .before .before .pre in
+    let at-loop = c .before .before .before .before .before in
+    let entry = at-loop .before .before .before .before in
+    let t = at-loop .loop .inv .1 in
+    let pre = entry .pre in
     (t .reached .bounded, omega (arith, t .lines, pre .2), t .reached .bounded-keys, omega (arith, t .room, t .reached .put .long, pre .3))
 
 loop-again : tie.Need-loop-again Inv-loop μ-loop
-loop-again c = (c .before .before .before .before .before .before .before .before .before .before .loop .inv .0, more-read (c .before .before .before .before .before .before .before .before .before .before .loop .inv .1) (search needs) (c .before .before .before .before .read-byte .ensures))
+loop-again c =
+    let at-loop = c .before .before .before .before .before .before .before .before .before .before in
+    (at-loop .loop .inv .0, more-read (at-loop .loop .inv .1) (search needs) (c .before .before .before .before .read-byte .ensures))
 
 same-length : tie.Need-same-length Inv-loop μ-loop
-same-length c = c .before .loop .inv .1 .reached .bounded-keys .long ∙ sym (c .before .before .before .before .before .pre .1 .long)
+same-length c =
+    let entry = c .before .before .before .before .before in
+    c .before .loop .inv .1 .reached .bounded-keys .long ∙ sym (entry .pre .1 .long)
 
 same-length-2 : tie.Need-same-length-2 Inv-loop μ-loop
 same-length-2 c = c .before .loop .inv .1 .reached .put .long

@@ -1,3 +1,4 @@
+-- `read_next` meets its contract: what is read is what the chunk ensures, and what is put is within the buffer.
 use mathlib.Core.Path.{sym}
 use native.Mathlib.Omega.{arith}
 use lib.ListN.{length-take}
@@ -8,8 +9,10 @@ use Rattle.text_assemble.proofs.chunk.read_next.Tie as tie
 
 returns : tie.Need-returns
 returns c =
-    let read = c .before .before .before .before .before .before .before .before .before .before .before .read-full .ensures in
-    let s = c .before .before .before .before .before .read-chunk .ensures in
+    let at-read-chunk = c .before .before .before .before .before in
+    let at-read-full = at-read-chunk .before .before .before .before .before .before in
+    let read = at-read-full .read-full .ensures in
+    let s = at-read-chunk .read-chunk .ensures in
     let h = put-within (s .0 .put) in
     let few = simp length-take at (s .1) in
     (s .0, (read, (h, sym (simp length-take (omega arith))), omega (arith, few)))

@@ -1,3 +1,4 @@
+-- `fault_line` meets its contract: each return is a case of the definition, by its test.
 use native.Mathlib.Omega.{arith}
 use mathlib.Core.Bool.{_&&_}
 use lib.Dec.{eqb, ltb}
@@ -8,7 +9,14 @@ use Rattle.text_assemble.proofs.fault.fault_line.Statement.{statement}
 use Rattle.text_assemble.proofs.fault.fault_line.Tie as tie
 
 sub-result : tie.Need-sub-result
-sub-result c = omega (arith, ltb-true 1 (c .before .before .before .before .before .args .reader .line) (and-right (eqb (c .before .before .before .before .before .args .reader .place) 0 && eqb (c .before .before .before .before .before .args .reader .token) 0) (ltb 1 (c .before .before .before .before .before .args .reader .line)) (c .before .if1 .taken)))
+sub-result c =
+    let entry = c .before .before .before .before .before in
+    omega (
+      arith,
+      ltb-true 1 (entry .args .reader .line)
+          (and-right (eqb (entry .args .reader .place) 0 && eqb (entry .args .reader .token) 0) (ltb 1 (entry .args .reader .line))
+          (c .before .if1 .taken)),
+    )
 
 returns : tie.Need-returns
 unfolding faultLine

@@ -26,7 +26,8 @@ put-bytes-requires c κs =
 
 returns : tie.Need-returns
 returns c =
-    let called = c .before .before .before .before .before .before in
+    let at-place = c .before .before .before .before .before .before in
+    let called = at-place in
     put-as (c .before .before .put-bytes .ensures) (spanned (called .before .before .args .expected) _ (called .span-of .ensures) .text)
 
 pub put-expected-spec : {M : Type 1} → statement M

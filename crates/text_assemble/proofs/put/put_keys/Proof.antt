@@ -1,3 +1,4 @@
+-- `put_keys` meets its contract: the words of the keys so far are the invariant.
 use mathlib.Core.Path.{_≡_}
 use Prim.Native.Nat.{_+_, _*_, _-_, _≤_}
 use native.Mathlib.Omega.{arith}
@@ -20,20 +21,31 @@ loop-holds : tie.Need-loop-holds Inv-loop μ-loop
 loop-holds c = (search needs, search needs, no-keys _ _ (c .before .before .args .keys .now))
 
 shared-slice-read-t11 : tie.Need-shared-slice-read-t11 Inv-loop μ-loop
-shared-slice-read-t11 c = let l = c .before .before .before .before .before .pre .0 .long in search needs
+shared-slice-read-t11 c =
+    let entry = c .before .before .before .before .before in
+    let l = entry .pre .0 .long in search needs
 
 new-requires : tie.Need-new-requires Inv-loop μ-loop
-new-requires c κs = c .before .before .before .before .before .pre .0 .each (c .before .before .loop .i)
+new-requires c κs =
+    let entry = c .before .before .before .before .before in
+    entry .pre .0 .each (c .before .before .loop .i)
 
 put-word-requires : tie.Need-put-word-requires Inv-loop μ-loop
 put-word-requires c κs = omega (arith, c .before .before .before .before .loop .inv .2 .long)
 
 loop-again : tie.Need-loop-again Inv-loop μ-loop
 loop-again c =
-    let l = c .before .before .before .before .before .before .before .loop in
+    let at-loop = c .before .before .before .before .before .before .before in
+    let entry = at-loop .before .before .before in
+    let l = at-loop .loop in
     let w = c .before .before .put-word .ensures in
-    let long = c .before .before .before .before .before .before .before .before .before .before .pre .0 .long in
-    (search needs, omega (arith, l .inv .1, w .ends, word-length (c .before .before .before .before .new .result .0)), put-as (put-more (l .inv .2) w) (keys-more (c .before .before .before .before .before .before .before .before .before .before .args .keys .now) (l .i) (c .before .before .before .before .new .result .0) (omega arith) (c .before .before .before .before .new .ensures)))
+    let long = entry .pre .0 .long in (
+      search needs,
+      omega (arith, l .inv .1, w .ends, word-length (c .before .before .before .before .new .result .0)),
+      put-as (put-more (l .inv .2) w)
+          (keys-more (entry .args .keys .now) (l .i) (c .before .before .before .before .new .result .0) (omega arith)
+          (c .before .before .before .before .new .ensures)),
+    )
 
 same-length : tie.Need-same-length Inv-loop μ-loop
 same-length c = c .before .loop .inv .2 .long

@@ -1,3 +1,4 @@
+-- `allowed` meets its contract: each stage is a case of the definition.
 use borrow.Author.Needs.{needs}
 use Rattle.text_reader.proofs.line.allowed.Statement.{statement}
 use Rattle.text_reader.proofs.line.allowed.Tie as tie

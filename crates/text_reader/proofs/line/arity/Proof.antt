@@ -1,3 +1,4 @@
+-- `arity` meets its contract: the table has the length of each list of parts, by computation.
 use Rattle.text_reader.proofs.Lines.{arities}
 use borrow.Author.Needs.{needs}
 use Rattle.text_reader.proofs.line.arity.Statement.{statement}

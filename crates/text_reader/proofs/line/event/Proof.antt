@@ -1,3 +1,4 @@
+-- `event` meets its contract: in each arm the kind is known, and with it the bounds of its parts.
 use Rattle.text_reader.proofs.line.event.Lts as lts
 use Rattle.text_reader.proofs.line.event.Reads as reads
 use Rattle.text_reader.proofs.Lines.{above}
@@ -13,7 +14,9 @@ lose c =
     let k : ℕ = c .before .args .kind in
     let others = c .match .rest in
     let high : 9 ≤ k =
-    above k 8 (above k 7 (above k 6 (above k 5 (above k 4 (above k 3 (above k 2 (c .before .pre .0 .0) (others .0 .0 .0 .0 .0 .0 .1)) (others .0 .0 .0 .0 .0 .1)) (others .0 .0 .0 .0 .1)) (others .0 .0 .0 .1)) (others .0 .0 .1)) (others .0 .1)) (others .1) in
+    above k 8 (above k 7 (above k 6 (above k 5 (above k 4
+    (above k 3 (above k 2 (c .before .pre .0 .0) (others .0 .0 .0 .0 .0 .0 .1)) (others .0 .0 .0 .0 .0 .1)) (others .0 .0 .0 .0 .1))
+    (others .0 .0 .0 .1)) (others .0 .0 .1)) (others .0 .1)) (others .1) in
     omega arith
 
 cast-t5 : tie.Need-cast-t5

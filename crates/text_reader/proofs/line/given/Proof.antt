@@ -1,3 +1,4 @@
+-- `given` meets its contract: in each arm the kind is known; in the default arm it is none of the others.
 use Rattle.text_form.specs.declared.Given.the-variants.{Word}
 use borrow.Author.Tests.{ne-eqb}
 use Prim.Native.Nat.{ℕ}

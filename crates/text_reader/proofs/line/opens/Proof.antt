@@ -1,3 +1,4 @@
+-- `opens` meets its contract: each stage is a case of the definition.
 use borrow.Author.Needs.{needs}
 use Rattle.text_reader.proofs.line.opens.Statement.{statement}
 use Rattle.text_reader.proofs.line.opens.Tie as tie

@@ -1,3 +1,4 @@
+-- `stage_after` meets its contract: each early return is a case of the definition, by its test.
 use borrow.Author.Tests.{eq-eqb, ne-eqb}
 use Rattle.text_form.specs.Assemble.{stageAfter}
 use Rattle.text_reader.proofs.line.stage_after.Statement.{statement}

@@ -1,3 +1,4 @@
+-- `timer_part` meets its contract: each place of the line is known, the last by exclusion.
 use mathlib.Core.Path.{_≡_}
 use native.Mathlib.Omega.{arith}
 use Rattle.text_reader.proofs.line.timer_part.Statement.{statement}

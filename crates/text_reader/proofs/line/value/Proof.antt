@@ -1,3 +1,4 @@
+-- `value` meets its contract: in each arm the case is known, and the call spells the value.
 use borrow.Author.Needs.{needs}
 use Rattle.text_reader.proofs.line.value.Statement.{statement}
 use Rattle.text_reader.proofs.line.value.Tie as tie

@@ -1,6 +1,8 @@
+-- `command_of` meets its contract: each name is a place of the list, by computation; in the default arm the token is none of them.
 use borrow.Author.Tests.{ne-eqb}
 use Rattle.text_form.specs.Assemble.{placeOf, packed, grown}
-use Rattle.text_form.specs.Names.{sidesName, keysName, onName, offName, leaveName, noticeName, contactName, timerName, deliverName, loseName, wordName, tailName}
+use Rattle.text_form.specs.Names.{sidesName, keysName, onName, offName, leaveName, noticeName, contactName}
+use Rattle.text_form.specs.Names.{timerName, deliverName, loseName, wordName, tailName}
 use Rattle.text_reader.proofs.token.command_of.Statement.{statement}
 use Rattle.text_reader.proofs.token.command_of.Tie as tie
 

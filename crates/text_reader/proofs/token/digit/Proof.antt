@@ -1,3 +1,4 @@
+-- `digit` meets its contract: each range of digits is a case of the definition, by its test.
 use native.Mathlib.Omega.{arith}
 use Rattle.text_form.specs.Assemble.{digitOf}
 use Rattle.text_reader.proofs.Tokens.{within}

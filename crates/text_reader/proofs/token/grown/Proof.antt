@@ -1,3 +1,4 @@
+-- `grown` meets its contract: one byte more or too long, one test.
 use borrow.Author.Needs.{needs}
 use borrow.Author.Tests.{lt-ltb, le-ltb}
 use Rattle.text_form.specs.Assemble.{grown}

@@ -1,3 +1,4 @@
+-- `is_at` meets its contract: the name computes to its token.
 use mathlib.Core.Path.{refl}
 use Rattle.text_form.specs.Assemble.{packed, grown}
 use Rattle.text_reader.proofs.token.is_at.Statement.{statement}

@@ -1,3 +1,4 @@
+-- `pairs` meets its contract: each range of tokens is a case of the definition, by its test.
 use Rattle.text_form.specs.Assemble.{pairsOf}
 use Rattle.text_reader.proofs.token.pairs.Statement.{statement}
 use Rattle.text_reader.proofs.token.pairs.Tie as tie

@@ -1,3 +1,4 @@
+-- `spelled` meets its contract: from the last byte on, what is spelled so far is the invariant.
 use native.Mathlib.Omega.{arith}
 use native.Mathlib.Nat.{mul-le-mul-left}
 use borrow.Author.Needs.{needs}
@@ -16,7 +17,8 @@ loop-holds c = none-spelled _ _ (search needs)
 
 returns : tie.Need-returns Inv-loop μ-loop
 returns c =
-    no-digit _ _ _ _ _ (c .before .before .before .before .pre) (c .before .before .loop-test .taken) (c .before .before .before .loop .inv) _ (c .before .digit .ensures .0) (c .if1 .taken)
+    no-digit _ _ _ _ _ (c .before .before .before .before .pre) (c .before .before .loop-test .taken) (c .before .before .before .loop .inv) _
+    (c .before .digit .ensures .0) (c .if1 .taken)
 
 mul-value : tie.Need-mul-value Inv-loop μ-loop
 mul-value c =
@@ -35,7 +37,8 @@ mul-unit c =
 
 loop-again : tie.Need-loop-again Inv-loop μ-loop
 loop-again c =
-    one-more _ _ _ _ _ (c .before .before .before .before .pre) (c .before .before .loop-test .taken) (c .before .before .before .loop .inv) _ (c .before .digit .ensures .0) (c .if1 .left)
+    one-more _ _ _ _ _ (c .before .before .before .before .pre) (c .before .before .loop-test .taken) (c .before .before .before .loop .inv) _
+    (c .before .digit .ensures .0) (c .if1 .left)
 
 returns-2 : tie.Need-returns-2 Inv-loop μ-loop
 returns-2 c = all-spelled (c .before .loop .inv) (search needs)
