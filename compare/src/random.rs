@@ -1,5 +1,6 @@
 //! Numbers that a seed determines (splitmix64).
 
+#[derive(Clone)]
 pub struct Random(u64);
 
 impl Random {

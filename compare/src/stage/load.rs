@@ -6,7 +6,7 @@ use super::{in_threads, Plan, LEAVES};
 use crate::events::{off, on};
 use crate::look;
 use crate::random::Random;
-use crate::ring::Ring;
+use crate::ring::{Ring, Sides};
 use std::time::Instant;
 
 const MINUTE: usize = 60;
@@ -30,7 +30,7 @@ struct Load<'a> {
 impl<'a> Load<'a> {
     fn stage(&self, start: Start, conditions: Conditions) -> Stage<'a> {
         let mut random = Random::new(self.seed, self.n as u64 * 64 + self.leaves as u64);
-        let words = start.words(self.ring, &mut random, self.n, self.leaves);
+        let words = start.words(self.ring, &mut random, self.n, Sides::from(self.leaves));
         Stage::new(self.ring, random, words, conditions)
     }
 

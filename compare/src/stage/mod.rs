@@ -5,6 +5,7 @@ mod rounds;
 mod settling;
 mod simulated;
 mod starts;
+mod uneven;
 
 use crate::ring::Ring;
 use std::sync::atomic::{AtomicUsize, Ordering};
@@ -37,6 +38,7 @@ pub fn report(ring: &dyn Ring, plan: &Plan) {
     rounds::report(ring, plan);
     rounds::report_contacted(ring, plan);
     rounds::report_together(ring, plan);
+    uneven::report(ring, plan);
     load::report(ring, plan);
     load::report_clocks(ring, plan);
 }

@@ -5,7 +5,8 @@ use super::starts::{contact_next, leafsets, Start};
 use super::{in_threads, Plan};
 use crate::look;
 use crate::random::Random;
-use crate::ring::Ring;
+use crate::ring::{Ring, Sides};
+use std::fmt::Debug;
 
 #[derive(Clone, Copy, Debug)]
 pub struct Case {
@@ -24,29 +25,21 @@ impl Case {
         Case { start, n, leaves, conditions, next_contacted: false, limit: 500 }
     }
 
-    /// Each run of each case has random numbers of its own.
-    fn random(&self, seed: u64, run: usize) -> Random {
-        let text = format!("{self:?} {run}");
-        Random::new(seed, text.bytes().fold(0, |sum: u64, byte| sum.wrapping_mul(31).wrapping_add(byte as u64)))
-    }
-
     fn run(&self, ring: &dyn Ring, mut random: Random) -> Settling {
-        let mut words = self.start.words(ring, &mut random, self.n, self.leaves);
+        let mut words = self.start.words(ring, &mut random, self.n, Sides::from(self.leaves));
         if self.next_contacted {
             contact_next(ring, &mut words);
         }
         let leafsets = leafsets(ring, &words);
         let mut stage = Stage::new(ring, random, words, self.conditions);
-        let mut settling = Settling { covered: None, exact: None };
-        for second in 0..=self.limit {
-            settling.look(second, &stage.words, &leafsets);
-            if settling.exact.is_some() {
-                break;
-            }
-            stage.second();
-        }
-        settling
+        Settling::of(&mut stage, &leafsets, self.limit)
     }
+}
+
+/// Each run of each case has random numbers of its own.
+pub fn random_of(case: &impl Debug, seed: u64, run: usize) -> Random {
+    let text = format!("{case:?} {run}");
+    Random::new(seed, text.bytes().fold(0, |sum: u64, byte| sum.wrapping_mul(31).wrapping_add(byte as u64)))
 }
 
 /// After how many seconds every node holds at least, and exactly, its leafset.
@@ -56,6 +49,19 @@ pub struct Settling {
 }
 
 impl Settling {
+    /// Plays the stage until every node holds exactly its leafset, or for so many seconds.
+    pub fn of(stage: &mut Stage, leafsets: &[u64], limit: usize) -> Settling {
+        let mut settling = Settling { covered: None, exact: None };
+        for second in 0..=limit {
+            settling.look(second, &stage.words, leafsets);
+            if settling.exact.is_some() {
+                break;
+            }
+            stage.second();
+        }
+        settling
+    }
+
     fn look(&mut self, second: usize, words: &[u32], leafsets: &[u64]) {
         let held: Vec<u64> = (0..leafsets.len()).map(|x| look::held(words, x)).collect();
         if held.iter().zip(leafsets).all(|(held, leafset)| held & leafset == *leafset) {
@@ -72,7 +78,7 @@ pub fn run_all(ring: &dyn Ring, plan: &Plan, cases: &[Case]) -> Vec<Vec<Settling
     let seeds = plan.seeds;
     let run = |number: usize| {
         let case = &cases[number / seeds];
-        case.run(ring, case.random(plan.seed, number % seeds))
+        case.run(ring, random_of(case, plan.seed, number % seeds))
     };
     let mut runs = in_threads(plan.threads, cases.len() * seeds, run).into_iter();
     cases.iter().map(|_| runs.by_ref().take(seeds).collect()).collect()

@@ -50,7 +50,7 @@ pub enum Refused {
 }
 
 /// What has happened since the start, or since the tally was taken away.
-#[derive(Default)]
+#[derive(Clone, Default)]
 pub struct Tally {
     /// How often each answer was given.
     pub answers: [u64; 12],
@@ -68,6 +68,7 @@ impl Tally {
     }
 }
 
+#[derive(Clone)]
 pub struct Stage<'a> {
     pub words: Vec<u32>,
     pub tally: Tally,
@@ -84,7 +85,7 @@ pub struct Stage<'a> {
 }
 
 impl<'a> Stage<'a> {
-    /// On a ring with every node on and no message in flight.
+    /// On a ring with no message in flight. Timers of a node that is off are refused.
     pub fn new(ring: &'a dyn Ring, mut random: Random, words: Vec<u32>, conditions: Conditions) -> Stage<'a> {
         let timers = timers(conditions.firing, &mut random, look::nodes(&words));
         let (tally, waiting, arrivals) = (Tally::default(), VecDeque::new(), Vec::new());
@@ -150,7 +151,7 @@ impl<'a> Stage<'a> {
     }
 
     /// Plays an event, whose new messages set out.
-    fn play(&mut self, word: u32) -> usize {
+    pub fn play(&mut self, word: u32) -> usize {
         let answer = self.ring.play(&mut self.words, word) as usize;
         self.tally.answers[answer] += 1;
         if answer == 0 {

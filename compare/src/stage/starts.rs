@@ -41,8 +41,8 @@ impl Start {
     }
 
     /// A ring of n nodes with random keys, so that a node's number says nothing of its place.
-    pub fn words(self, ring: &dyn Ring, random: &mut Random, n: usize, leaves: u32) -> Vec<u32> {
-        let (sides, keys) = (Sides::from(leaves), random.keys(n, Random::word));
+    pub fn words(self, ring: &dyn Ring, random: &mut Random, n: usize, sides: Sides) -> Vec<u32> {
+        let keys = random.keys(n, Random::word);
         let mut words = vec![0; LENGTH];
         ring.open(&mut words, sides, &keys);
         (0..n as u32).for_each(|x| accepted(ring, &mut words, on(x)));
@@ -86,23 +86,31 @@ fn circle(sides: Sides, nodes: &[usize]) -> Vec<(usize, usize)> {
     (0..n).flat_map(links).collect()
 }
 
+/// Each running node and the next running one clockwise.
+pub fn each_and_next(words: &[u32]) -> Vec<(usize, usize)> {
+    circle(Sides::from((1, 0)), &by_key(words))
+}
+
 /// Each node contacts the next one clockwise.
 pub fn contact_next(ring: &dyn Ring, words: &mut [u32]) {
-    let next = circle(Sides::from((1, 0)), &by_key(words));
+    let next = each_and_next(words);
     link(ring, words, next);
 }
 
-/// The leafset of each node in all nodes, bit s for node s: that of a ring in which everybody holds everybody.
+/// The leafset of each running node in all of them, bit s for node s: that of a ring in which each holds all others. Of
+/// a node that is off, none.
 pub fn leafsets(ring: &dyn Ring, words: &[u32]) -> Vec<u64> {
     let n = look::nodes(words);
     let keys: Vec<u32> = (0..n).map(|x| look::key(words, x)).collect();
-    let all = routes::ring(look::sides(words), &keys, &vec![true; n], |x| (0..n).filter(|&z| z != x).collect());
+    let running: Vec<bool> = (0..n).map(|x| look::is_running(words, x)).collect();
+    let others = |x| (0..n).filter(|&z| z != x && running[z]).collect();
+    let all = routes::ring(look::sides(words), &keys, &running, others);
     (0..n as u32).map(|x| ring.leafset_of(&all, x).1).collect()
 }
 
-/// The nodes by rising key.
-fn by_key(words: &[u32]) -> Vec<usize> {
-    let mut nodes: Vec<usize> = (0..look::nodes(words)).collect();
+/// The running nodes by rising key.
+pub fn by_key(words: &[u32]) -> Vec<usize> {
+    let mut nodes: Vec<usize> = (0..look::nodes(words)).filter(|&x| look::is_running(words, x)).collect();
     nodes.sort_by_key(|&x| look::key(words, x));
     nodes
 }
