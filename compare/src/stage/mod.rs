@@ -39,6 +39,7 @@ pub fn report(ring: &dyn Ring, plan: &Plan) {
     rounds::report_contacted(ring, plan);
     rounds::report_together(ring, plan);
     uneven::report(ring, plan);
+    uneven::report_joined(ring, plan);
     load::report(ring, plan);
     load::report_clocks(ring, plan);
 }

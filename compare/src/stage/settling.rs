@@ -63,14 +63,18 @@ impl Settling {
     }
 
     fn look(&mut self, second: usize, words: &[u32], leafsets: &[u64]) {
-        let held: Vec<u64> = (0..leafsets.len()).map(|x| look::held(words, x)).collect();
-        if held.iter().zip(leafsets).all(|(held, leafset)| held & leafset == *leafset) {
+        if covers(words, leafsets) {
             self.covered.get_or_insert(second);
         }
-        if held == leafsets {
+        if (0..leafsets.len()).all(|x| look::held(words, x) == leafsets[x]) {
             self.exact.get_or_insert(second);
         }
     }
+}
+
+/// Whether every node holds at least its leafset.
+pub fn covers(words: &[u32], leafsets: &[u64]) -> bool {
+    (0..leafsets.len()).all(|x| look::held(words, x) & leafsets[x] == leafsets[x])
 }
 
 /// Each case as often as the plan says.

@@ -1,7 +1,7 @@
 //! How many stages settle where A is unlike B: as they are, where each node contacts the next one clockwise, and after
 //! nodes have gone and come back.
 
-use super::settling::{random_of, Settling};
+use super::settling::{covers, random_of, Settling};
 use super::simulated::{Conditions, Stage};
 use super::starts::{by_key, each_and_next, leafsets, Start};
 use super::{in_threads, Plan};
@@ -44,6 +44,17 @@ impl Case {
         let [gone, back] = alone.go_and_come_back(false);
         let [gone_helped, back_helped] = helped.go_and_come_back(true);
         [as_it_is, contacted, gone, back, gone_helped, back_helped]
+    }
+
+    /// Whether it is covered within the limit: as it is, and with contacts.
+    fn joins(&self, ring: &dyn Ring, seed: u64, run: usize) -> [bool; 2] {
+        [false, true].map(|contacts| {
+            let mut story = Story::new(self, ring, random_of(self, seed, run));
+            if contacts {
+                story.contact_next();
+            }
+            story.is_covered()
+        })
     }
 }
 
@@ -125,6 +136,15 @@ impl<'a> Story<'a> {
         self.end()
     }
 
+    /// Whether the stage is covered within the limit.
+    fn is_covered(&mut self) -> bool {
+        let leafsets = leafsets(self.ring, &self.stage.words);
+        (0..LIMIT).any(|_| {
+            self.stage.second();
+            covers(&self.stage.words, &leafsets)
+        })
+    }
+
     /// Plays until the stage is settled, or to the limit.
     fn end(&mut self) -> End {
         let leafsets = leafsets(self.ring, &self.stage.words);
@@ -192,9 +212,12 @@ impl End {
 
     fn shown(self) -> String {
         let outside = self.outside as f64 / self.nodes as f64;
-        let astray = 100.0 * self.astray as f64 / self.routes as f64;
+        let astray = match self.astray {
+            0 => "none".to_string(),
+            astray => format!("{:.1}", 100.0 * astray as f64 / self.routes as f64),
+        };
         let parted = if self.parted > 0 { format!(" parted {}", self.parted) } else { String::new() };
-        format!("{} {} {} {outside:.1} {astray:.1}{parted}", self.covered, self.settled, self.seconds)
+        format!("{} {} {} {outside:.1} {astray}{parted}", self.covered, self.settled, self.seconds)
     }
 }
 
@@ -238,4 +261,24 @@ fn run_all(ring: &dyn Ring, plan: &Plan, sides: Sides, n: usize) -> Vec<Ends> {
         let case = Case { start: STARTS[number / plan.seeds], n, sides };
         case.run(ring, plan.seed, number % plan.seeds)
     })
+}
+
+/// By A, B and nodes: how many pairs of rings become one, as they are and with contacts.
+pub fn report_joined(ring: &dyn Ring, plan: &Plan) {
+    let runs = 4 * plan.seeds;
+    println!("\nOf {runs} times two rings that one link joins, how many are covered after {LIMIT} seconds:");
+    println!("as they are, and where each node contacts the next one clockwise");
+    print!("{:>4}{:>4}", "A", "B");
+    plan.sizes().for_each(|n| print!("{:>8}", format!("n {n}")));
+    println!();
+    for (a, b) in SIDES {
+        print!("{a:>4}{b:>4}");
+        for n in plan.sizes() {
+            let case = Case { start: Start::Rings(2), n, sides: Sides::from((a, b)) };
+            let joined = in_threads(plan.threads, runs, |run| case.joins(ring, plan.seed, run));
+            let [alone, helped] = [0, 1].map(|column| joined.iter().filter(|joined| joined[column]).count());
+            print!("{:>8}", format!("{alone} {helped}"));
+        }
+        println!();
+    }
 }
