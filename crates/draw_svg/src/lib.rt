@@ -7,6 +7,7 @@ ghost use Prim.Native.Nat.{_+_, _*_, _≤_};
 ghost use lib.ListN.{length};
 ghost use Rattle.draw_svg.specs.Room.{Room};
 use bench_lines::put_byte;
+use bench_lines::put_bytes;
 use bench_lines::put_number;
 use draw_circle::curve::Half;
 
@@ -88,6 +89,6 @@ pub fn put_only_held(out: &mut [u8], at: usize, half: Half) -> usize
     requires room { ⌜ at + 194 ≤ length (now out) ⌝ }
     ensures room { λ r. ⌜ Room (now (out .entry)) (now (out .exit)) at r 194 ⌝ }
 {
-    let class = put_filled(out, at, b"<path class='i", &[]);
+    let class = put_bytes(out, at, b"<path class='i");
     put_curve(out, class, half)
 }

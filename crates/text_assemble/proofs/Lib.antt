@@ -1,4 +1,3 @@
 pub mod Gives
 pub mod Steps
 pub mod Joined
-pub mod Texts

@@ -9,7 +9,6 @@ use Rattle.text_form.specs.Ascii.{ascii}
 use Rattle.text_form.specs.declared.Expected.{Expected}
 use Rattle.text_form.specs.declared.Expected.the-variants as expected
 use Rattle.text_form.specs.declared.Reader.{Reader}
-use Rattle.text_assemble.specs.declared.fault.Span.{Span}
 
 abbrev pub lineWord : List ℕ
 lineWord = ascii "line "
@@ -32,30 +31,10 @@ expectedText expected.Word = ascii "eight hexadecimal digits"
 expectedText expected.Tail = ascii "two, four or six hexadecimal digits"
 expectedText expected.LineEnd = ascii "the end of the line"
 
--- the text, to the end of the line
-abbrev pub expectedLine : Expected → List ℕ
-expectedLine e = expectedText e ++ newline ∷ []
-
--- where that stands among those of all, one after the other
-abbrev pub spanOf : Expected → Span
-spanOf expected.Opening = record { start = 0; end = 20 }
-spanOf expected.Keys = record { start = 20; end = 25 }
-spanOf expected.Event = record { start = 25; end = 93 }
-spanOf expected.NoLine = record { start = 93; end = 116 }
-spanOf expected.Side = record { start = 116; end = 135 }
-spanOf expected.Key = record { start = 135; end = 160 }
-spanOf expected.Node = record { start = 160; end = 180 }
-spanOf expected.Timer = record { start = 180; end = 202 }
-spanOf expected.At = record { start = 202; end = 205 }
-spanOf expected.Position = record { start = 205; end = 231 }
-spanOf expected.Word = record { start = 231; end = 256 }
-spanOf expected.Tail = record { start = 256; end = 292 }
-spanOf expected.LineEnd = record { start = 292; end = 312 }
-
 -- A fault with no token, before the first word of a line, is the end of a text: the reader is one line past it, since a
 -- newline was read as if it followed.
 unfoldable pub faultLine : Reader → ℕ
 faultLine r = if eqb (r .place) 0 && eqb (r .token) 0 && ltb 1 (r .line) then r .line - 1 else r .line
 
 unfoldable pub faultBytes : ℕ → Expected → List ℕ
-faultBytes line e = lineWord ++ decimal line ++ expectedWord ++ expectedLine e
+faultBytes line e = lineWord ++ decimal line ++ expectedWord ++ expectedText e ++ newline ∷ []
