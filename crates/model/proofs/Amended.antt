@@ -2,25 +2,28 @@
 use mathlib.Core.Path.{_≡_, refl}
 use mathlib.Core.Bool.{true, false, not}
 use mathlib.Core.List.{List, [], _∷_, map}
-use Prim.Native.Nat.{ℕ, _*_, _^_}
+use Prim.Native.Nat.{ℕ, zero, suc, _*_, _^_}
 use lib.Dec.{eqb}
 use lib.ListN.{getD, take}
 use Rattle.model.specs.Choice.{if_then_else_}
 use Rattle.model.specs.Fields.{ofKind}
 use Rattle.model.specs.Sets.{noneNode, ofBits, count, some, members, tabulateFrom}
 use Rattle.model.specs.Leafset.{Table, leafset, nearest}
-use Rattle.model.specs.Ring.{Own, Ring, cleared, initial, isRunning}
+use Rattle.model.specs.Ring.{Own, Message, Ring, cleared, initial, isRunning}
 use Rattle.model.specs.Types.{pongAskInv, leave, usedByType}
 use Rattle.model.specs.Words.{headWord, sidesOf}
-use Rattle.model.specs.Steps.{plain, viewing, hold, release, forget, leaving, contact, notice, timer0, timer, onPingContact, onPongContact, onPongAskInv, onLeave, deliver}
+use Rattle.model.specs.Steps.{plain, viewing, hold, release, forget, leaving, contact, notice, timer0, timer}
+use Rattle.model.specs.Steps.{onPingContact, onPongContact, onPongAskInv, onPongReplace, onLeave, deliver}
 use Rattle.model.specs.Answers.{firstOf}
 use Rattle.model.specs.Events.{wordOf, eventOf, eventAnswer, wordAnswer, readEvent}
 use Rattle.model.specs.Play.{removeMessage, act, after, playAnswer, playWord, playAll}
 use Rattle.model.specs.Connection.{reached, connected}
 use Rattle.model.specs.Route.{nextOf, goesOn, routeWithin, route}
 use Rattle.model.specs.declared.event.Event.{Event}
-use Rattle.model.specs.declared.event.Event.the-variants.{Off, Timer}
+use Rattle.model.specs.declared.event.Event.the-variants.{Off, Timer, Deliver}
 use Rattle.model.specs.declared.values.NodeNumber.{NodeNumber}
+use Rattle.model.proofs.ExampleRing.{ring}
+use Rattle.model.proofs.ExampleRing as example
 
 -- ---- "Ghosts in the candidate list"
 
@@ -61,12 +64,18 @@ uneven a b = members 6 (leafset six 0 (ofBits 0b111110))
 pub left-by : ℕ → ℕ → List (List ℕ)
 left-by S a = known (deliver five 0 9 (knowing S) (plain leave a 0) .own)
 
--- node 0 runs with clock 8 and candidates 3 and 4, all others are off; then node 0 has an event
+-- node 0 runs with clock 8 and candidates 3 and 4, all others are off, and these messages are in flight
+unfoldable flying : List Message → Ring
+flying ms =
+    record {
+      table = five;
+      node = λ x. if eqb x 0 then record { running = true; clock = 8; own = knowing 0b11000 } else record { running = false; clock = 0; own = cleared };
+      messages = ms;
+    }
+
+-- there is none, and node 0 has an event
 unfoldable having : Event → Ring
-having e = after r e
-  where
-    r : Ring
-    r = record { table = five; node = λ x. if eqb x 0 then record { running = true; clock = 8; own = knowing 0b11000 } else record { running = false; clock = 0; own = cleared }; messages = [] }
+having e = after (flying []) e
 
 -- of each message its type, its ends and its subject
 pub sent : Event → List (List ℕ)
@@ -95,6 +104,35 @@ late k = playAll (initial two) (take k script)
 -- the types in flight, who runs, and whom 0 is connected to
 pub at-point : ℕ → List (List ℕ)
 at-point k = map (λ m. m .type) (late k .messages) ∷ members 2 (isRunning (late k)) ∷ members 2 (connected (late k) 0) ∷ []
+
+-- ---- "Echoes"
+
+-- type 1 from 3 to 4, from 2 to 0 and from 4 to 3
+unfoldable three : List Message
+three = plain 1 3 4 ∷ plain 1 2 0 ∷ plain 1 4 3 ∷ []
+
+-- the clocks of nodes 0 and 4 after an event, and of each message its type and its ends
+pub flown : Event → List (List ℕ)
+flown e = (r .node 0 .clock ∷ r .node 4 .clock ∷ []) ∷ map (λ m. m .type ∷ m .sender ∷ m .receiver ∷ []) (r .messages)
+  where
+    r : Ring
+    r = after (flying three) e
+
+-- the answer to a word where 1,024 messages of a type fly from 2 to 0
+pub when-full : ℕ → ℕ → ℕ
+when-full k w = playAnswer (flying (map (λ i. plain k 2 0) (tabulateFrom 0 1024 (λ i. i)))) w
+
+-- the acknowledgement of P10, which lets go of node 2, comes so many times: the clock of node 0, whom it holds, with which commits, and the types in flight
+pub bitten : ℕ → List (List ℕ)
+bitten k =
+    (r .node 0 .clock ∷ []) ∷ members 5 (r .node 0 .own .held) ∷ tabulateFrom 0 5 (r .node 0 .own .commit) ∷ map (λ m. m .type) (r .messages) ∷ []
+  where
+    echoes : ℕ → Ring
+    echoes zero = ring 0b11100 6
+    echoes (suc k) = after (echoes k) (Deliver 0 true)
+
+    r : Ring
+    r = echoes k
 
 -- ---- "Which desk keeps this bar?"
 
@@ -150,6 +188,24 @@ pub record Amended : Type 0 where
   -- last word delivers it, and parts two running nodes
   pub late-leave-before : at-point 14 ≡ (13 ∷ []) ∷ (0 ∷ 1 ∷ []) ∷ (0 ∷ 1 ∷ []) ∷ []
   pub late-leave-after : at-point 15 ≡ [] ∷ (0 ∷ 1 ∷ []) ∷ (0 ∷ []) ∷ []
+  -- "A deliver event with bit 10 set": no other bit above the position's is named, and none of a lose
+  pub echo-word : wordOf (Deliver 2 true) ≡ 0xE0000402
+  pub echo-reads : readEvent 0xE0000402 .event ≡ Deliver 2 true ∷ []
+  pub echo-unnamed : wordAnswer 0xE0000C02 ≡ 4
+  pub lose-unnamed : wordAnswer 0xF0000402 ≡ 4
+  -- "delivers and leaves the message in its position", new ones go to the end; beside it the delivery, which takes the message out
+  pub echo-stays : flown (Deliver 1 true) ≡ (9 ∷ 0 ∷ []) ∷ (1 ∷ 3 ∷ 4 ∷ []) ∷ (1 ∷ 2 ∷ 0 ∷ []) ∷ (1 ∷ 4 ∷ 3 ∷ []) ∷ (2 ∷ 0 ∷ 2 ∷ []) ∷ []
+  pub delivery-takes : flown (Deliver 1 false) ≡ (9 ∷ 0 ∷ []) ∷ (1 ∷ 3 ∷ 4 ∷ []) ∷ (1 ∷ 4 ∷ 3 ∷ []) ∷ (2 ∷ 0 ∷ 2 ∷ []) ∷ []
+  -- the same to a stand that is off
+  pub echo-off : flown (Deliver 0 true) ≡ (8 ∷ 0 ∷ []) ∷ (1 ∷ 3 ∷ 4 ∷ []) ∷ (1 ∷ 2 ∷ 0 ∷ []) ∷ (1 ∷ 4 ∷ 3 ∷ []) ∷ []
+  pub delivery-off : flown (Deliver 0 false) ≡ (8 ∷ 0 ∷ []) ∷ (1 ∷ 2 ∷ 0 ∷ []) ∷ (1 ∷ 4 ∷ 3 ∷ []) ∷ []
+  -- "Refusal 11 counts the message that stays": type 1 is answered, type 2 is not
+  pub echo-full : when-full 1 0xE0000400 ≡ 11
+  pub delivery-full : when-full 1 0xE0000000 ≡ 0
+  pub echo-unanswered : when-full 2 0xE0000400 ≡ 0
+  -- an acknowledgement that comes twice lets go once, and is in flight all the while
+  pub echo-bites : bitten 1 ≡ (9 ∷ []) ∷ (1 ∷ 3 ∷ 4 ∷ []) ∷ (0 ∷ 9 ∷ 0 ∷ 5 ∷ 5 ∷ []) ∷ (10 ∷ []) ∷ []
+  pub echo-bites-once : bitten 2 ≡ (10 ∷ []) ∷ (1 ∷ 3 ∷ 4 ∷ []) ∷ (0 ∷ 9 ∷ 0 ∷ 5 ∷ 5 ∷ []) ∷ (10 ∷ []) ∷ []
   -- "It goes on to the nearest of the running stands held there": from stand to stand; to one outside its leafset; not to one that is off,
   -- nor to a candidate
   pub route-hops : routed 0 (0b00010 ∷ 0b00100 ∷ 0b01000 ∷ []) 38 ≡ 0 ∷ 1 ∷ 2 ∷ 3 ∷ []
@@ -162,7 +218,11 @@ pub record Amended : Type 0 where
   pub route-stays : routed 0 (0b00010 ∷ []) 14 ≡ 0 ∷ []
 
 pub amended : Amended
-unfolding count members five knowing told known noticed brought-back uneven left-by having sent kept release forget leaving notice timer0 timer onPongAskInv onLeave deliver after eventOf eventAnswer wordAnswer readEvent firstOf leafset headWord some nearest nextOf goesOn routeWithin route routed late at-point initial usedByType hold contact onPingContact onPongContact removeMessage act playAnswer playWord playAll tabulateFrom reached connected
+unfolding count members five knowing told known noticed brought-back uneven left-by having sent kept release forget leaving notice
+    timer0 timer onPongAskInv onLeave deliver after eventOf eventAnswer wordAnswer readEvent firstOf leafset headWord some nearest
+    nextOf goesOn routeWithin route routed late at-point initial usedByType hold contact onPingContact onPongContact removeMessage
+    act playAnswer playWord playAll tabulateFrom reached connected flying three flown when-full bitten onPongReplace
+    example.holding example.five example.node0 example.off example.acknowledgement ring
 amended =
     record {
       notice-candidate = refl;
@@ -192,6 +252,19 @@ amended =
       timers-written = refl;
       late-leave-before = refl;
       late-leave-after = refl;
+      echo-word = refl;
+      echo-reads = refl;
+      echo-unnamed = refl;
+      lose-unnamed = refl;
+      echo-stays = refl;
+      delivery-takes = refl;
+      echo-off = refl;
+      delivery-off = refl;
+      echo-full = refl;
+      delivery-full = refl;
+      echo-unanswered = refl;
+      echo-bites = refl;
+      echo-bites-once = refl;
       route-hops = refl;
       route-outside = refl;
       route-off = refl;

@@ -6,7 +6,7 @@ use lib.Dec.{lit≤}
 use Rattle.model.specs.Ring.{Ring, isRunning, messageAt}
 use Rattle.model.specs.WellFormed.{Each, nil, cons}
 use Rattle.model.specs.Answers.{isAccepted, numberOf}
-use Rattle.model.specs.Play.{after, act, removeMessage, refusals, leftRefusals}
+use Rattle.model.specs.Play.{after, act, receive, removeMessage, refusals, leftRefusals}
 use Rattle.model.specs.declared.answer.Answer.{Answer}
 use Rattle.model.specs.declared.answer.Answer.the-variants.{Accepted, WrongLength, OpeningOutOfRange, BadKey, NotAnEvent, SameNode, NotARing, OutOfTable, NodeOff, AlreadyRunning, ClockSpent, PoolFull, KeyOutOfRange, ListTooShort}
 use Rattle.model.specs.declared.event.Event.{Event}
@@ -19,7 +19,7 @@ refusals-refuse r (Off x polite) = cons refl (cons refl nil)
 refusals-refuse r (Notice x z) = cons refl (cons refl (cons refl (cons refl nil)))
 refusals-refuse r (Contact x y) = cons refl (cons refl (cons refl (cons refl nil)))
 refusals-refuse r (Timer x k) = cons refl (cons refl (cons refl nil))
-refusals-refuse r (Deliver i) = cons refl (cons refl nil)
+refusals-refuse r (Deliver i echo) = cons refl (cons refl nil)
 refusals-refuse r (Lose i) = cons refl nil
 
 pub left-refuses : (r : Ring) → Each (λ q. isAccepted (q .number) ≡ false) (leftRefusals r)
@@ -33,8 +33,11 @@ after-table r (Off x polite) = if-law (λ (q : Ring). q .table ≡ r .table) pol
 after-table r (Notice x z) = refl
 after-table r (Contact x y) = refl
 after-table r (Timer x k) = refl
-after-table r (Deliver i) =
-    if-law (λ (q : Ring). q .table ≡ r .table) (isRunning r (messageAt r i .receiver)) _ _ (λ e. refl) (λ e. refl)
+after-table r (Deliver i echo) =
+    if-law (λ (s : Ring). receive (messageAt r i) s .table ≡ r .table) echo r (removeMessage i r) (λ e. received r) (λ e. received (removeMessage i r))
+  where
+    received : (s : Ring) → receive (messageAt r i) s .table ≡ s .table
+    received s = if-law (λ (q : Ring). q .table ≡ s .table) (isRunning s (messageAt r i .receiver)) _ _ (λ e. refl) (λ e. refl)
 after-table r (Lose i) = refl
 
 -- ---- answers

@@ -43,7 +43,7 @@ harmless-decides r (Off x polite) = ((λ t. clash t refl), (λ h. absurd h))
 harmless-decides r (Notice x z) = (not-out (isRunning r (z .0)), (λ h. not-in h))
 harmless-decides r (Contact x y) = ((λ t. tt), (λ h. refl))
 harmless-decides r (Timer x k) = ((λ t. tt), (λ h. refl))
-harmless-decides r (Deliver i) = ((λ t. tt), (λ h. refl))
+harmless-decides r (Deliver i echo) = ((λ t. tt), (λ h. refl))
 harmless-decides r (Lose i) = ((λ t. tt), (λ h. refl))
 
 -- what is accepted is harmless, on a ring

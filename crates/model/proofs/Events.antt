@@ -29,13 +29,13 @@ kind-is k v h l = field 28 4 0 k v (omega arith) l h
 low-is : (k width hi v : ℕ) → 2 ^ 28 ≡ hi * 2 ^ width → v < 2 ^ width → bits 0 width (ofKind k v) ≡ v
 low-is k width hi v e h = field 0 width (k * hi) v 0 (ap (λ (w : ℕ). k * w + v) e ∙ omega arith) (lit< tt) h
 
--- x below another part v, which starts at bit `low`
-record TwoParts (k low width x v : ℕ) : Type 0 where
+-- x, of so many bits, below another part v, which starts at bit `low`
+record TwoParts (k many low width x v : ℕ) : Type 0 where
   kind-back : kind (ofKind k (v * 2 ^ low + x)) ≡ k
-  low-back : bits 0 6 (ofKind k (v * 2 ^ low + x)) ≡ x
+  low-back : bits 0 many (ofKind k (v * 2 ^ low + x)) ≡ x
   high-back : bits low width (ofKind k (v * 2 ^ low + x)) ≡ v
 
-two-nodes : (k x z : ℕ) → k < 16 → x < 64 → z < 64 → TwoParts k 6 6 x z
+two-nodes : (k x z : ℕ) → k < 16 → x < 64 → z < 64 → TwoParts k 6 6 6 x z
 two-nodes k x z hk h l =
     record {
       kind-back = kind-is k (z * 2 ^ 6 + x) hk (omega arith);
@@ -43,12 +43,20 @@ two-nodes k x z hk h l =
       high-back = field 6 6 (k * 2 ^ 16) z x (omega arith) h l;
     }
 
-node-and-number : (k x i : ℕ) → k < 16 → x < 64 → i < 8 → TwoParts k 12 3 x i
+node-and-number : (k x i : ℕ) → k < 16 → x < 64 → i < 8 → TwoParts k 6 12 3 x i
 node-and-number k x i hk h l =
     record {
       kind-back = kind-is k (i * 2 ^ 12 + x) hk (omega arith);
       low-back = field 0 6 (k * 2 ^ 22 + i * 2 ^ 6) x 0 (omega arith) (lit< tt) h;
       high-back = field 12 3 (k * 2 ^ 13) i x (omega arith) (omega arith) l;
+    }
+
+position-and-mark : (i v : ℕ) → i < 1024 → v < 2 → TwoParts 14 10 10 1 i v
+position-and-mark i v h l =
+    record {
+      kind-back = kind-is 14 (v * 2 ^ 10 + i) (lit< tt) (omega arith);
+      low-back = field 0 10 (14 * 2 ^ 18 + v) i 0 (omega arith) (lit< tt) h;
+      high-back = field 10 1 (14 * 2 ^ 17) v i (omega arith) h l;
     }
 
 -- a mark, whose number is the lowest bit there
@@ -59,7 +67,7 @@ mark-back w b e = ap (λ (v : ℕ). eqb v 1) (lowest (bit b) e (bit< b)) ∙ is-
     lowest v i h = omega arith
 
 -- the named bits of an event's word give that event
-event-of-word : (e : Event) → partsFit e ≡ true → eventOf (wordOf e) ≡ e
+pub event-of-word : (e : Event) → partsFit e ≡ true → eventOf (wordOf e) ≡ e
 unfolding eventOf
 event-of-word (On x) t =
     let h = ltb-true (x .0) 64 t in
@@ -76,9 +84,9 @@ event-of-word (Contact x y) t =
 event-of-word (Timer x i) t =
     let p = node-and-number 13 (x .0) i (lit< tt) (ltb-true (x .0) 64 (and-left _ _ t)) (omega (arith, leb-true i 4 (and-left _ _ (and-right (ltb (x .0) 64) _ t)))) in
     rw (p .kind-back, p .low-back, p .high-back)
-event-of-word (Deliver i) t =
-    let h = ltb-true i 1024 t in
-    rw (kind-is 14 i (lit< tt) (omega arith), low-is 14 10 (2 ^ 18) i refl h)
+event-of-word (Deliver i echo) t =
+    let p = position-and-mark i (bit echo) (ltb-true i 1024 t) (bit< echo) in
+    rw (p .kind-back, p .low-back, p .high-back, is-bit echo)
 event-of-word (Lose i) t =
     let h = ltb-true i 1024 t in
     rw (kind-is 15 i (lit< tt) (omega arith), low-is 15 10 (2 ^ 18) i refl h)

@@ -16,7 +16,7 @@ use Rattle.model.specs.Ring.{Ring, Own, Node, Message, blank, isRunning,
 use Rattle.model.specs.WellFormed.{Spare, none, spare, WellFormedMessage, WellFormed, Each, nil, cons}
 use Rattle.model.specs.Types.{pingReplace, pongReplace, leave}
 use Rattle.model.specs.Steps.{Effect, stamped, plain, setCandidates, setCommit, hold, release, forget, invited, invitations, questions, outside, leaving, contact, notice, timer0, timer2, timer3, timer4, timer, onPingContact, onPongContact, onPingAskInv, onPongAskInv, onPingInvite, onPongInvite, onPingAskRepl, onPongAskRepl, onPingReplace, onPongReplace, onPingDeloopy, onPongDeloopy, onLeave, deliver}
-use Rattle.model.specs.Play.{setNode, setMessages, sendLeave, stopped, removeMessage, act, after}
+use Rattle.model.specs.Play.{setNode, setMessages, sendLeave, stopped, removeMessage, act, receive, after}
 use Rattle.model.specs.ConnectivityPreserved.{LeaversOff, Harmless}
 use Rattle.model.specs.declared.event.Event.{Event}
 use Rattle.model.specs.declared.event.Event.the-variants.{On, Off, Notice, Contact, Timer, Deliver, Lose}
@@ -562,10 +562,25 @@ module _ (r : Ring) (well : WellFormed r) (q : Requests r) where
     left : List Message
     left = take i (r .messages) ++ drop (suc i) (r .messages)
 
-    -- the other messages stay; the argument would bear that the delivered one stays too
     left-over : Part left (r .messages)
     unfolding left
     left-over = left-part i (r .messages)
+
+    -- a delivery, whatever part of the messages stays: all of them after an echo
+    module _ (ms : List Message) (part : Part ms (r .messages)) where
+      received-step : LeaversOff r → Step r (receive m (setMessages ms r))
+      unfolding act
+      received-step off =
+          if-law (Step r) (isRunning r (m .receiver)) (acted r (m .receiver) ms delivered) (setMessages ms r)
+          (λ on. acted-step r (m .receiver) ms part delivered (laws-delivered on .1 off))
+          (λ stopped. thinned r ms part)
+
+      received-requests : Requests (receive m (setMessages ms r))
+      unfolding act
+      received-requests =
+          if-law Requests (isRunning r (m .receiver)) (acted r (m .receiver) ms delivered) (setMessages ms r)
+          (λ on. acted-requests r (m .receiver) ms part delivered (laws-delivered on .0) q)
+          (λ off a h. q a (part a h))
 
   pub event-step : LeaversOff r → (e : Event) → Harmless r e → Step r (after r e)
   unfolding after act removeMessage left
@@ -574,10 +589,9 @@ module _ (r : Ring) (well : WellFormed r) (q : Requests r) where
   event-step off (Notice x z) h = acted-step r (x .0) (r .messages) (all-stay r) _ (law-notice r (x .0) (z .0) h)
   event-step off (Contact x y) h = acted-step r (x .0) (r .messages) (all-stay r) _ (law-contact r (x .0) (y .0))
   event-step off (Timer x k) h = acted-step r (x .0) (r .messages) (all-stay r) _ (law-timer r (x .0) k)
-  event-step off (Deliver i) h =
-      if-law (Step r) (isRunning r (m i .receiver)) (acted r (m i .receiver) (left i) (delivered i)) (setMessages (left i) r)
-      (λ on. acted-step r (m i .receiver) (left i) (left-over i) (delivered i) (laws-delivered i on .1 off))
-      (λ stopped. thinned r (left i) (left-over i))
+  event-step off (Deliver i echo) h =
+      if-law (λ (s : Ring). Step r (receive (m i) s)) echo r (removeMessage i r)
+      (λ e. received-step i (r .messages) (all-stay r) off) (λ e. received-step i (left i) (left-over i) off)
   event-step off (Lose i) h = thinned r (left i) (left-over i)
 
   pub event-requests : (e : Event) → Requests (after r e)
@@ -590,10 +604,9 @@ module _ (r : Ring) (well : WellFormed r) (q : Requests r) where
   event-requests (Notice x z) = acted-requests r (x .0) (r .messages) (all-stay r) _ (asks-notice r (x .0) (z .0)) q
   event-requests (Contact x y) = acted-requests r (x .0) (r .messages) (all-stay r) _ (law-contact r (x .0) (y .0) .asks) q
   event-requests (Timer x k) = acted-requests r (x .0) (r .messages) (all-stay r) _ (law-timer r (x .0) k .asks) q
-  event-requests (Deliver i) =
-      if-law Requests (isRunning r (m i .receiver)) (acted r (m i .receiver) (left i) (delivered i)) (setMessages (left i) r)
-      (λ on. acted-requests r (m i .receiver) (left i) (left-over i) (delivered i) (laws-delivered i on .0) q)
-      (λ off a h. q a (left-over i a h))
+  event-requests (Deliver i echo) =
+      if-law (λ (s : Ring). Requests (receive (m i) s)) echo r (removeMessage i r)
+      (λ e. received-requests i (r .messages) (all-stay r)) (λ e. received-requests i (left i) (left-over i))
   event-requests (Lose i) = λ a h. q a (left-over i a h)
 
 pub initial-requests : (t : Table) → Requests (initial t)

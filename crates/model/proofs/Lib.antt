@@ -28,4 +28,5 @@ pub mod PointsFit
 pub mod Amended
 pub mod Routes
 pub mod Previews
+pub mod Echoes
 pub mod Theorems

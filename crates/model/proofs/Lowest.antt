@@ -36,7 +36,7 @@ rising-state r (Off x polite) = refl
 rising-state r (Notice x z) = refl
 rising-state r (Contact x y) = refl
 rising-state r (Timer x k) = refl
-rising-state r (Deliver i) = refl
+rising-state r (Deliver i echo) = refl
 rising-state r (Lose i) = refl
 
 pub lowest-at-playing : (ws : List ℕ) (w : ℕ) → LowestOf (playRefusals ws w) (bufferAnswer ws w)

@@ -10,14 +10,14 @@ use lib.ListN.{length, getD}
 use Rattle.model.specs.Choice.{if_then_else_}
 use Rattle.model.specs.Sets.{Set, without, count, toBits, noneNode}
 use Rattle.model.specs.Leafset.{Table, size, key, leafset, beats, nearest}
-use Rattle.model.specs.Ring.{Own, Message, Ring, initial, holds, isRunning}
+use Rattle.model.specs.Ring.{Own, Message, Ring, initial, holds, isRunning, messageAt}
 use Rattle.model.specs.Types.{types}
 use Rattle.model.specs.Steps.{stepByType}
 use Rattle.model.specs.WellFormed.{WellFormedTable, WellFormed}
 use Rattle.model.specs.Words.{ringLength, encode, decode, readsAsRing}
 use Rattle.model.specs.Answers.{isAccepted}
 use Rattle.model.specs.Events.{wordOf, eventAnswer, writeEvent, readEvent, readingOf}
-use Rattle.model.specs.Play.{playWord, playAll}
+use Rattle.model.specs.Play.{after, playAnswer, playWord, playAll}
 use Rattle.model.specs.Buffer.{openBuffer, playBuffer, playBufferAll}
 use Rattle.model.specs.Questions.{leafsetOf}
 use Rattle.model.specs.Route.{nextOf, goesOn, route, Converged, routeAnswer, routeBuffer}
@@ -25,6 +25,7 @@ use Rattle.model.specs.Preview.{previewBuffer, Call, PreviewsChangeNothi
 use Rattle.model.specs.Connection.{Connected, connected, groups, CountsGroups}
 use Rattle.model.specs.ConnectivityPreserved.{Reached, opened, Unbroken, ConnectivityPreserved}
 use Rattle.model.specs.declared.event.Event.{Event}
+use Rattle.model.specs.declared.event.Event.the-variants.{Deliver}
 use Rattle.model.specs.declared.event.Reading.the-variants.{Read}
 use Rattle.model.proofs.Events as events
 use Rattle.model.proofs.LeafsetSize.{TwoSides}
@@ -42,6 +43,8 @@ use Rattle.model.proofs.Groups as grouped
 use Rattle.model.proofs.Routes.{Hop, GivenRoute}
 use Rattle.model.proofs.Routes as routes
 use Rattle.model.proofs.Previews as previewed
+use Rattle.model.proofs.Echoes.{EchoLeaves, AlikeButFull}
+use Rattle.model.proofs.Echoes as echoes
 use Rattle.model.proofs.ConnectivityPreserved as preserved
 -- "The lowest number that applies is given, and none otherwise", at each call: their statements are in Lowest
 pub use Rattle.model.proofs.Lowest.{lowest-at-writing, lowest-at-reading, lowest-at-opening, lowest-at-playing, lowest-at-previewing, lowest-at-leafset, lowest-at-connection, lowest-at-groups, lowest-at-routing, lowest-at-script}
@@ -228,6 +231,21 @@ preview-reached ws r p w second a = previewed.preview-reached ws w second a p
 -- preview with any second buffer
 pub previews-change-nothing : (ws : List ℕ) (calls : List Call) → PreviewsChangeNothing ws calls
 previews-change-nothing ws calls = previewed.change-nothing ws calls
+
+-- ---- echoes
+
+-- "delivers and leaves the message in its position": all messages that were in flight are where they were; the message lost after it, the ring is
+-- the one that a delivery leaves
+pub echo-leaves : (r : Ring) (i : ℕ) → i < length (r .messages) → EchoLeaves r i
+echo-leaves r i h = echoes.echo-leaves r i h
+
+-- "Refusal 11 counts the message that stays": no other answer tells an echo from a delivery
+pub echo-answers : (r : Ring) (i : ℕ) → i < 1024 → AlikeButFull (playAnswer r (wordOf (Deliver i true))) (playAnswer r (wordOf (Deliver i false)))
+echo-answers r i h = echoes.echo-answers r i h
+
+-- an echo to a node that is off leaves the ring
+pub echo-to-off : (r : Ring) (i : ℕ) → isRunning r (messageAt r i .receiver) ≡ false → after r (Deliver i true) ≡ r
+echo-to-off r i off = echoes.echo-to-off r i off
 
 -- ---- demand 3
 

@@ -9,14 +9,15 @@ use lib.Dec.{ltb, leb, eqb}
 use borrow.Author.Tests.{ltb-true, ltb-false, leb-true, eqb-false}
 use Rattle.model.specs.Sets.{all}
 use Rattle.model.specs.Leafset.{Table, size, key}
-use Rattle.model.specs.Ring.{Own, Node, Ring, blank, initial, isRunning, messageAt}
+use Rattle.model.specs.Ring.{Own, Node, Message, Ring, blank, initial, isRunning, messageAt}
 use Rattle.model.specs.WellFormed.{WellFormedTable, WellFormedOwn, WellFormedNode, WellFormedMessage, WellFormed, Each, nil, cons}
 use Rattle.model.specs.Steps.{Effect}
 use Rattle.model.specs.Answers.{Refusal, firstOf, isAccepted}
 use Rattle.model.specs.Events.{eventOf, sameNode, wordRefusals}
 use Rattle.model.specs.Words.{between, sidesFit, inRange, keysDiffer}
 use Rattle.model.specs.Buffer.{wrongLength, openingRefusals, openAnswer}
-use Rattle.model.specs.Play.{setNode, stopped, sendLeave, removeMessage, act, after, refusals, leftRefusals, stateRefusals, playAnswer, playWord}
+use Rattle.model.specs.Play.{setNode, stopped, sendLeave, removeMessage, act, receive, after}
+use Rattle.model.specs.Play.{clockSpent, refusals, leftRefusals, stateRefusals, playAnswer, playWord}
 use Rattle.model.specs.declared.event.Event.{Event}
 use Rattle.model.specs.declared.event.Event.the-variants.{On, Off, Notice, Contact, Timer, Deliver, Lose}
 use Rattle.model.proofs.Fits.{sides-out}
@@ -125,6 +126,16 @@ send-leave-well r x g low =
           (leaving-well (r .table) x (r .node x .clock) (r .node x .own) low (g .node-well x .own-well));
     }
 
+receive-well :
+    (r : Ring) (m : Message) → WellFormedParts r → WellFormedMessage (size (r .table)) m
+    → clockSpent r (isRunning r (m .receiver)) (m .receiver) .applies ≡ false → WellFormedParts (receive m r)
+receive-well r m g w unspent =
+    if-law WellFormedParts (isRunning r (m .receiver)) _ _
+    (λ running. act-well r (m .receiver) _ g running
+    (is-false (eqb (r .node (m .receiver) .clock) 16777215) (λ e. clash (and-in running e) unspent))
+    (λ now pos high low o. deliver-well (r .table) (g .table-well) now pos high (r .node (m .receiver) .own) m w o))
+    (λ off. g)
+
 after-well : (r : Ring) (e : Event) → WellFormedParts r → sameNode e ≡ false → NoneApplies (stateRefusals r e) → WellFormedParts (after r e)
 unfolding after removeMessage
 after-well r (On x) g d p =
@@ -147,14 +158,12 @@ after-well r (Contact x y) g d p =
 after-well r (Timer x k) g d p =
     act-well r (x .0) _ g (not-out-false (isRunning r (x .0)) (first (rest p))) (first (rest (rest p)))
     (λ now pos high low o. timer-well (r .table) (g .table-well) now pos high (r .node (x .0) .own) (x .0) low o k)
-after-well r (Deliver i) g d p =
+after-well r (Deliver i echo) g d p =
     let h : i < length (r .messages) = ltb-true i (length (r .messages)) (not-out-false (ltb i (length (r .messages))) (first p)) in
-    if-law WellFormedParts (isRunning r (messageAt r i .receiver)) _ _
-    (λ running. act-well (removeMessage i r) (messageAt r i .receiver) _ (remove-well r i g) running
-    (is-false (eqb (r .node (messageAt r i .receiver) .clock) 16777215) (λ e. clash (and-in running e) (first (rest p))))
-    (λ now pos high low o. deliver-well (r .table) (g .table-well) now pos high (r .node (messageAt r i .receiver) .own)
-    (messageAt r i) (each-at (g .messages-well) blank i h) o))
-    (λ off. remove-well r i g)
+    let m : WellFormedMessage (size (r .table)) (messageAt r i) = each-at (g .messages-well) blank i h in
+    if-law (λ (s : Ring). WellFormedParts (receive (messageAt r i) s)) echo r (removeMessage i r)
+    (λ e. receive-well r (messageAt r i) g m (first (rest p)))
+    (λ e. receive-well (removeMessage i r) (messageAt r i) (remove-well r i g) m (first (rest p)))
 after-well r (Lose i) g d p = remove-well r i g
 
 -- an event that is no contact or notice of one node with itself, and that no refusal from the state meets, keeps a ring well-formed

@@ -35,7 +35,7 @@ Harmless r (Off x polite) = ⊥
 Harmless r (Notice x z) = isRunning r (z .0) ≡ false
 Harmless r (Contact x y) = Unit
 Harmless r (Timer x k) = Unit
-Harmless r (Deliver i) = Unit
+Harmless r (Deliver i echo) = Unit
 Harmless r (Lose i) = Unit
 
 -- a test for it
@@ -45,7 +45,7 @@ isHarmless r (Off x polite) = false
 isHarmless r (Notice x z) = not (isRunning r (z .0))
 isHarmless r (Contact x y) = true
 isHarmless r (Timer x k) = true
-isHarmless r (Deliver i) = true
+isHarmless r (Deliver i echo) = true
 isHarmless r (Lose i) = true
 
 -- A list starts from a ring that was reached: lent words, with the ring that the rules give for them.

@@ -15,19 +15,23 @@ use Rattle.model.specs.declared.values.NodeNumber.{NodeNumber}
 
 -- "One word each: kind 9 on, 10 off, 11 notice, 12 contact, 13 timer, 14 deliver, 15 lose. For kinds 9-13 stand x is in bits 0-5;
 -- for 11 and 12 the other stand .. is in 6-11; for 13 the timer, 0 to 4, is in 12-14. Kinds 14 and 15 have a message position in
--- bits 0-9, oldest 0." Of kind 10, bit 12 is set where it is polite.
+-- bits 0-9, oldest 0." Of kind 10, bit 12 is set where it is polite; of kind 14, bit 10 where it is an echo.
 abbrev pub wordOf : Event → ℕ
 wordOf (On x) = ofKind 9 (x .0)
 wordOf (Off x polite) = ofKind 10 (bit polite * 2 ^ 12 + x .0)
 wordOf (Notice x z) = ofKind 11 (z .0 * 2 ^ 6 + x .0)
 wordOf (Contact x y) = ofKind 12 (y .0 * 2 ^ 6 + x .0)
 wordOf (Timer x k) = ofKind 13 (k * 2 ^ 12 + x .0)
-wordOf (Deliver i) = ofKind 14 i
+wordOf (Deliver i echo) = ofKind 14 (bit echo * 2 ^ 10 + i)
 wordOf (Lose i) = ofKind 15 i
 
 -- the event that the named bits of a word of kind 9 to 15 give
 unfoldable pub eventOf : ℕ → Event
-eventOf w = getD (On x ∷ Off x (flag 12 w) ∷ Notice x other ∷ Contact x other ∷ Timer x (bits 12 3 w) ∷ Deliver position ∷ []) (kind w - 9) (Lose position)
+eventOf w =
+    getD
+    (On x ∷ Off x (flag 12 w) ∷ Notice x other ∷ Contact x other ∷ Timer x (bits 12 3 w) ∷ Deliver position (flag 10 w) ∷ [])
+    (kind w - 9)
+    (Lose position)
   where
     x : NodeNumber
     x = record { 0 = bits 0 6 w }
@@ -49,7 +53,7 @@ partsFit (Off x polite) = ltb (x .0) 64
 partsFit (Notice x z) = ltb (x .0) 64 && ltb (z .0) 64
 partsFit (Contact x y) = ltb (x .0) 64 && ltb (y .0) 64
 partsFit (Timer x k) = ltb (x .0) 64 && isTimer k
-partsFit (Deliver i) = ltb i 1024
+partsFit (Deliver i echo) = ltb i 1024
 partsFit (Lose i) = ltb i 1024
 
 -- "Contact or notice where both stands are one."
@@ -59,7 +63,7 @@ sameNode (Off x polite) = false
 sameNode (Notice x z) = eqb (x .0) (z .0)
 sameNode (Contact x y) = eqb (x .0) (y .0)
 sameNode (Timer x k) = false
-sameNode (Deliver i) = false
+sameNode (Deliver i echo) = false
 sameNode (Lose i) = false
 
 -- ---- writing

@@ -25,6 +25,10 @@ setMessages ms r = record { table = r .table; node = r .node; messages = ms }
 unfoldable pub removeMessage : ℕ → Ring → Ring
 removeMessage i r = setMessages (take i (r .messages) ++ drop (suc i) (r .messages)) r
 
+-- the ring on which a message arrives; "A deliver event with bit 10 set delivers and leaves the message in its position."
+abbrev pub arrived : ℕ → Bool → Ring → Ring
+arrived i echo r = if echo then r else removeMessage i r
+
 -- "On sets the running mark", and adds 1 to the clock
 abbrev pub started : Node → Node
 started s = record { running = true; clock = s .clock + 1; own = s .own }
@@ -46,6 +50,12 @@ act x step r =
     effect : Effect
     effect = step now (r .node x .own)
 
+-- the step of a message at its receiver; "to a stand that is off, nothing else happens"
+abbrev pub receive : Message → Ring → Ring
+receive m r =
+    if isRunning r (m .receiver) then act (m .receiver) (λ now o. deliver (r .table) (m .receiver) now o m) r
+    else r
+
 -- "first sends type 13 to each held stand, rising": the clock stays
 abbrev pub sendLeave : ℕ → Ring → Ring
 sendLeave x r = setMessages (r .messages ++ leaving (r .table) x (r .node x .clock) (r .node x .own) .sent) r
@@ -57,11 +67,7 @@ after r (Off x polite) = setNode (x .0) (stopped (r .node (x .0))) (if polite th
 after r (Notice x z) = act (x .0) (λ now o. notice (r .table) (x .0) now o (z .0)) r
 after r (Contact x y) = act (x .0) (λ now o. contact (r .table) (x .0) now o (y .0)) r
 after r (Timer x k) = act (x .0) (λ now o. timer (r .table) (x .0) now o k) r
-after r (Deliver i) =
-    let m : Message = messageAt r i in
-    if isRunning r (m .receiver)
-    then act (m .receiver) (λ now o. deliver (r .table) (m .receiver) now o m) (removeMessage i r)
-    else removeMessage i r
+after r (Deliver i echo) = receive (messageAt r i) (arrived i echo r)
 after r (Lose i) = removeMessage i r
 
 -- ---- "Refusals from the state"
@@ -93,7 +99,7 @@ module _ (r : Ring) where
   refusals (Notice x z) = noNode (x .0) ∷ noNode (z .0) ∷ nodeOff (x .0) ∷ clockSpent true (x .0) ∷ []
   refusals (Contact x y) = noNode (x .0) ∷ noNode (y .0) ∷ nodeOff (x .0) ∷ clockSpent true (x .0) ∷ []
   refusals (Timer x k) = noNode (x .0) ∷ nodeOff (x .0) ∷ clockSpent true (x .0) ∷ []
-  refusals (Deliver i) = noMessage i ∷ clockSpent (isRunning r (messageAt r i .receiver)) (messageAt r i .receiver) ∷ []
+  refusals (Deliver i echo) = noMessage i ∷ clockSpent (isRunning r (messageAt r i .receiver)) (messageAt r i .receiver) ∷ []
   refusals (Lose i) = noMessage i ∷ []
 
 -- those of the ring that an event would leave: "11. More than 1,024 messages would be left."

@@ -10,7 +10,8 @@ pub enum Event {
     Notice(NodeNumber, NodeNumber),
     Contact(NodeNumber, NodeNumber),
     Timer(NodeNumber, u8),
-    Deliver(u16),
+    // Whether it is an echo: the message stays.
+    Deliver(u16, bool),
     Lose(u16),
 }
 
