@@ -8,6 +8,7 @@ ghost use Rattle.model.specs.declared.event.Event.the-variants.{Deliver, Lose};
 ghost use Rattle.records.specs.Effects.{Delivered, Leaves};
 ghost use Rattle.event_act.specs.Acting.{IsActor};
 ghost use Rattle.event_act.specs.Changes.{Decides};
+ghost use Rattle.event_message.specs.Arrivals.{takenBy};
 use event_act::Actor;
 use event_act::decision;
 use event_act::decision::Becomes;
@@ -19,10 +20,10 @@ use model::values::NodeNumber;
 use model::values::Stamp;
 use records::effect::EffectRecord;
 
-// "Delivery takes the message out first; to a stand that is off, nothing else happens."
-pub fn deliver(words: &[u32], position: u16) -> Decision
+// "Delivery takes the message out first; to a stand that is off, nothing else happens." An echo leaves it.
+pub fn deliver(words: &[u32], position: u16, echo: bool) -> Decision
     requires ring { ⌜ readsAsRing (now words) ≡ true ⌝ }
-    ensures decides { λ r. ⌜ Decides (now (words .entry)) (Deliver position) r ⌝ }
+    ensures decides { λ r. ⌜ Decides (now (words .entry)) (Deliver position echo) r ⌝ }
 {
     let m = ring_head::messages(words);
     let k = position as usize;
@@ -32,7 +33,7 @@ pub fn deliver(words: &[u32], position: u16) -> Decision
     let message = ring_messages::load(words, k);
     let y = message.receiver;
     if !ring_nodes::is_running(words, y) {
-        return decision::silent(m, Taken::Message(k), y, Becomes::Stays, Stamp(0));
+        return decision::silent(m, taken(k, echo), y, Becomes::Stays, Stamp(0));
     }
     let answer = event_act::may_act(words, y);
     if answers::is_refusal(answer) {
@@ -40,7 +41,17 @@ pub fn deliver(words: &[u32], position: u16) -> Decision
     }
     let actor = event_act::load(words, y);
     let effect = step(words, actor, message);
-    decision::acting(m, Taken::Message(k), y, actor.time, effect)
+    decision::acting(m, taken(k, echo), y, actor.time, effect)
+}
+
+// The message at k is taken out, unless it is echoed.
+fn taken(k: usize, echo: bool) -> Taken
+    ensures value { λ r. ⌜ r ≡ takenBy k echo ⌝ }
+{
+    if echo {
+        return Taken::Nothing;
+    }
+    Taken::Message(k)
 }
 
 // The step of the message, by its receiver.

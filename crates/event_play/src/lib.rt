@@ -22,7 +22,7 @@ pub fn decide(words: &[u32], e: Event) -> Decision
         Event::Notice(x, z) => event_contact::notice(words, x, z),
         Event::Contact(x, y) => event_contact::contact(words, x, y),
         Event::Timer(x, k) => event_timer::timer(words, x, k),
-        Event::Deliver(i) => event_message::deliver(words, i),
+        Event::Deliver(i, echo) => event_message::deliver(words, i, echo),
         Event::Lose(i) => event_message::lose(words, i),
     }
 }

@@ -49,9 +49,13 @@ module _ (k first second : ℕ) where
   unfolding partsAre eventOfParts
   of-timer e = rw e
 
-  pub of-position : 14 ≤ k → k ≤ 15 → partsAre p ≡ (eqb second 0 && ltb first 1024)
+  pub of-deliver : k ≡ 14 → partsAre p ≡ (leb second 1 && ltb first 1024)
   unfolding partsAre eventOfParts
-  of-position l h = either (λ k. partsAre (record { kind = k; first = first; second = second }) ≡ (eqb second 0 && ltb first 1024)) 14 k l h refl refl
+  of-deliver e = rw e
+
+  pub of-lose : k ≡ 15 → partsAre p ≡ (eqb second 0 && ltb first 1024)
+  unfolding partsAre eventOfParts
+  of-lose e = rw e
 
   kind-fits : partsAre p ≡ true → between 9 15 k ≡ true
   unfolding partsAre
@@ -94,7 +98,11 @@ module _ (k first second : ℕ) where
     timer-low e = leb-true second 4 (and-left (leb second 4) _ (and-right (ltb first 64) (isTimer second) (sym (of-timer e) ∙ t)))
 
     pub position-low : 14 ≤ k → first < 1024
-    position-low l = ltb-true first 1024 (and-right (eqb second 0) (ltb first 1024) (sym (of-position l kind-high) ∙ t))
+    position-low l =
+        elim (ℕ-discrete k 14) [
+          | yes e ↦ ltb-true first 1024 (and-right (leb second 1) (ltb first 1024) (sym (of-deliver e) ∙ t))
+          | no d ↦ ltb-true first 1024 (and-right (eqb second 0) (ltb first 1024) (sym (of-lose (omega (arith, kind-high))) ∙ t))
+        ]
 
   fits : partsAre p ≡ true → partsFit (eventOfParts p) ≡ true
   unfolding partsAre

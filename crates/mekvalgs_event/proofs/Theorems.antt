@@ -20,7 +20,7 @@ use Rattle.model.proofs.Events.{Writable, EventWord, reads-as}
 use Rattle.model.proofs.Theorems.{written-reads}
 use Rattle.mekvalgs_event.specs.Parts.{numbers, partsOf, readParts, eventOfParts, partsAre, partsRefusals, partsAnswer, writeParts}
 use Rattle.mekvalgs_event.specs.declared.Parts.{Parts}
-use Rattle.mekvalgs_event.proofs.Numbers.{either, of-on, of-off, of-position, kind-low, kind-high, write-given, read-given}
+use Rattle.mekvalgs_event.proofs.Numbers.{either, of-on, of-off, of-deliver, of-lose, kind-low, kind-high, write-given, read-given}
 
 -- "The lowest number that applies is given, and none otherwise"
 pub lowest-at-parts : (p : Parts) → LowestOf (partsRefusals p) (partsAnswer p)
@@ -55,9 +55,15 @@ module _ (k first second : ℕ) (t : partsAre (numbers k first second) ≡ true)
           | yes m ↦ either Same 11 k (omega arith) (omega arith) refl refl
           | no m ↦ elim (decLt k 14) [
             | yes o ↦ let e : k ≡ 13 = omega arith in rw e
-            | no o ↦
-                let z : second ≡ 0 = eqb-true second 0 (and-left (eqb second 0) (ltb first 1024) (sym (of-position k first second (omega arith) (kind-high k first second t)) ∙ t)) in
-                either Same 14 k (omega arith) (kind-high k first second t) (rw z) (rw z)
+            | no o ↦ elim (ℕ-discrete k 14) [
+              | yes e ↦
+                  let h : second ≤ 1 = leb-true second 1 (and-left (leb second 1) (ltb first 1024) (sym (of-deliver k first second e) ∙ t)) in
+                  rw (e, mark-back second h)
+              | no d ↦
+                  let e : k ≡ 15 = omega (arith, kind-high k first second t) in
+                  let z : second ≡ 0 = eqb-true second 0 (and-left (eqb second 0) (ltb first 1024) (sym (of-lose k first second e) ∙ t)) in
+                  rw (e, z)
+            ]
           ]
         ]
       ]
@@ -72,7 +78,8 @@ event-of (Off x false) = refl
 event-of (Notice x z) = refl
 event-of (Contact x y) = refl
 event-of (Timer x k) = refl
-event-of (Deliver i) = refl
+event-of (Deliver i true) = refl
+event-of (Deliver i false) = refl
 event-of (Lose i) = refl
 
 numbers-are : (e : Event) → partsAre (partsOf e) ≡ partsFit e
@@ -83,7 +90,8 @@ numbers-are (Off x false) = refl
 numbers-are (Notice x z) = refl
 numbers-are (Contact x y) = refl
 numbers-are (Timer x k) = refl
-numbers-are (Deliver i) = refl
+numbers-are (Deliver i true) = refl
+numbers-are (Deliver i false) = refl
 numbers-are (Lose i) = refl
 
 -- ---- both ways

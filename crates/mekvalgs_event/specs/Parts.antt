@@ -1,4 +1,4 @@
--- An event as three numbers: its kind; its node or position; the other node, the timer, or 1 for a polite off; or 0.
+-- An event as three numbers: its kind; its node or position; the other node, the timer, or 1 for a polite off and for an echo; or 0.
 use Prim.Native.Nat.{ℕ, _-_}
 use mathlib.Core.Bool.{Bool, not, _&&_, _||_}
 use mathlib.Core.List.{List, [], _∷_}
@@ -23,7 +23,7 @@ partsOf (Off x polite) = numbers 10 (x .0) (bit polite)
 partsOf (Notice x z) = numbers 11 (x .0) (z .0)
 partsOf (Contact x y) = numbers 12 (x .0) (y .0)
 partsOf (Timer x k) = numbers 13 (x .0) k
-partsOf (Deliver i) = numbers 14 i 0
+partsOf (Deliver i echo) = numbers 14 i (bit echo)
 partsOf (Lose i) = numbers 15 i 0
 
 -- reading a word: "an event reading no event" when refused
@@ -33,7 +33,10 @@ readParts w = if isAccepted (wordAnswer w) then partsOf (eventOf w) else numbers
 -- the event of three numbers, of kind 9 to 15
 unfoldable pub eventOfParts : Parts → Event
 eventOfParts p =
-    getD (On x ∷ Off x (eqb (p .second) 1) ∷ Notice x other ∷ Contact x other ∷ Timer x (p .second) ∷ Deliver (p .first) ∷ []) (p .kind - 9) (Lose (p .first))
+    getD
+    (On x ∷ Off x marked ∷ Notice x other ∷ Contact x other ∷ Timer x (p .second) ∷ Deliver (p .first) marked ∷ [])
+    (p .kind - 9)
+    (Lose (p .first))
   where
     x : NodeNumber
     x = record { 0 = p .first }
@@ -41,9 +44,12 @@ eventOfParts p =
     other : NodeNumber
     other = record { 0 = p .second }
 
--- only notice, contact and timer have a third number, and off: 1 or 0
+    marked : Bool
+    marked = eqb (p .second) 1
+
+-- only notice, contact and timer have a third number, and off and deliver: 1 or 0
 abbrev pub thirdFits : Parts → Bool
-thirdFits p = if eqb (p .kind) 10 then leb (p .second) 1 else between 11 13 (p .kind) || eqb (p .second) 0
+thirdFits p = if eqb (p .kind) 10 || eqb (p .kind) 14 then leb (p .second) 1 else between 11 13 (p .kind) || eqb (p .second) 0
 
 -- the kind is an event's, the third number fits it, and no part is too big
 unfoldable pub partsAre : Parts → Bool

@@ -15,8 +15,8 @@ use word_event::word::EventWord;
 use word_event::write_event;
 use word_ring::mark;
 
-// The kind; the node or the position; the other node, the timer, or 1 for a polite off; 0 where the event has none of
-// them.
+// The kind; the node or the position; the other node, the timer, or 1 for a polite off or an echo; 0 where the event
+// has none of them.
 pub struct Parts {
     pub kind: u32,
     pub first: u32,
@@ -71,7 +71,7 @@ fn of_event(e: Event) -> Parts
         Event::Notice(x, z) => make(EventWord::NOTICE, x.0 as u32, z.0 as u32),
         Event::Contact(x, y) => make(EventWord::CONTACT, x.0 as u32, y.0 as u32),
         Event::Timer(x, k) => make(EventWord::TIMER, x.0 as u32, k as u32),
-        Event::Deliver(i) => make(EventWord::DELIVER, i as u32, 0),
+        Event::Deliver(i, echo) => make(EventWord::DELIVER, i as u32, mark(echo)),
         Event::Lose(i) => make(EventWord::LOSE, i as u32, 0),
     }
 }
@@ -96,7 +96,8 @@ fn fit(p: Parts) -> bool
         EventWord::OFF => (p.second <= 1) & (p.first < 64),
         EventWord::NOTICE | EventWord::CONTACT => (p.first < 64) & (p.second < 64),
         EventWord::TIMER => (p.first < 64) & EventWord::is_timer(p.second),
-        EventWord::DELIVER | EventWord::LOSE => (p.second == 0) & (p.first < EventWord::POSITIONS),
+        EventWord::DELIVER => (p.second <= 1) & (p.first < EventWord::POSITIONS),
+        EventWord::LOSE => (p.second == 0) & (p.first < EventWord::POSITIONS),
         _ => false,
     }
 }
@@ -113,7 +114,7 @@ fn event(p: Parts) -> Event
         EventWord::NOTICE => Event::Notice(NodeNumber(p.first as u8), NodeNumber(p.second as u8)),
         EventWord::CONTACT => Event::Contact(NodeNumber(p.first as u8), NodeNumber(p.second as u8)),
         EventWord::TIMER => Event::Timer(NodeNumber(p.first as u8), p.second as u8),
-        EventWord::DELIVER => Event::Deliver(p.first as u16),
+        EventWord::DELIVER => Event::Deliver(p.first as u16, p.second == 1),
         _ => Event::Lose(p.first as u16),
     }
 }

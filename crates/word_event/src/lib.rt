@@ -22,7 +22,7 @@ fn parts_fit(e: Event) -> bool
         Event::Notice(x, z) => (x.0 < 64) & (z.0 < 64),
         Event::Contact(x, y) => (x.0 < 64) & (y.0 < 64),
         Event::Timer(x, k) => (x.0 < 64) & EventWord::is_timer(k as u32),
-        Event::Deliver(i) => i < POSITIONS,
+        Event::Deliver(i, _) => i < POSITIONS,
         Event::Lose(i) => i < POSITIONS,
     }
 }
@@ -37,7 +37,7 @@ fn same_node(e: Event) -> bool
         Event::Notice(x, z) => x.0 == z.0,
         Event::Contact(x, y) => x.0 == y.0,
         Event::Timer(_, _) => false,
-        Event::Deliver(_) => false,
+        Event::Deliver(_, _) => false,
         Event::Lose(_) => false,
     }
 }

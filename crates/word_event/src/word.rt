@@ -54,7 +54,10 @@ impl EventWord {
             Event::Notice(x, z) => EventWord::of_kind(EventWord::NOTICE, wide(z) * 64 + wide(x)),
             Event::Contact(x, y) => EventWord::of_kind(EventWord::CONTACT, wide(y) * 64 + wide(x)),
             Event::Timer(x, k) => EventWord::of_kind(EventWord::TIMER, (k as u32) * 4096 + wide(x)),
-            Event::Deliver(i) => EventWord::of_kind(EventWord::DELIVER, i as u32),
+            Event::Deliver(i, echo) => EventWord::of_kind(
+                EventWord::DELIVER,
+                mark(echo) * EventWord::POSITIONS + i as u32,
+            ),
             Event::Lose(i) => EventWord::of_kind(EventWord::LOSE, i as u32),
         }
     }
@@ -68,13 +71,14 @@ impl EventWord {
         let polite = self.0 / 4096 % 2 == 1;
         let timer = (self.0 / 4096 % 8) as u8;
         let position = (self.0 % EventWord::POSITIONS) as u16;
+        let echo = self.0 / EventWord::POSITIONS % 2 == 1;
         let kind = self.0 / 0x1000_0000;
         match kind {
             EventWord::OFF => Event::Off(x, polite),
             EventWord::NOTICE => Event::Notice(x, other),
             EventWord::CONTACT => Event::Contact(x, other),
             EventWord::TIMER => Event::Timer(x, timer),
-            EventWord::DELIVER => Event::Deliver(position),
+            EventWord::DELIVER => Event::Deliver(position, echo),
             EventWord::LOSE => Event::Lose(position),
             _ => Event::On(x),
         }

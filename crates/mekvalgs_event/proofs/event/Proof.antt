@@ -7,7 +7,7 @@ use Rattle.mekvalgs_event.proofs.event.Statement.{statement}
 use Rattle.mekvalgs_event.proofs.event.Tie as tie
 
 -- what is left after on to deliver
-is-lose : (c : tie.After-struct-known11) → c .before .before .args .p .kind ≡ 15
+is-lose : (c : tie.After-struct-known12) → c .before .before .args .p .kind ≡ 15
 is-lose c =
     let p = c .before .before .args .p in
     let k : ℕ = p .kind in
@@ -65,8 +65,8 @@ cast-t20 c =
     let p = c .before .before .args .p in
     omega (arith, position-low (p .kind) (p .first) (p .second) (c .before .before .pre) (omega arith))
 
-cast-t21 : tie.Need-cast-t21
-cast-t21 c =
+cast-t22 : tie.Need-cast-t22
+cast-t22 c =
     let p = c .before .before .args .p in
     omega (arith, is-lose c, position-low (p .kind) (p .first) (p .second) (c .before .before .pre) (omega (arith, is-lose c)))
 
@@ -92,7 +92,7 @@ returns-5 c = rw (c .before .before .match .keys5)
 
 returns-6 : tie.Need-returns-6
 unfolding eventOfParts
-returns-6 c = rw (c .before .match .keys6)
+returns-6 c = rw (c .before .before .match .keys6)
 
 returns-7 : tie.Need-returns-7
 unfolding eventOfParts
@@ -111,7 +111,7 @@ event-spec =
     cast-t17
     cast-t19
     cast-t20
-    cast-t21
+    cast-t22
     returns
     returns-2
     returns-3

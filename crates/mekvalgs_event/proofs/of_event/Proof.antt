@@ -20,7 +20,7 @@ returns-5 : tie.Need-returns-5
 returns-5 c = c .make5 .ensures ∙ ap partsOf (sym (c .before .before .before .e5 .given .1))
 
 returns-6 : tie.Need-returns-6
-returns-6 c = c .make6 .ensures ∙ ap partsOf (sym (c .before .before .e6 .given .1))
+returns-6 c = c .make6 .ensures ∙ rw (c .before .mark2 .ensures .0) (ap partsOf (sym (c .before .before .before .e6 .given .1)))
 
 returns-7 : tie.Need-returns-7
 returns-7 c = c .make7 .ensures ∙ ap partsOf (sym (c .before .before .e7 .given .1))
@@ -33,5 +33,5 @@ of-event-spec =
     (λ c κs. search needs) (λ c κs. search needs) (λ c. search needs) (λ c. search needs) (λ c. search needs)
     (λ c κs. search needs) (λ c. search needs) (λ c. search needs) (λ c. search needs) (λ c κs. search needs)
     (λ c. search needs) (λ c. search needs) (λ c. search needs) (λ c κs. search needs) (λ c. search needs)
-    (λ c. search needs) (λ c κs. search needs) (λ c. search needs) (λ c. search needs) (λ c κs. search needs) returns
-    returns-2 returns-3 returns-4 returns-5 returns-6 returns-7)
+    (λ c. search needs) (λ c κs. search needs) (λ c κs. search needs) (λ c. search needs) (λ c. search needs)
+    (λ c κs. search needs) returns returns-2 returns-3 returns-4 returns-5 returns-6 returns-7)

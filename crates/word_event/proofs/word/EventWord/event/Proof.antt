@@ -1,3 +1,4 @@
+-- In each arm the kind is known, and the named bits are remainders and quotients; the default arm is on.
 use mathlib.Core.Path.{_≡_, refl, sym, ap, _∙_}
 use mathlib.Core.List.{[], _∷_}
 use Prim.Native.Nat.{ℕ, suc, _-_, _/_, _%_, _^_, _<_}
@@ -20,7 +21,8 @@ bits-low width w = ap (λ (v : ℕ). v % 2 ^ width) (div-one w)
 event-of-kind : (w k : ℕ) → w / 2 ^ 28 ≡ k → k < 16 → eventOf w
     ≡ getD
     (On (record { 0 = w % 64 }) ∷ Off (record { 0 = w % 64 }) (eqb (w / 4096 % 2) 1) ∷ Notice (record { 0 = w % 64 }) (record { 0 = w / 64 % 64 })
-    ∷ Contact (record { 0 = w % 64 }) (record { 0 = w / 64 % 64 }) ∷ Timer (record { 0 = w % 64 }) (w / 4096 % 8) ∷ Deliver (w % 1024) ∷ [])
+    ∷ Contact (record { 0 = w % 64 }) (record { 0 = w / 64 % 64 }) ∷ Timer (record { 0 = w % 64 }) (w / 4096 % 8) ∷ Deliver (w % 1024) (eqb (w / 1024 % 2) 1)
+    ∷ [])
     (k - 9)
     (Lose (w % 1024))
 unfolding eventOf
@@ -29,32 +31,53 @@ event-of-kind w k e h =
     rw (i, bits-low 6 w, bits-low 10 w)
 
 returns : tie.Need-returns
-returns c = sym (event-of-kind (c .before .before .before .before .before .before .before .args .self .0) 10 (search needs) (lit< tt))
+returns c =
+    let at-polite = c .before .before .before .before in
+    let w : ℕ = at-polite .before .before .before .before .args .self .0 in
+    sym (event-of-kind w 10 (search needs) (lit< tt))
 
 returns-2 : tie.Need-returns-2
-returns-2 c = sym (event-of-kind (c .before .before .before .before .before .before .before .args .self .0) 11 (search needs) (lit< tt))
+returns-2 c =
+    let at-polite = c .before .before .before .before in
+    let w : ℕ = at-polite .before .before .before .before .args .self .0 in
+    sym (event-of-kind w 11 (search needs) (lit< tt))
 
 returns-3 : tie.Need-returns-3
-returns-3 c = sym (event-of-kind (c .before .before .before .before .before .before .before .args .self .0) 12 (search needs) (lit< tt))
+returns-3 c =
+    let at-polite = c .before .before .before .before in
+    let w : ℕ = at-polite .before .before .before .before .args .self .0 in
+    sym (event-of-kind w 12 (search needs) (lit< tt))
 
 returns-4 : tie.Need-returns-4
-returns-4 c = sym (event-of-kind (c .before .before .before .before .before .before .before .args .self .0) 13 (search needs) (lit< tt))
+returns-4 c =
+    let at-polite = c .before .before .before .before in
+    let w : ℕ = at-polite .before .before .before .before .args .self .0 in
+    sym (event-of-kind w 13 (search needs) (lit< tt))
 
 returns-5 : tie.Need-returns-5
-returns-5 c = sym (event-of-kind (c .before .before .before .before .before .before .before .args .self .0) 14 (search needs) (lit< tt))
+returns-5 c =
+    let at-polite = c .before .before .before .before in
+    let w : ℕ = at-polite .before .before .before .before .args .self .0 in
+    sym (event-of-kind w 14 (search needs) (lit< tt))
 
 returns-6 : tie.Need-returns-6
-returns-6 c = sym (event-of-kind (c .before .before .before .before .before .before .before .args .self .0) 15 (search needs) (lit< tt))
+returns-6 c =
+    let at-polite = c .before .before .before .before in
+    let w : ℕ = at-polite .before .before .before .before .args .self .0 in
+    sym (event-of-kind w 15 (search needs) (lit< tt))
 
 returns-7 : tie.Need-returns-7
 returns-7 c =
-    let w : ℕ = c .before .before .before .before .before .before .before .args .self .0 in
+    let at-polite = c .before .before .before .before in
+    let at-x = at-polite .before .before .before in
+    let w : ℕ = at-x .before .args .self .0 in
+    let word = at-x .struct-known .given .0 .fits in
     let others = c .match .rest in
     let low : w / 2 ^ 28 < 10 =
-    except _ 10 (except _ 11 (except _ 12 (except _ 13 (except _ 14 (except _ 15 (high w (c .before .before .before .before .before .before .struct-known .given .0 .fits))
+    except _ 10 (except _ 11 (except _ 12 (except _ 13 (except _ 14 (except _ 15 (high w word)
     (others .1)) (others .0 .1)) (others .0 .0 .1)) (others .0 .0 .0 .1)) (others .0 .0 .0 .0 .1)) (others .0 .0 .0 .0 .0 .1) in
     let on : w / 2 ^ 28 - 9 ≡ 0 = low-kind (w / 2 ^ 28) low in
-    rw (event-of-kind w (w / 2 ^ 28) refl (high w (c .before .before .before .before .before .before .struct-known .given .0 .fits)), on)
+    rw (event-of-kind w (w / 2 ^ 28) refl (high w word), on)
   where
     except : (k n : ℕ) → k < suc n → (k ≡ n → ⊥) → k < n
     except k n h d = omega arith
