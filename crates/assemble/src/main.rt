@@ -27,7 +27,7 @@ struct Spooled {
 fn spool_end(file: i32, reader: Reader, keys: &mut [u32], out: &mut [u8]) -> Spooled
     requires ready { ⌜ ReaderBounded reader × KeysBounded (now keys) × (reader .line + 1 < 2 ^ 64)
         × (length (now out) ≡ 266240) ⌝ }
-    ensures kind { λ r. ⌜ r .reader .command < 12 ⌝ }
+    ensures kind { λ r. ⌜ r .reader .command < 13 ⌝ }
 {
     let last = chunk::close(reader, keys, out);
     let end = last.end;
@@ -41,7 +41,7 @@ fn spool_end(file: i32, reader: Reader, keys: &mut [u32], out: &mut [u8]) -> Spo
 // Reads chunk after chunk, and writes the words of each.
 fn spool_text(file: i32, bytes: &mut [u8], keys: &mut [u32], out: &mut [u8]) -> Spooled
     requires ready { ⌜ KeysBounded (now keys) × (length (now bytes) ≡ 1024) × (length (now out) ≡ 266240) ⌝ }
-    ensures kind { λ r. ⌜ r .reader .command < 12 ⌝ }
+    ensures kind { λ r. ⌜ r .reader .command < 13 ⌝ }
 {
     let mut reader = text_reader::start();
     for _ in 0..MOST {
@@ -100,7 +100,7 @@ fn print(file: i32) -> bool {
 
 // What is wrong with the text.
 fn print_fault(reader: Reader)
-    requires kind { ⌜ reader .command < 12 ⌝ }
+    requires kind { ⌜ reader .command < 13 ⌝ }
 {
     let mut line = [0u8; fault::ROOM];
     let end = fault::put_fault(reader, &mut line);

@@ -41,7 +41,7 @@ isOn (Off x polite) = false
 isOn (Notice x z) = false
 isOn (Contact x y) = false
 isOn (Timer x k) = false
-isOn (Deliver i) = false
+isOn (Deliver i echo) = false
 isOn (Lose i) = false
 
 abbrev pub isOff : Event → Bool
@@ -50,7 +50,7 @@ isOff (Off x polite) = true
 isOff (Notice x z) = false
 isOff (Contact x y) = false
 isOff (Timer x k) = false
-isOff (Deliver i) = false
+isOff (Deliver i echo) = false
 isOff (Lose i) = false
 
 abbrev pub isNotice : Event → Bool
@@ -59,5 +59,5 @@ isNotice (Off x polite) = false
 isNotice (Notice x z) = true
 isNotice (Contact x y) = false
 isNotice (Timer x k) = false
-isNotice (Deliver i) = false
+isNotice (Deliver i echo) = false
 isNotice (Lose i) = false

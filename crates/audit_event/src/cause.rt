@@ -20,7 +20,7 @@ pub fn is_on(e: Event) -> bool
         Event::Notice(_, _) => false,
         Event::Contact(_, _) => false,
         Event::Timer(_, _) => false,
-        Event::Deliver(_) => false,
+        Event::Deliver(_, _) => false,
         Event::Lose(_) => false,
     }
 }
@@ -34,7 +34,7 @@ pub fn is_off(e: Event) -> bool
         Event::Notice(_, _) => false,
         Event::Contact(_, _) => false,
         Event::Timer(_, _) => false,
-        Event::Deliver(_) => false,
+        Event::Deliver(_, _) => false,
         Event::Lose(_) => false,
     }
 }
@@ -48,7 +48,7 @@ pub fn is_notice(e: Event) -> bool
         Event::Notice(_, _) => true,
         Event::Contact(_, _) => false,
         Event::Timer(_, _) => false,
-        Event::Deliver(_) => false,
+        Event::Deliver(_, _) => false,
         Event::Lose(_) => false,
     }
 }
@@ -65,7 +65,7 @@ pub fn is_harmful(word: u32, running: u64) -> bool
         Event::Notice(_, z) => is_member(z, running),
         Event::Contact(_, _) => false,
         Event::Timer(_, _) => false,
-        Event::Deliver(_) => false,
+        Event::Deliver(_, _) => false,
         Event::Lose(_) => false,
     }
 }

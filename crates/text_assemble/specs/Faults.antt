@@ -19,7 +19,7 @@ expectedWord = ascii ": expected "
 abbrev pub expectedText : Expected → List ℕ
 expectedText expected.Opening = ascii "sides, word or tail"
 expectedText expected.Keys = ascii "keys"
-expectedText expected.Event = ascii "on, off, leave, notice, contact, timer, deliver, lose, word or tail"
+expectedText expected.Event = ascii "on, off, leave, notice, contact, timer, deliver, echo, lose, word or tail"
 expectedText expected.NoLine = ascii "nothing after the tail"
 expectedText expected.Side = ascii "a side from 1 to 8"
 expectedText expected.Key = ascii "a key from 0 to 16777215"

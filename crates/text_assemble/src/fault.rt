@@ -17,9 +17,9 @@ pub const ROOM: usize = 128;
 
 // Puts what is expected.
 fn put_expected(expected: Expected, out: &mut [u8], at: usize) -> usize
-    requires room { ⌜ at + 68 ≤ length (now out) ⌝ }
+    requires room { ⌜ at + 74 ≤ length (now out) ⌝ }
     ensures bytes { λ r. ⌜ Put (now (out .entry)) (now (out .exit)) at r (expectedText expected) ⌝ }
-    ensures end { λ r. ⌜ r ≤ at + 68 ⌝ }
+    ensures end { λ r. ⌜ r ≤ at + 74 ⌝ }
 {
     match expected {
         Expected::Opening => put_bytes(out, at, b"sides, word or tail"),
@@ -27,7 +27,7 @@ fn put_expected(expected: Expected, out: &mut [u8], at: usize) -> usize
         Expected::Event => put_bytes(
             out,
             at,
-            b"on, off, leave, notice, contact, timer, deliver, lose, word or tail",
+            b"on, off, leave, notice, contact, timer, deliver, echo, lose, word or tail",
         ),
         Expected::NoLine => put_bytes(out, at, b"nothing after the tail"),
         Expected::Side => put_bytes(out, at, b"a side from 1 to 8"),
@@ -54,7 +54,7 @@ fn fault_line(reader: Reader) -> u64
 
 // Puts the line of the fault at which the reader stopped, at the start of `out`.
 pub fn put_fault(reader: Reader, out: &mut [u8]) -> usize
-    requires room { ⌜ (reader .command < 12) × (128 ≤ length (now out)) ⌝ }
+    requires room { ⌜ (reader .command < 13) × (128 ≤ length (now out)) ⌝ }
     ensures bytes { λ r. ⌜ Put (now (out .entry)) (now (out .exit)) 0 r
         (faultBytes (faultLine reader) (expectedAt reader)) ⌝ }
 {

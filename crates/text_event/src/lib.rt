@@ -4,7 +4,7 @@ ghost use mathlib.Core.List.{[], _∷_, _++_};
 ghost use Prim.Native.Nat.{_+_, _≤_};
 ghost use lib.ListN.{length};
 ghost use Rattle.model.specs.Events.{isEventWord};
-ghost use Rattle.model.specs.declared.event.Event.the-variants.{Off, Timer};
+ghost use Rattle.model.specs.declared.event.Event.the-variants.{Off, Timer, Deliver};
 ghost use Rattle.bench_lines.specs.Decimal.{spaced};
 ghost use Rattle.bench_lines.specs.Put.{Put};
 ghost use Rattle.text_form.specs.Describe.{eventText, rawText, wordText};
@@ -62,7 +62,7 @@ pub fn put_event(out: &mut [u8], at: usize, event: Event) -> usize
         Event::Notice(x, z) => put_two(out, at, b"notice", x, z),
         Event::Contact(x, y) => put_two(out, at, b"contact", x, y),
         Event::Timer(x, k) => put_timer(out, at, x, k),
-        Event::Deliver(i) => put_one(out, at, b"deliver", i),
+        Event::Deliver(i, echo) => put_deliver(out, at, i, echo),
         Event::Lose(i) => put_one(out, at, b"lose", i),
     }
 }
@@ -108,6 +108,18 @@ fn put_off(out: &mut [u8], at: usize, x: NodeNumber, polite: bool) -> usize
         return put_one(out, at, b"leave", x.0 as u16);
     }
     put_one(out, at, b"off", x.0 as u16)
+}
+
+// Puts a delivery, or an echo.
+fn put_deliver(out: &mut [u8], at: usize, position: u16, echo: bool) -> usize
+    requires room { ⌜ at + 40 ≤ length (now out) ⌝ }
+    ensures bytes { λ r. ⌜ Put (now (out .entry)) (now (out .exit)) at r (eventText (Deliver position echo)) ⌝ }
+    ensures end { λ r. ⌜ r ≤ at + 16 ⌝ }
+{
+    if echo {
+        return put_one(out, at, b"echo", position);
+    }
+    put_one(out, at, b"deliver", position)
 }
 
 // Puts timer k of node x.

@@ -24,7 +24,15 @@ ascii (native._∷_ c s) = code c ∷ ascii s
 
 -- `unfolding computed` opens every definition, for what is shown by computing
 unfoldable pub computed : Unit {0}
-unfolding ascii Decimal.decimalIn Decimal.decimal Decimal.spaced Sets.all Words.headWord Words.keyWord Words.inRange Words.keysDiffer Answers.firstOf Events.eventOf Bench.littleEndian Bench.scriptTable Bench.scriptAnswer Describe.eventText Describe.rawText Describe.wordText Describe.wordLines Describe.keysText Describe.openingText Describe.hexBytes Describe.tailText Describe.wordsText Describe.describe Assemble.grown Assemble.packed Assemble.digitOf Assemble.isNumber Assemble.spelledBy Assemble.spelled Assemble.placeOf Assemble.stageAfter Assemble.expectedAt Assemble.pairsOf Assemble.lineGiven Assemble.start Assemble.stopped Assemble.begun Assemble.partRead Assemble.continued Assemble.tokenEnded Assemble.complete Assemble.lineEnded Assemble.commented Assemble.grownBy Assemble.byteRead Assemble.wordBytes Assemble.keyBytes Assemble.tailBytes Assemble.givenBytes Assemble.givenKeys Assemble.advanced Assemble.textRead Assemble.closed Assemble.assemble
+unfolding ascii Decimal.decimalIn Decimal.decimal Decimal.spaced Sets.all Words.headWord Words.keyWord Words.inRange
+    Words.keysDiffer Answers.firstOf Events.eventOf Bench.littleEndian Bench.scriptTable Bench.scriptAnswer
+    Describe.eventText Describe.rawText Describe.wordText Describe.wordLines Describe.keysText Describe.openingText
+    Describe.hexBytes Describe.tailText Describe.wordsText Describe.describe Assemble.grown Assemble.packed
+    Assemble.digitOf Assemble.isNumber Assemble.spelledBy Assemble.spelled Assemble.placeOf Assemble.stageAfter
+    Assemble.expectedAt Assemble.pairsOf Assemble.lineGiven Assemble.start Assemble.stopped Assemble.begun
+    Assemble.partRead Assemble.continued Assemble.tokenEnded Assemble.complete Assemble.lineEnded Assemble.commented
+    Assemble.grownBy Assemble.byteRead Assemble.wordBytes Assemble.keyBytes Assemble.tailBytes Assemble.givenBytes
+    Assemble.givenKeys Assemble.advanced Assemble.textRead Assemble.closed Assemble.assemble
 computed = tt
 
 -- ---- a text: its script, or its fault by the line and what was expected there
@@ -72,6 +80,7 @@ record Scripts : Type 0 where
   node-off : outcome "sides 1 1\nkeys 1\noff 2" ≡ script (0x10400011 ∷ 0x20000001 ∷ 0xA0000002 ∷ [])
   polite : outcome "sides 1 1\nkeys 1\nleave 2" ≡ script (0x10400011 ∷ 0x20000001 ∷ 0xA0001002 ∷ [])
   told : outcome "sides 1 1\nkeys 1\nnotice 2 3" ≡ script (0x10400011 ∷ 0x20000001 ∷ 0xB00000C2 ∷ [])
+  echoed : outcome "sides 1 1\nkeys 1\necho 1023" ≡ script (0x10400011 ∷ 0x20000001 ∷ 0xE00007FF ∷ [])
   timed : outcome "sides 1 1\nkeys 1\ntimer 3 at 2" ≡ script (0x10400011 ∷ 0x20000001 ∷ 0xD0003002 ∷ [])
   -- digits in either case, leading zeros, no opening
   either-case : outcome "word aBcDeF09\nword 0000000f" ≡ script (0xABCDEF09 ∷ 0x0000000F ∷ [])
@@ -96,6 +105,7 @@ scripts =
       node-off = refl;
       polite = refl;
       told = refl;
+      echoed = refl;
       timed = refl;
       either-case = refl;
       zeros = refl;
@@ -114,6 +124,8 @@ record Faults : Type 0 where
   timer-5 : outcome "sides 1 1\nkeys 1\ntimer 5 at 2" ≡ fault 3 expected.Timer
   timer-no-at : outcome "sides 1 1\nkeys 1\ntimer 2 2" ≡ fault 3 expected.At
   position-1024 : outcome "sides 1 1\nkeys 1\ndeliver 1024" ≡ fault 3 expected.Position
+  echo-1024 : outcome "sides 1 1\nkeys 1\necho 1024" ≡ fault 3 expected.Position
+  echo-two : outcome "sides 1 1\nkeys 1\necho 1 2" ≡ fault 3 expected.LineEnd
   lose-first : outcome "lose 0" ≡ fault 1 expected.Opening
   too-early : outcome "\non 0\n" ≡ fault 2 expected.Opening
   keys-first : outcome "keys 1" ≡ fault 1 expected.Opening
@@ -153,6 +165,8 @@ faults =
       timer-5 = refl;
       timer-no-at = refl;
       position-1024 = refl;
+      echo-1024 = refl;
+      echo-two = refl;
       lose-first = refl;
       too-early = refl;
       keys-first = refl;
@@ -213,8 +227,8 @@ nine = 0x10400091 ∷ 0x20000001 ∷ 0x20000002 ∷ 0x20000003 ∷ 0x20000004 �
 
 record Texts : Type 0 where
   opens-a-ring :
-      textOf (opening ++ 0x90000000 ∷ 0xA0000001 ∷ 0xC0000040 ∷ 0xB00000C2 ∷ 0xE0000000 ∷ 0xF0000011 ∷ []) []
-      ≡ ascii "sides 1 1\nkeys 10 20 30\non 0\noff 1\ncontact 0 1\nnotice 2 3\ndeliver 0\nlose 17\n"
+      textOf (opening ++ 0x90000000 ∷ 0xA0000001 ∷ 0xC0000040 ∷ 0xB00000C2 ∷ 0xE0000000 ∷ 0xE0000403 ∷ 0xF0000011 ∷ []) []
+      ≡ ascii "sides 1 1\nkeys 10 20 30\non 0\noff 1\ncontact 0 1\nnotice 2 3\ndeliver 0\necho 3\nlose 17\n"
   two-sides : textOf (0x10C00012 ∷ 0x20000100 ∷ []) [] ≡ ascii "sides 2 3\nkeys 256\n"
   eight-to-a-line : textOf nine [] ≡ ascii "sides 1 1\nkeys 1 2 3 4 5 6 7 8\nkeys 9\n"
   timed : textOf (opening ++ 0xD0003002 ∷ []) [] ≡ ascii "sides 1 1\nkeys 10 20 30\ntimer 3 at 2\n"

@@ -21,7 +21,8 @@ use Rattle.text_form.specs.declared.Stage.the-variants as stage
 use Rattle.text_form.specs.declared.Expected.the-variants as expected
 use Rattle.text_form.specs.declared.Given.{Given}
 use Rattle.text_form.specs.declared.Given.the-variants as given
-use Rattle.text_form.specs.Names.{sidesName, keysName, onName, offName, leaveName, noticeName, contactName, timerName, atName, deliverName, loseName, wordName, tailName}
+use Rattle.text_form.specs.Names.{sidesName, keysName, onName, offName, leaveName, noticeName, contactName}
+use Rattle.text_form.specs.Names.{timerName, atName, deliverName, echoName, loseName, wordName, tailName}
 use Rattle.text_form.specs.Assemble.{Progress, grown, packed, parts, placeOf, allowed, isLater, stageAfter, opens, commandOf, noNumber, expectedAt, valueOf, fits, lineGiven, givenBytes, givenKeys, wordBytes, textRead}
 use Rattle.text_form.specs.Describe.{eventText, rawText}
 use Rattle.text_form.proofs.Tokens.{Plain, Spells, Written, decimal-written, digits-spell, digits-written, spelled-is, token-there}
@@ -62,9 +63,10 @@ pub record AllNamed : Type 0 where
   pub contact-is : Named contactName 6
   pub timer-is : Named timerName 7
   pub deliver-is : Named deliverName 8
-  pub lose-is : Named loseName 9
-  pub word-is : Named wordName 10
-  pub tail-is : Named tailName 11
+  pub echo-is : Named echoName 9
+  pub lose-is : Named loseName 10
+  pub word-is : Named wordName 11
+  pub tail-is : Named tailName 12
 
 pub named : AllNamed
 unfolding packed grown placeOf isPlain
@@ -79,6 +81,7 @@ named =
       contact-is = record { plain = all-plain contactName refl; there = refl; is = refl };
       timer-is = record { plain = all-plain timerName refl; there = refl; is = refl };
       deliver-is = record { plain = all-plain deliverName refl; there = refl; is = refl };
+      echo-is = record { plain = all-plain echoName refl; there = refl; is = refl };
       lose-is = record { plain = all-plain loseName refl; there = refl; is = refl };
       word-is = record { plain = all-plain wordName refl; there = refl; is = refl };
       tail-is = record { plain = all-plain tailName refl; there = refl; is = refl };
@@ -213,11 +216,11 @@ module _ (line : ℕ) (s : Stage) (c f : ℕ) (sides : Sides) (keys script : Lis
   given-by {text} {d} {w} first h e l = record { command = d; first = first; leads = rw (e, opened-is s d sides keys h) at l }
 
   -- any word
-  pub raw-line : (w : ℕ) → w < 2 ^ 32 → allowed s (length keys) 10 ≡ true → Gives (rawText w ++ newline ∷ []) w
+  pub raw-line : (w : ℕ) → w < 2 ^ 32 → allowed s (length keys) 11 ≡ true → Gives (rawText w ++ newline ∷ []) w
   unfolding rawText stageAfter expectedAt lineGiven givenKeys
   raw-line w h ok =
       let r = digits-written 8 w (lit≤ tt) (lit≤ tt) h in
-      given-by {d = 10} {w = w} w refl refl
+      given-by {d = 11} {w = w} w refl refl
       (one-part line s c f sides keys script (named .word-is) ok refl (digits 16 8 w) w (given.Word w) (r .plain) (word-suits (digits 16 8 w) w r (digits-spell 8 w (lit≤ tt) h) h) refl refl refl)
 
   module _ (ok : Later s) where
@@ -277,10 +280,14 @@ module _ (line : ℕ) (s : Stage) (c f : ℕ) (sides : Sides) (keys script : Lis
         given-by {d = 7} {w = wordOf (Timer x k)} k refl refl
         (rw (← one-more (x .0), ← one-more k)
         (three-parts line s c f sides keys script (named .timer-is) (later-allowed ok (length keys) 7 refl) refl (decimal k) atName (decimal (x .0)) k 0 (x .0) (given.Word (wordOf (Timer x k))) (v .plain) (all-plain atName at-plain) (w .plain) (timer-suits v i) at-suits (node-suits w h) refl refl refl))
-    event-line (Deliver i) t =
+    event-line (Deliver i false) t =
         let h : i < 1024 = ltb-true i 1024 t in
         let w = small i h in
-        one-number (named .deliver-is) i (wordOf (Deliver i)) refl refl w (position-suits w h) refl refl
+        one-number (named .deliver-is) i (wordOf (Deliver i false)) refl refl w (position-suits w h) refl refl
+    event-line (Deliver i true) t =
+        let h : i < 1024 = ltb-true i 1024 t in
+        let w = small i h in
+        one-number (named .echo-is) i (wordOf (Deliver i true)) refl refl w (position-suits w h) refl refl
     event-line (Lose i) t =
         let h : i < 1024 = ltb-true i 1024 t in
         let w = small i h in

@@ -61,7 +61,7 @@ gives-stands line c f s sides keys script text w e g is =
 WordLine : (Stage → Type 0) → (ℕ → List ℕ) → Type 0
 WordLine ok text = (w : ℕ) → Word w → (bytes : List ℕ) (p : Progress) → Stands ok bytes p → Stands ok (bytes ++ wordBytes w) (textRead p (text w ++ newline ∷ []))
 
-free-allowed : {s : Stage} → Free s → (n : ℕ) → (allowed s n 10 ≡ true) × (allowed s n 11 ≡ true)
+free-allowed : {s : Stage} → Free s → (n : ℕ) → (allowed s n 11 ≡ true) × (allowed s n 12 ≡ true)
 free-allowed free-start n = (refl, refl)
 free-allowed free-events n = (refl, refl)
 
@@ -77,7 +77,7 @@ word-gives line c f s sides keys script w h l =
     (λ e. rw e
     (subst (Gives line s c f sides keys script (eventText (eventOf w) ++ newline ∷ [])) (sym (eqb-true w (wordOf (eventOf w)) (and-left _ _ e)))
     (event-line line s c f sides keys script l (eventOf w) (and-right (eqb w (wordOf (eventOf w))) _ e))))
-    (λ e. rw e (raw-line line s c f sides keys script w h (later-allowed l (length keys) 10 refl)))
+    (λ e. rw e (raw-line line s c f sides keys script w h (later-allowed l (length keys) 11 refl)))
 
 word-stands : WordLine Later wordText
 unfolding WordLine
@@ -105,7 +105,7 @@ closed-later after-events = closes-events
 -- stages in which a tail may stand, and a text may end
 record Tailed (ok : Stage → Type 0) : Type 1 where
   closes : {s : Stage} → ok s → Closes s
-  tail-allowed : {s : Stage} → ok s → (n : ℕ) → allowed s n 11 ≡ true
+  tail-allowed : {s : Stage} → ok s → (n : ℕ) → allowed s n 12 ≡ true
 
 tail-token : (b : ℕ) (bs : List ℕ) → length (b ∷ bs) < 4 → Each Byte (b ∷ bs) → (k : ℕ) × (v : ℕ) × Token (b ∷ bs) k v
 tail-token a [] h (cons ha nil) = (1, _, token-1 a ha)
@@ -120,7 +120,7 @@ tail-stands t [] h e bytes p (stands line c f s sides keys script o is) = stands
 tail-stands t (b ∷ bs) h e bytes p (stands line c f s sides keys script o is) =
     let g = tail-token b bs h e in
     rw (tail-line line s c f sides keys script (t .tail-allowed o (length keys)) b bs (g .0) (g .1) (g .2) .is)
-    (stands (line + 1) 11 (g .1) stage.End sides keys _ closes-end (append-nil _ ∙ ap (λ (l : List ℕ). l ++ b ∷ bs) is))
+    (stands (line + 1) 12 (g .1) stage.End sides keys _ closes-end (append-nil _ ∙ ap (λ (l : List ℕ). l ++ b ∷ bs) is))
 
 -- ---- the end
 
@@ -187,7 +187,7 @@ free-tailed : Tailed Free
 free-tailed = record { closes = closed-free; tail-allowed = λ o n. free-allowed o n .1 }
 
 later-tailed : Tailed Later
-later-tailed = record { closes = closed-later; tail-allowed = λ o n. later-allowed o n 11 refl }
+later-tailed = record { closes = closed-later; tail-allowed = λ o n. later-allowed o n 12 refl }
 
 words-stand : (ws : List ℕ) → Each Word ws → (cs : List ℕ) → length cs < 4 → Each Byte cs → Stands Closes (wordsBytes ws ++ cs) (textRead first (wordsText ws ++ tailText cs))
 unfolding wordsText

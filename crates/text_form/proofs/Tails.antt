@@ -97,10 +97,11 @@ module _ (a : ℕ) (ha : a < 256) where
 
 -- ---- the line
 
-module _ (line : ℕ) (s : Stage) (c f : ℕ) (sides : Sides) (keys script : List ℕ) (ok : allowed s (length keys) 11 ≡ true) where
+module _ (line : ℕ) (s : Stage) (c f : ℕ) (sides : Sides) (keys script : List ℕ) (ok : allowed s (length keys) 12 ≡ true) where
   pub tail-line : (b : ℕ) (bs : List ℕ) (k v : ℕ) → Token (b ∷ bs) k v
-      → Leads (state line 0 s c 0 f sides keys script) (tailText (b ∷ bs)) (state (line + 1) 0 stage.End 11 0 v sides keys (script ++ unopened s sides keys ++ b ∷ bs))
+      → Leads (state line 0 s c 0 f sides keys script) (tailText (b ∷ bs))
+      (state (line + 1) 0 stage.End 12 0 v sides keys (script ++ unopened s sides keys ++ b ∷ bs))
   unfolding tailText stageAfter expectedAt lineGiven givenKeys givenBytes
   tail-line b bs k v t =
-      rw (opened-is s 11 sides keys refl, t .bytes) at
+      rw (opened-is s 12 sides keys refl, t .bytes) at
       (one-part line s c f sides keys script (named .tail-is) ok refl (hexBytes (b ∷ bs)) v (given.Tail k v) (hex-plain (b ∷ bs)) (t .suits) refl (ap (λ (j : ℕ). given.Tail j v) (t .pairs)) refl)

@@ -19,7 +19,8 @@ use Rattle.text_form.specs.declared.Given.{Given}
 use Rattle.text_form.specs.declared.Given.the-variants as given
 use Rattle.text_form.specs.declared.Reader.{Reader}
 use Rattle.text_form.specs.declared.Step.{Step}
-use Rattle.text_form.specs.Names.{sidesName, keysName, onName, offName, leaveName, noticeName, contactName, timerName, atName, deliverName, loseName, wordName, tailName}
+use Rattle.text_form.specs.Names.{sidesName, keysName, onName, offName, leaveName, noticeName, contactName}
+use Rattle.text_form.specs.Names.{timerName, atName, deliverName, echoName, loseName, wordName, tailName}
 
 -- ---- tokens
 
@@ -68,7 +69,8 @@ spelled base t = if isNumber base 8 t then spelledBy base 8 t else noNumber
 -- the first words of lines; a line is known by the place of its own in this list
 abbrev pub names : List (List ℕ)
 names =
-    sidesName ∷ keysName ∷ onName ∷ offName ∷ leaveName ∷ noticeName ∷ contactName ∷ timerName ∷ deliverName ∷ loseName ∷ wordName ∷ tailName ∷ []
+    sidesName ∷ keysName ∷ onName ∷ offName ∷ leaveName ∷ noticeName ∷ contactName ∷ timerName ∷ deliverName ∷ echoName ∷ loseName ∷ wordName
+    ∷ tailName ∷ []
 
 -- the place of the name that the token is, from place c on; the length of the list, where it is none
 unfoldable pub placeOf : ℕ → List (List ℕ) → ℕ → ℕ
@@ -92,26 +94,27 @@ parts c =
     ∷ (expected.Timer ∷ expected.At ∷ expected.Node ∷ [])
     ∷ (expected.Position ∷ [])
     ∷ (expected.Position ∷ [])
+    ∷ (expected.Position ∷ [])
     ∷ (expected.Word ∷ [])
     ∷ (expected.Tail ∷ [])
     ∷ [])
     c
     []
 
--- on, off, leave, notice, contact, timer, deliver, lose, word and tail may stand after the opening
+-- on, off, leave, notice, contact, timer, deliver, echo, lose, word and tail may stand after the opening
 abbrev pub isLater : ℕ → Bool
-isLater c = leb 2 c && leb c 11
+isLater c = leb 2 c && leb c 12
 
 -- `sides` first, then `keys`, and more of them up to 64 keys; or `word` or `tail` at once. Nothing after `tail`
 abbrev pub allowed : Stage → ℕ → ℕ → Bool
-allowed stage.Start keys c = eqb c 0 || leb 10 c && leb c 11
+allowed stage.Start keys c = eqb c 0 || leb 11 c && leb c 12
 allowed stage.Sides keys c = eqb c 1
 allowed stage.Keys keys c = eqb c 1 && ltb keys 64 || isLater c
 allowed stage.Events keys c = isLater c
 allowed stage.End keys c = false
 
 unfoldable pub stageAfter : ℕ → Stage
-stageAfter c = if eqb c 0 then stage.Sides else if eqb c 1 then stage.Keys else if eqb c 11 then stage.End else stage.Events
+stageAfter c = if eqb c 0 then stage.Sides else if eqb c 1 then stage.Keys else if eqb c 12 then stage.End else stage.Events
 
 -- the words of the opening come once it is known how many keys there are: with the first later line
 abbrev pub opens : Stage → ℕ → Bool
@@ -186,7 +189,8 @@ eventGiven c a b =
     ∷ event.Notice (record { 0 = a }) (record { 0 = b })
     ∷ event.Contact (record { 0 = a }) (record { 0 = b })
     ∷ event.Timer (record { 0 = b }) a
-    ∷ event.Deliver b
+    ∷ event.Deliver b false
+    ∷ event.Deliver b true
     ∷ [])
     (c - 2)
     (event.Lose b))
@@ -196,8 +200,8 @@ unfoldable pub lineGiven : ℕ → ℕ → ℕ → ℕ → Given
 lineGiven c a b t =
     if eqb c 0 then given.Nothing
     else if eqb c 1 then given.Key b
-    else if eqb c 10 then given.Word b
-    else if eqb c 11 then given.Tail (pairsOf t) b
+    else if eqb c 11 then given.Word b
+    else if eqb c 12 then given.Tail (pairsOf t) b
     else given.Word (eventGiven c a b)
 
 -- ---- a reader

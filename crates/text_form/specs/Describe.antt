@@ -13,7 +13,8 @@ use Rattle.model.specs.Events.{eventOf, isEventWord}
 use Rattle.model.specs.Bench.{littleEndian, scriptTable, scriptAnswer}
 use Rattle.model.specs.declared.event.Event.{Event}
 use Rattle.model.specs.declared.event.Event.the-variants.{On, Off, Notice, Contact, Timer, Deliver, Lose}
-use Rattle.text_form.specs.Names.{sidesName, keysName, onName, offName, leaveName, noticeName, contactName, timerName, atName, deliverName, loseName, wordName, tailName}
+use Rattle.text_form.specs.Names.{sidesName, keysName, onName, offName, leaveName, noticeName, contactName}
+use Rattle.text_form.specs.Names.{timerName, atName, deliverName, echoName, loseName, wordName, tailName}
 
 -- an event
 unfoldable pub eventText : Event → List ℕ
@@ -23,7 +24,8 @@ eventText (Off x true) = leaveName ++ spaced (x .0 ∷ [])
 eventText (Notice x z) = noticeName ++ spaced (x .0 ∷ z .0 ∷ [])
 eventText (Contact x y) = contactName ++ spaced (x .0 ∷ y .0 ∷ [])
 eventText (Timer x k) = timerName ++ spaced (k ∷ []) ++ space ∷ atName ++ spaced (x .0 ∷ [])
-eventText (Deliver i) = deliverName ++ spaced (i ∷ [])
+eventText (Deliver i false) = deliverName ++ spaced (i ∷ [])
+eventText (Deliver i true) = echoName ++ spaced (i ∷ [])
 eventText (Lose i) = loseName ++ spaced (i ∷ [])
 
 -- any word, in eight hexadecimal digits

@@ -33,6 +33,9 @@ atName = ascii "at"
 abbrev pub deliverName : List ℕ
 deliverName = ascii "deliver"
 
+abbrev pub echoName : List ℕ
+echoName = ascii "echo"
+
 abbrev pub loseName : List ℕ
 loseName = ascii "lose"
 

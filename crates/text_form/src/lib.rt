@@ -21,13 +21,15 @@ pub mod command {
 
     pub const DELIVER: u8 = 8;
 
-    pub const LOSE: u8 = 9;
+    pub const ECHO: u8 = 9;
 
-    pub const WORD: u8 = 10;
+    pub const LOSE: u8 = 10;
 
-    pub const TAIL: u8 = 11;
+    pub const WORD: u8 = 11;
 
-    pub const UNKNOWN: u8 = 12;
+    pub const TAIL: u8 = 12;
+
+    pub const UNKNOWN: u8 = 13;
 }
 
 // What came before the line: nothing, the sides, some keys, the whole opening, or the tail.

@@ -60,20 +60,20 @@ below-limit Word t h = ltb-true _ _ (and-right (leb (2 ^ 56) t) _ h)
 below-limit Tail t h = ltb-true _ _ (and-right (not (eqb (pairsOf t) 0)) (ltb (spelled 16 t) (2 ^ 32)) h)
 below-limit LineEnd t h = clash h refl
 
-limit-of-part : (c p : ℕ) → c < 12 → p < 4 → limit (getD (parts c) p LineEnd) ≤ bound c
+limit-of-part : (c p : ℕ) → c < 13 → p < 4 → limit (getD (parts c) p LineEnd) ≤ bound c
 unfolding all limit
 limit-of-part c p hc hp =
     leb-true _ _
     (all-out 4 (λ q. leb (limit (getD (parts c) q LineEnd)) (bound c))
-    (all-out 12 (λ k. all 4 (λ q. leb (limit (getD (parts k) q LineEnd)) (bound k))) refl c hc) p hp)
+    (all-out 13 (λ k. all 4 (λ q. leb (limit (getD (parts k) q LineEnd)) (bound k))) refl c hc) p hp)
 
-bound-small : (c : ℕ) → c < 12 → bound c ≤ 2 ^ 32
+bound-small : (c : ℕ) → c < 13 → bound c ≤ 2 ^ 32
 unfolding all
-bound-small c h = leb-true _ _ (all-out 12 (λ k. leb (bound k) (2 ^ 32)) refl c h)
+bound-small c h = leb-true _ _ (all-out 13 (λ k. leb (bound k) (2 ^ 32)) refl c h)
 
-few-parts : (c : ℕ) → c < 12 → length (parts c) ≤ 3
+few-parts : (c : ℕ) → c < 13 → length (parts c) ≤ 3
 unfolding all
-few-parts c h = leb-true _ _ (all-out 12 (λ k. leb (length (parts k)) 3) refl c h)
+few-parts c h = leb-true _ _ (all-out 13 (λ k. leb (length (parts k)) 3) refl c h)
 
 -- notice, contact and timer have more than one
 two-parts : (c : ℕ) → 5 ≤ c → c ≤ 7 → 2 ≤ length (parts c)
@@ -182,14 +182,14 @@ stops : (r : Reader) → ReaderBounded r → StepBounded (r .line) r (silent (st
 unfolding stopped
 stops r b = silent-bounded (r .line) r (stopped r) (stopped-bounded r b) (omega arith) refl
 
-allowed-known : (s : Stage) (k c : ℕ) → allowed s k c ≡ true → c < 12
+allowed-known : (s : Stage) (k c : ℕ) → allowed s k c ≡ true → c < 13
 allowed-known stage.Start k c h =
-    or-case (eqb c 0) (leb 10 c && leb c 11) h (λ e. let z = eqb-true c 0 e in omega arith) (λ e. let w = within 10 11 c e in omega arith)
+    or-case (eqb c 0) (leb 11 c && leb c 12) h (λ e. let z = eqb-true c 0 e in omega arith) (λ e. let w = within 11 12 c e in omega arith)
 allowed-known stage.Sides k c h = let z = eqb-true c 1 h in omega arith
 allowed-known stage.Keys k c h =
     or-case (eqb c 1 && ltb k 64) (isLater c) h (λ e. let z = eqb-true c 1 (and-left (eqb c 1) (ltb k 64) e) in omega arith)
-    (λ e. let w = within 2 11 c e in omega arith)
-allowed-known stage.Events k c h = let w = within 2 11 c h in omega arith
+    (λ e. let w = within 2 12 c e in omega arith)
+allowed-known stage.Events k c h = let w = within 2 12 c h in omega arith
 allowed-known stage.End k c h = clash h refl
 
 -- the opening, or nothing
@@ -230,8 +230,8 @@ unfolding lineGiven
 line-law P c a v t none key word tail =
     if-law P (eqb c 0) given.Nothing _ (λ e. none)
     (λ e. if-law P (eqb c 1) (given.Key v) _ (λ f. key (eqb-true c 1 f))
-    (λ f. if-law P (eqb c 10) (given.Word v) _ (λ g. word v (eqb-false c 1 f))
-    (λ g. if-law P (eqb c 11) (given.Tail (pairsOf t) v) (given.Word (eventGiven c a v)) (λ h. tail (eqb-false c 1 f))
+    (λ f. if-law P (eqb c 11) (given.Word v) _ (λ g. word v (eqb-false c 1 f))
+    (λ g. if-law P (eqb c 12) (given.Tail (pairsOf t) v) (given.Word (eventGiven c a v)) (λ h. tail (eqb-false c 1 f))
     (λ h. word (eventGiven c a v) (eqb-false c 1 f)))))
 
 one-key : (p a v t k : ℕ) → 1 ≤ p → k + 1 ≡ k + length (givenKeys (if leb 1 p then lineGiven 1 a v t else given.Nothing))

@@ -13,10 +13,10 @@ use Rattle.text_form.specs.declared.Expected.{Expected}
 use Rattle.text_form.specs.declared.Expected.the-variants.{LineEnd}
 
 -- each kind's number of parts
-pub arities : (c : ℕ) → c < 12 → getD (2 ∷ 1 ∷ 1 ∷ 1 ∷ 1 ∷ 2 ∷ 2 ∷ 3 ∷ 1 ∷ 1 ∷ 1 ∷ 1 ∷ []) c 0 ≡ length (parts c)
+pub arities : (c : ℕ) → c < 13 → getD (2 ∷ 1 ∷ 1 ∷ 1 ∷ 1 ∷ 2 ∷ 2 ∷ 3 ∷ 1 ∷ 1 ∷ 1 ∷ 1 ∷ 1 ∷ []) c 0 ≡ length (parts c)
 unfolding all
 arities c h =
-    eqb-true _ _ (all-out 12 (λ k. eqb (getD (2 ∷ 1 ∷ 1 ∷ 1 ∷ 1 ∷ 2 ∷ 2 ∷ 3 ∷ 1 ∷ 1 ∷ 1 ∷ 1 ∷ []) k 0) (length (parts k))) refl c h)
+    eqb-true _ _ (all-out 13 (λ k. eqb (getD (2 ∷ 1 ∷ 1 ∷ 1 ∷ 1 ∷ 2 ∷ 2 ∷ 3 ∷ 1 ∷ 1 ∷ 1 ∷ 1 ∷ 1 ∷ []) k 0) (length (parts k))) refl c h)
 
 only : (e : Expected) (p : ℕ) → 1 ≤ p → p ≤ 1 → e ≡ getD (e ∷ []) (p - 1) LineEnd
 only e zero l h = absurd (omega arith)

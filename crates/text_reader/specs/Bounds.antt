@@ -13,7 +13,7 @@ use Rattle.text_form.specs.declared.Reader.{Reader}
 
 -- each number that a line of kind c holds is below this
 abbrev pub bound : ℕ → ℕ
-bound c = getD (9 ∷ 2 ^ 24 ∷ 64 ∷ 64 ∷ 64 ∷ 64 ∷ 64 ∷ 64 ∷ 1024 ∷ 1024 ∷ 2 ^ 32 ∷ 2 ^ 32 ∷ []) c 0
+bound c = getD (9 ∷ 2 ^ 24 ∷ 64 ∷ 64 ∷ 64 ∷ 64 ∷ 64 ∷ 64 ∷ 1024 ∷ 1024 ∷ 1024 ∷ 2 ^ 32 ∷ 2 ^ 32 ∷ []) c 0
 
 -- the numbers of a line with all its parts: a is the first of two or three, b the last
 pub record PartsBounded (c a b : ℕ) : Type 0 where
@@ -21,7 +21,7 @@ pub record PartsBounded (c a b : ℕ) : Type 0 where
   pub first : 5 ≤ c → c ≤ 7 → a < bound c
 
 pub record ReaderBounded (r : Reader) : Type 0 where
-  pub command : r .command < 12
+  pub command : r .command < 13
   pub place : r .place ≤ 4
   pub first : 2 ≤ r .place → r .first < bound (r .command)
   pub sides : RoomSides (r .sides)

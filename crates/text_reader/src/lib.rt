@@ -78,7 +78,7 @@ fn silent(reader: Reader) -> Step
 
 // What is expected next: a line, a part of one, or its end.
 pub fn expected(reader: Reader) -> Expected
-    requires kind { ⌜ reader .command < 12 ⌝ }
+    requires kind { ⌜ reader .command < 13 ⌝ }
     ensures value { λ r. ⌜ r ≡ form.expectedAt reader ⌝ }
 {
     if reader.place == 0 {
@@ -231,14 +231,14 @@ fn token_ended(reader: Reader) -> Step
 
 // Whether the line may end here.
 fn complete(reader: Reader) -> bool
-    requires kind { ⌜ reader .command < 12 ⌝ }
+    requires kind { ⌜ reader .command < 13 ⌝ }
     ensures value { λ r. ⌜ r ≡ form.complete reader ⌝ }
 {
     (reader.place == 0) | (line::arity(reader.command) < reader.place)
 }
 
 fn line_ended(mut reader: Reader) -> Reader
-    requires bounds { ⌜ (reader .command < 12) × (reader .line + 1 < 2 ^ 64) ⌝ }
+    requires bounds { ⌜ (reader .command < 13) × (reader .line + 1 < 2 ^ 64) ⌝ }
     ensures value { λ r. ⌜ r ≡ form.lineEnded reader ⌝ }
 {
     if reader.fault {

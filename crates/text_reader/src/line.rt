@@ -15,7 +15,7 @@ use text_form::command;
 use word_event::word::EventWord;
 use word_ring::limit;
 
-const ARITIES: [u8; 12] = [2, 1, 1, 1, 1, 2, 2, 3, 1, 1, 1, 1];
+const ARITIES: [u8; 13] = [2, 1, 1, 1, 1, 2, 2, 3, 1, 1, 1, 1, 1];
 
 // The most keys of an opening: one for each node.
 pub const KEYS: u8 = NodeNumber::NONE.0;
@@ -93,7 +93,7 @@ pub fn expected(stage: Stage) -> Expected
 
 // How many parts a line of this kind has; the keys of one count as a single part.
 pub fn arity(kind: u8) -> u8
-    requires kind { ⌜ kind < 12 ⌝ }
+    requires kind { ⌜ kind < 13 ⌝ }
     ensures value { λ r. ⌜ r ≡ length (form.parts kind) ⌝ }
 {
     ARITIES[kind as usize]
@@ -101,7 +101,7 @@ pub fn arity(kind: u8) -> u8
 
 // The part at a place of a line, from 1.
 pub fn part(kind: u8, place: u8) -> Expected
-    requires place { ⌜ (kind < 12) × (1 ≤ place) ⌝ }
+    requires place { ⌜ (kind < 13) × (1 ≤ place) ⌝ }
     ensures value { λ r. ⌜ r ≡ getD (form.parts kind) (place - 1) Expected.LineEnd ⌝ }
 {
     if arity(kind) < place {
@@ -117,6 +117,7 @@ pub fn part(kind: u8, place: u8) -> Expected
         command::CONTACT => Expected::Node,
         command::TIMER => timer_part(place),
         command::DELIVER => Expected::Position,
+        command::ECHO => Expected::Position,
         command::LOSE => Expected::Position,
         command::WORD => Expected::Word,
         _ => Expected::Tail,
@@ -189,7 +190,7 @@ pub fn fits(expected: Expected, token: u64, value: u64) -> bool
 
 // The event of a line.
 fn event(kind: u8, first: u32, last: u32) -> Event
-    requires kind { ⌜ (2 ≤ kind) × (kind < 10) ⌝ }
+    requires kind { ⌜ (2 ≤ kind) × (kind < 11) ⌝ }
     requires parts { ⌜ PartsBounded kind first last ⌝ }
     ensures value { λ r. ⌜ wordOf r ≡ form.eventGiven kind first last ⌝ }
 {
@@ -200,14 +201,15 @@ fn event(kind: u8, first: u32, last: u32) -> Event
         command::NOTICE => Event::Notice(NodeNumber(first as u8), NodeNumber(last as u8)),
         command::CONTACT => Event::Contact(NodeNumber(first as u8), NodeNumber(last as u8)),
         command::TIMER => Event::Timer(NodeNumber(last as u8), first as u8),
-        command::DELIVER => Event::Deliver(last as u16),
+        command::DELIVER => Event::Deliver(last as u16, false),
+        command::ECHO => Event::Deliver(last as u16, true),
         _ => Event::Lose(last as u16),
     }
 }
 
 // What a line gives with its last part.
 pub fn given(kind: u8, first: u32, last: u32, token: u64) -> Given
-    requires parts { ⌜ (kind < 12) × PartsBounded kind first last ⌝ }
+    requires parts { ⌜ (kind < 13) × PartsBounded kind first last ⌝ }
     ensures value { λ r. ⌜ r ≡ form.lineGiven kind first last token ⌝ }
 {
     match kind {

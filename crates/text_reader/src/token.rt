@@ -31,6 +31,8 @@ mod name {
 
     pub const DELIVER: u64 = 0x64_656C_6976_6572;
 
+    pub const ECHO: u64 = 0x6563_686F;
+
     pub const LOSE: u64 = 0x6C6F_7365;
 
     pub const WORD: u64 = 0x776F_7264;
@@ -102,6 +104,7 @@ pub fn command_of(token: u64) -> u8
         name::CONTACT => command::CONTACT,
         name::TIMER => command::TIMER,
         name::DELIVER => command::DELIVER,
+        name::ECHO => command::ECHO,
         name::LOSE => command::LOSE,
         name::WORD => command::WORD,
         name::TAIL => command::TAIL,

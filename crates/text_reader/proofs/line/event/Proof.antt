@@ -9,14 +9,14 @@ use borrow.Author.Needs.{needs}
 use Rattle.text_reader.proofs.line.event.Statement.{statement}
 use Rattle.text_reader.proofs.line.event.Tie as tie
 
-lose : (c : lts.At-match-rest reads.Pre reads.Post) → c .before .args .kind ≡ 9
+lose : (c : lts.At-match-rest reads.Pre reads.Post) → c .before .args .kind ≡ 10
 lose c =
     let k : ℕ = c .before .args .kind in
     let others = c .match .rest in
-    let high : 9 ≤ k =
-    above k 8 (above k 7 (above k 6 (above k 5 (above k 4
-    (above k 3 (above k 2 (c .before .pre .0 .0) (others .0 .0 .0 .0 .0 .0 .1)) (others .0 .0 .0 .0 .0 .1)) (others .0 .0 .0 .0 .1))
-    (others .0 .0 .0 .1)) (others .0 .0 .1)) (others .0 .1)) (others .1) in
+    let high : 10 ≤ k =
+    above k 9 (above k 8 (above k 7 (above k 6 (above k 5 (above k 4
+    (above k 3 (above k 2 (c .before .pre .0 .0) (others .0 .0 .0 .0 .0 .0 .0 .1)) (others .0 .0 .0 .0 .0 .0 .1)) (others .0 .0 .0 .0 .0 .1))
+    (others .0 .0 .0 .0 .1)) (others .0 .0 .0 .1)) (others .0 .0 .1)) (others .0 .1)) (others .1) in
     omega arith
 
 cast-t5 : tie.Need-cast-t5
@@ -50,7 +50,10 @@ cast-t22 : tie.Need-cast-t22
 cast-t22 c = let h = rw (c .match .keys7) at (c .before .pre .1 .last) in omega arith
 
 cast-t23 : tie.Need-cast-t23
-cast-t23 c = let h = rw (lose c) at (c .before .pre .1 .last) in omega arith
+cast-t23 c = let h = rw (c .match .keys8) at (c .before .pre .1 .last) in omega arith
+
+cast-t24 : tie.Need-cast-t24
+cast-t24 c = let h = rw (lose c) at (c .before .pre .1 .last) in omega arith
 
 returns : tie.Need-returns
 returns c = rw (c .match .keys1)
@@ -74,7 +77,10 @@ returns-7 : tie.Need-returns-7
 returns-7 c = rw (c .match .keys7)
 
 returns-8 : tie.Need-returns-8
-returns-8 c = rw (lose c)
+returns-8 c = rw (c .match .keys8)
+
+returns-9 : tie.Need-returns-9
+returns-9 c = rw (lose c)
 
 pub event-spec : {M : Type 1} → statement M
 event-spec =
@@ -91,6 +97,7 @@ event-spec =
     cast-t21
     cast-t22
     cast-t23
+    cast-t24
     returns
     returns-2
     returns-3
@@ -98,4 +105,5 @@ event-spec =
     returns-5
     returns-6
     returns-7
-    returns-8)
+    returns-8
+    returns-9)

@@ -29,7 +29,7 @@ unfolding lineGiven
 returns-5 c =
     let k : ℕ = c .before .before .before .args .kind in
     let others = c .before .before .match .rest in
-    rw (ne-eqb k 0 (others .0 .0 .0 .1), ne-eqb k 1 (others .0 .0 .1), ne-eqb k 10 (others .0 .1), ne-eqb k 11 (others .1))
+    rw (ne-eqb k 0 (others .0 .0 .0 .1), ne-eqb k 1 (others .0 .0 .1), ne-eqb k 11 (others .0 .1), ne-eqb k 12 (others .1))
     (ap Word (c .new .ensures ∙ c .before .event .ensures))
 
 pub given-spec : {M : Type 1} → statement M

@@ -68,24 +68,29 @@ returns-11 c =
 
 returns-12 : tie.Need-returns-12
 returns-12 c =
-    one-part (c .before .before .before .args .kind) (c .before .before .before .args .place) Word (ap parts (c .match .keys11)) (search needs)
+    one-part (c .before .before .before .args .kind) (c .before .before .before .args .place) Position (ap parts (c .match .keys11)) (search needs)
     (omega (arith, c .before .before .arity .ensures))
 
 returns-13 : tie.Need-returns-13
 returns-13 c =
+    one-part (c .before .before .before .args .kind) (c .before .before .before .args .place) Word (ap parts (c .match .keys12)) (search needs)
+    (omega (arith, c .before .before .arity .ensures))
+
+returns-14 : tie.Need-returns-14
+returns-14 c =
     let k : ℕ = c .before .before .before .args .kind in
     let others = c .match .rest in
-    let high : 11 ≤ k =
-    above k 10 (above k 9 (above k 8 (above k 7 (above k 6
-    (above k 5 (above k 4 (above k 3 (above k 2 (above k 1 (above k 0 (omega arith) (others .0 .0 .0 .0 .0 .0 .0 .0 .0 .0 .1))
-    (others .0 .0 .0 .0 .0 .0 .0 .0 .0 .1)) (others .0 .0 .0 .0 .0 .0 .0 .0 .1)) (others .0 .0 .0 .0 .0 .0 .0 .1)) (others .0 .0 .0 .0 .0 .0 .1))
-    (others .0 .0 .0 .0 .0 .1)) (others .0 .0 .0 .0 .1)) (others .0 .0 .0 .1)) (others .0 .0 .1)) (others .0 .1)) (others .1) in
-    let eleven : k ≡ 11 = omega arith in
-    one-part k (c .before .before .before .args .place) Tail (ap parts eleven) (search needs) (omega (arith, c .before .before .arity .ensures))
+    let upto-timer : 8 ≤ k =
+    above k 7 (above k 6 (above k 5 (above k 4 (above k 3 (above k 2 (above k 1 (above k 0 (omega arith) (others .0 .0 .0 .0 .0 .0 .0 .0 .0 .0 .0 .1))
+    (others .0 .0 .0 .0 .0 .0 .0 .0 .0 .0 .1)) (others .0 .0 .0 .0 .0 .0 .0 .0 .0 .1)) (others .0 .0 .0 .0 .0 .0 .0 .0 .1)) (others .0 .0 .0 .0 .0 .0 .0 .1))
+    (others .0 .0 .0 .0 .0 .0 .1)) (others .0 .0 .0 .0 .0 .1)) (others .0 .0 .0 .0 .1) in
+    let upto-word : 12 ≤ k = above k 11 (above k 10 (above k 9 (above k 8 upto-timer (others .0 .0 .0 .1)) (others .0 .0 .1)) (others .0 .1)) (others .1) in
+    let last : k ≡ 12 = omega arith in
+    one-part k (c .before .before .before .args .place) Tail (ap parts last) (search needs) (omega (arith, c .before .before .arity .ensures))
 
 pub part-spec : {M : Type 1} → statement M
 part-spec =
     tie.close
     (tie.spec
     (λ c κs. search needs) returns timer-part-requires returns-2 returns-3 returns-4 returns-5 returns-6
-    returns-7 returns-8 returns-9 returns-10 returns-11 returns-12 returns-13)
+    returns-7 returns-8 returns-9 returns-10 returns-11 returns-12 returns-13 returns-14)

@@ -2,7 +2,7 @@
 use borrow.Author.Tests.{ne-eqb}
 use Rattle.text_form.specs.Assemble.{placeOf, packed, grown}
 use Rattle.text_form.specs.Names.{sidesName, keysName, onName, offName, leaveName, noticeName, contactName}
-use Rattle.text_form.specs.Names.{timerName, deliverName, loseName, wordName, tailName}
+use Rattle.text_form.specs.Names.{timerName, deliverName, echoName, loseName, wordName, tailName}
 use Rattle.text_reader.proofs.token.command_of.Statement.{statement}
 use Rattle.text_reader.proofs.token.command_of.Tie as tie
 
@@ -56,18 +56,23 @@ returns-12 c = rw (c .match .keys12)
 
 returns-13 : tie.Need-returns-13
 unfolding placeOf packed grown
-returns-13 c =
+returns-13 c = rw (c .match .keys13)
+
+returns-14 : tie.Need-returns-14
+unfolding placeOf packed grown
+returns-14 c =
     let others = c .match .rest in
     rw (
-      ne-eqb (c .before .args .token) (packed 0 sidesName) (others .0 .0 .0 .0 .0 .0 .0 .0 .0 .0 .0 .1),
-      ne-eqb (c .before .args .token) (packed 0 keysName) (others .0 .0 .0 .0 .0 .0 .0 .0 .0 .0 .1),
-      ne-eqb (c .before .args .token) (packed 0 onName) (others .0 .0 .0 .0 .0 .0 .0 .0 .0 .1),
-      ne-eqb (c .before .args .token) (packed 0 offName) (others .0 .0 .0 .0 .0 .0 .0 .0 .1),
-      ne-eqb (c .before .args .token) (packed 0 leaveName) (others .0 .0 .0 .0 .0 .0 .0 .1),
-      ne-eqb (c .before .args .token) (packed 0 noticeName) (others .0 .0 .0 .0 .0 .0 .1),
-      ne-eqb (c .before .args .token) (packed 0 contactName) (others .0 .0 .0 .0 .0 .1),
-      ne-eqb (c .before .args .token) (packed 0 timerName) (others .0 .0 .0 .0 .1),
-      ne-eqb (c .before .args .token) (packed 0 deliverName) (others .0 .0 .0 .1),
+      ne-eqb (c .before .args .token) (packed 0 sidesName) (others .0 .0 .0 .0 .0 .0 .0 .0 .0 .0 .0 .0 .1),
+      ne-eqb (c .before .args .token) (packed 0 keysName) (others .0 .0 .0 .0 .0 .0 .0 .0 .0 .0 .0 .1),
+      ne-eqb (c .before .args .token) (packed 0 onName) (others .0 .0 .0 .0 .0 .0 .0 .0 .0 .0 .1),
+      ne-eqb (c .before .args .token) (packed 0 offName) (others .0 .0 .0 .0 .0 .0 .0 .0 .0 .1),
+      ne-eqb (c .before .args .token) (packed 0 leaveName) (others .0 .0 .0 .0 .0 .0 .0 .0 .1),
+      ne-eqb (c .before .args .token) (packed 0 noticeName) (others .0 .0 .0 .0 .0 .0 .0 .1),
+      ne-eqb (c .before .args .token) (packed 0 contactName) (others .0 .0 .0 .0 .0 .0 .1),
+      ne-eqb (c .before .args .token) (packed 0 timerName) (others .0 .0 .0 .0 .0 .1),
+      ne-eqb (c .before .args .token) (packed 0 deliverName) (others .0 .0 .0 .0 .1),
+      ne-eqb (c .before .args .token) (packed 0 echoName) (others .0 .0 .0 .1),
       ne-eqb (c .before .args .token) (packed 0 loseName) (others .0 .0 .1),
       ne-eqb (c .before .args .token) (packed 0 wordName) (others .0 .1),
       ne-eqb (c .before .args .token) (packed 0 tailName) (others .1),
@@ -77,4 +82,4 @@ pub command-of-spec : {M : Type 1} → statement M
 command-of-spec =
     tie.close
     (tie.spec
-    returns returns-2 returns-3 returns-4 returns-5 returns-6 returns-7 returns-8 returns-9 returns-10 returns-11 returns-12 returns-13)
+    returns returns-2 returns-3 returns-4 returns-5 returns-6 returns-7 returns-8 returns-9 returns-10 returns-11 returns-12 returns-13 returns-14)
