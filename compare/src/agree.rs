@@ -41,8 +41,9 @@ pub struct Tally {
     pub refused_lists: u64,
     /// Answers to the events, by number, those on damaged buffers included.
     pub answers: [u64; 12],
-    /// Accepted deliveries by type.
+    /// Accepted deliveries by type, and accepted echoes.
     pub delivered: [u64; 14],
+    pub echoed: [u64; 14],
     /// On rings as the events left them, and on damaged buffers.
     pub routes: routes::Tally,
     pub damaged_routes: routes::Tally,
@@ -65,6 +66,7 @@ impl Tally {
         self.refused_lists += other.refused_lists;
         self.answers.iter_mut().zip(other.answers).for_each(|(sum, count)| *sum += count);
         self.delivered.iter_mut().zip(other.delivered).for_each(|(sum, count)| *sum += count);
+        self.echoed.iter_mut().zip(other.echoed).for_each(|(sum, count)| *sum += count);
         self.routes.add(&other.routes);
         self.damaged_routes.add(&other.damaged_routes);
         self.previews.add(&other.previews);
@@ -82,12 +84,14 @@ impl fmt::Display for Tally {
         writeln!(f, "{damaged} damaged buffers, of which {valid} still read as a ring")?;
         writeln!(f, "answers 0 to 11: {answers:?}")?;
         writeln!(f, "delivered, types 1 to 13: {:?}", &delivered[1..])?;
+        writeln!(f, "echoed, types 1 to 13: {:?}", &self.echoed[1..])?;
         writeln!(f, "{}\non damaged buffers: {}", self.routes, self.damaged_routes)?;
         writeln!(f, "{}\non damaged buffers: {}", self.previews, self.damaged_previews)?;
         writeln!(f, "  {} accepted events came as a preview just before them had shown", self.foreseen)?;
-        let Tested { starts, points, spans, acknowledged, released, leaving } = self.tested;
+        let Tested { starts, points, spans, acknowledged, echoed, released, released_by_echo, leaving } = self.tested;
         writeln!(f, "demand 3: {points} points tested, against {starts} chosen points, {spans} pairs of points;")?;
-        writeln!(f, "  {acknowledged} of them with an acknowledgement in flight; {released} links released;")?;
+        writeln!(f, "  {acknowledged} of them with an acknowledgement in flight, {echoed} just after its echo;")?;
+        writeln!(f, "  {released} links released, {released_by_echo} of them by an acknowledgement's echo;")?;
         write!(f, "  {leaving} points not chosen for a type 13 from a running node alone")
     }
 }
@@ -215,7 +219,8 @@ impl<'a> Play<'a> {
         tally.events += 1;
         tally.answers[answer as usize] += 1;
         if let (0, Some(kind)) = (answer, delivered) {
-            tally.delivered[kind as usize] += 1;
+            let counts = if word >> 10 & 1 == 1 { &mut tally.echoed } else { &mut tally.delivered };
+            counts[kind as usize] += 1;
         }
         Ok(())
     }

@@ -181,7 +181,8 @@ fn scene(random: &mut Random, words: &[u32]) -> Damage {
     for part in 0..3 {
         pokes.push(Step::Poke(at + 2 + part, 8 << 28 | (view >> (24 * part)) as u32 & LIMIT));
     }
-    Damage { pokes, event: Some(14 << 28 | position as u32) }
+    let echo = (random.percent(20) as u32) << 10;
+    Damage { pokes, event: Some(14 << 28 | echo | position as u32) }
 }
 
 /// x holds z, with a commit stamp that is the result, and y as spare.

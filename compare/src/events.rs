@@ -34,6 +34,11 @@ pub fn deliver(position: u32) -> u32 {
     14 << 28 | position
 }
 
+/// A delivery after which the message stays.
+pub fn echo(position: u32) -> u32 {
+    deliver(position) | 1 << 10
+}
+
 pub fn lose(position: u32) -> u32 {
     15 << 28 | position
 }

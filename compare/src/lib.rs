@@ -13,6 +13,7 @@ pub mod filter;
 #[cfg(feature = "library")]
 pub mod library;
 pub mod look;
+pub mod numbers;
 pub mod plain;
 pub mod previews;
 pub mod random;

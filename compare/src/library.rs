@@ -95,7 +95,7 @@ impl Ring for Library {
     }
 }
 
-// The calls that only the stack is measured of.
+// The calls that are no ring's, or of which only the stack is measured.
 
 pub fn replay(words: &mut [u32], sides: Sides, keys: &[u32], script: &[u32]) {
     let Sides { clockwise, counter_clockwise } = sides;
@@ -108,12 +108,15 @@ pub fn replay(words: &mut [u32], sides: Sides, keys: &[u32], script: &[u32]) {
     };
 }
 
-pub fn read_event(word: u32) {
-    let (mut kind, mut first, mut second) = (0, 0, 0);
-    unsafe { mekvalgs_read_event(word, &mut kind, &mut first, &mut second) };
+/// The answer and the three numbers.
+pub fn read_event(word: u32) -> (u32, [u32; 3]) {
+    let [mut kind, mut first, mut second] = [u32::MAX; 3];
+    let answer = unsafe { mekvalgs_read_event(word, &mut kind, &mut first, &mut second) };
+    (answer, [kind, first, second])
 }
 
-pub fn write_event(kind: u32, first: u32, second: u32) {
-    let mut word = 0;
-    unsafe { mekvalgs_write_event(kind, first, second, &mut word) };
+/// The answer and the word.
+pub fn write_event(kind: u32, first: u32, second: u32) -> (u32, u32) {
+    let mut word = u32::MAX;
+    (unsafe { mekvalgs_write_event(kind, first, second, &mut word) }, word)
 }

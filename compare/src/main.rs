@@ -137,10 +137,25 @@ fn agree_all(plan: &Plan) -> bool {
     let differences = edges::run(plan.seed, 20_000, &rings);
     println!("20000 openings and calls on buffers of other lengths: {} differences", differences.len());
     differences.iter().take(5).for_each(|difference| println!("  {difference}"));
+    let numbers_agree = numbers_agree();
     let start = Instant::now();
     let (tally, found) = agree::run(plan, &rings);
     println!("{tally}\n{:.0} seconds", start.elapsed().as_secs_f64());
-    made_rings(plan, &rings) & differences.is_empty() & nothing(plan, &rings, found)
+    made_rings(plan, &rings) & differences.is_empty() & numbers_agree & nothing(plan, &rings, found)
+}
+
+/// Event words read and written under C's names, where the library is linked.
+#[cfg(feature = "library")]
+fn numbers_agree() -> bool {
+    let (count, differences) = compare::numbers::differences();
+    println!("{count} event words read or written: {} differences", differences.len());
+    differences.iter().take(5).for_each(|difference| println!("  {difference}"));
+    differences.is_empty()
+}
+
+#[cfg(not(feature = "library"))]
+fn numbers_agree() -> bool {
+    true
 }
 
 /// Routes on made rings: a tenth of the plan's where every running node holds exactly its leafset of all running nodes, and

@@ -66,6 +66,22 @@ pub enum Slip {
     LeaveToRunning,
     /// A polite off raises the clock.
     LeaveTicks,
+    /// An echo is no event, as before.
+    EchoUnknown,
+    /// An echo moves its message behind the others.
+    EchoMoves,
+    /// An echo takes its message out after all.
+    EchoTakesOut,
+    /// An echo to a node that is off takes its message out.
+    EchoOffTakesOut,
+    /// An echo doesn't raise the clock.
+    EchoKeepsClock,
+    /// Refusal 11 counts an echo's message as taken out; an answer for which there is no place is dropped.
+    EchoUncounted,
+    /// Refusal 11 for every echo while the pool is full.
+    EchoFullPool,
+    /// A lose with bit 10 is a lose.
+    LoseBit10,
     /// "One that always finds stands connected."
     AlwaysConnected,
     /// Groups count the nodes that are off, too.
@@ -121,7 +137,7 @@ pub enum Slip {
 }
 
 impl Slip {
-    pub const ALL: [Slip; 54] = [
+    pub const ALL: [Slip; 62] = [
         Slip::StampNotAbove,
         Slip::CommitZero,
         Slip::AskerAsSpare,
@@ -150,6 +166,14 @@ impl Slip {
         Slip::LeaveAfterClearing,
         Slip::LeaveToRunning,
         Slip::LeaveTicks,
+        Slip::EchoUnknown,
+        Slip::EchoMoves,
+        Slip::EchoTakesOut,
+        Slip::EchoOffTakesOut,
+        Slip::EchoKeepsClock,
+        Slip::EchoUncounted,
+        Slip::EchoFullPool,
+        Slip::LoseBit10,
         Slip::AlwaysConnected,
         Slip::GroupsOfAll,
         Slip::FullPoolEarly,
@@ -438,6 +462,7 @@ impl State {
             11 => self.notice(x, y),
             12 => self.contact(x, y),
             13 => self.timer(x, bits(word, 12, 14)),
+            14 if bits(word, 10, 10) == 1 => self.echo(bits(word, 0, 9) as usize),
             14 => self.deliver(bits(word, 0, 9) as usize),
             _ => self.take_out(bits(word, 0, 9) as usize).map(|_| ()),
         }
@@ -631,6 +656,41 @@ impl State {
         Ok(())
     }
 
+    /// "A deliver event with bit 10 set delivers and leaves the message in its position."
+    fn echo(&mut self, position: usize) -> Result<(), u32> {
+        let message = self.messages.get(position).ok_or(7u32)?.clone();
+        let x = message.receiver;
+        if !self.nodes[x].running {
+            if self.has(Slip::EchoOffTakesOut) {
+                self.messages.remove(position);
+            }
+            return Ok(());
+        }
+        if self.nodes[x].clock == CLOCK_LIMIT {
+            return Err(10);
+        }
+        if self.has(Slip::EchoFullPool) && self.messages.len() == POOL {
+            return Err(11);
+        }
+        let now = if self.has(Slip::EchoKeepsClock) { self.nodes[x].clock } else { self.tick(x) };
+        self.displace(position);
+        self.receive(message, now);
+        if self.has(Slip::EchoUncounted) {
+            self.messages.truncate(POOL);
+        }
+        Ok(())
+    }
+
+    /// What slips do to an echo's message, which has to stay.
+    fn displace(&mut self, position: usize) {
+        if self.has(Slip::EchoTakesOut) {
+            self.messages.remove(position);
+        }
+        if self.has(Slip::EchoMoves) {
+            self.messages[position..].rotate_left(1);
+        }
+    }
+
     fn receive(&mut self, message: Message, now: u32) {
         let (x, a) = (message.receiver, message.sender);
         match message.kind {
@@ -810,7 +870,8 @@ pub fn event_fault(word: u32) -> Option<u32> {
         10 => bits(word, 6, 11) + bits(word, 13, 27),
         11 | 12 => bits(word, 12, 27),
         13 => bits(word, 6, 11) + bits(word, 15, 27) + !TIMERS.contains(&bits(word, 12, 14)) as u32,
-        14 | 15 => bits(word, 10, 27),
+        14 => bits(word, 11, 27),
+        15 => bits(word, 10, 27),
         _ => return Some(4),
     };
     let two_nodes = bits(word, 28, 31) == 11 || bits(word, 28, 31) == 12;
@@ -851,12 +912,21 @@ impl Plain {
         Ok(())
     }
 
+    /// Refusals 4 and 5, as a slip has them.
+    fn event_fault(&self, word: u32) -> Option<u32> {
+        match self.slip {
+            Some(Slip::OldTimer1) if word & !63 == 13 << 28 | 1 << 12 => None,
+            Some(Slip::LoseBit10) if word & !1_023 == 15 << 28 | 1 << 10 => None,
+            Some(Slip::EchoUnknown) if word & !1_023 == 14 << 28 | 1 << 10 => Some(4),
+            _ => event_fault(word),
+        }
+    }
+
     fn try_play(&self, words: &mut [u32], word: u32) -> Result<(), u32> {
         if words.len() != LENGTH {
             return Err(1);
         }
-        let old_timer = self.slip == Some(Slip::OldTimer1) && word & !63 == 13 << 28 | 1 << 12;
-        if let Some(refusal) = event_fault(word).filter(|_| !old_timer) {
+        if let Some(refusal) = self.event_fault(word) {
             return Err(refusal);
         }
         let mut state = self.read(words)?;

@@ -182,8 +182,8 @@ impl Script {
             Choice::Contact => self.of_two(12, words),
             Choice::Timer(timer) => 13 << 28 | timer << 12 | self.node(words, true),
             Choice::NoTimer => 13 << 28 | self.random.pick(&[1, 1, 1, 5, 6, 7]) << 12 | self.node(words, true),
-            Choice::Deliver => 14 << 28 | self.position(words),
-            Choice::Lose => 15 << 28 | self.position(words),
+            Choice::Deliver => 14 << 28 | self.bit_10(20) | self.position(words),
+            Choice::Lose => 15 << 28 | self.bit_10(2) | self.position(words),
             Choice::Anything => self.anything(),
             Choice::Sweep => {
                 let timer = 13 << 28 | (2 + self.random.below(2) as u32) << 12;
@@ -240,6 +240,11 @@ impl Script {
             _ => self.random.below(messages),
         };
         position.min(1_023) as u32
+    }
+
+    /// Bit 10, so many times of a hundred: of a deliver it makes an echo, of a lose no event.
+    fn bit_10(&mut self, percent: usize) -> u32 {
+        (self.random.percent(percent) as u32) << 10
     }
 
     /// A word that is mostly no event: wholly random, an event's kind with random low bits, or an event with one bit wrong.

@@ -15,7 +15,7 @@ struct Traced {
     step: Step,
     /// The step's number in the whole case.
     number: usize,
-    /// The message that it takes out, or would by a preview.
+    /// The message that it takes out or echoes, or would by a preview.
     takes: Option<Sent>,
 }
 
@@ -84,14 +84,23 @@ impl Case {
     }
 }
 
-/// The position that a delivery or loss, or a preview of one, has in its word.
+/// The position that a delivery, echo or loss, or a preview of one, has in its word.
 fn position(step: Step) -> Option<usize> {
     match step {
-        Step::Play(word) | Step::Preview(Preview { word, .. }) if word >> 28 >= 14 && word << 4 >> 14 == 0 => {
+        Step::Play(word) | Step::Preview(Preview { word, .. }) if matches!(word >> 10, DELIVER | ECHO | LOSE) => {
             Some(word as usize & 1_023)
         }
         _ => None,
     }
+}
+
+/// The bits of a word above its position.
+const DELIVER: u32 = 14 << 18;
+const ECHO: u32 = DELIVER | 1;
+const LOSE: u32 = 15 << 18;
+
+fn is_echo(step: Step) -> bool {
+    matches!(step, Step::Play(word) if word >> 10 == ECHO)
 }
 
 /// The step with another position in its word.
@@ -114,8 +123,8 @@ fn in_queue(queue: Option<&[Sent]>, traced: Traced) -> Option<Traced> {
     Some(Traced { step: moved(traced.step, place), ..traced })
 }
 
-/// After an accepted step: its message is taken out, and those that it sent are at the end. A list is not followed, and
-/// a preview takes and sends nothing.
+/// After an accepted step: its message is taken out, unless it is echoed, and those that it sent are at the end. A list
+/// is not followed, and a preview takes and sends nothing.
 fn follow(queue: &mut Option<Vec<Sent>>, traced: Traced, words: &[u32]) {
     match traced.step {
         Step::PlayAll(_) => *queue = None,
@@ -123,7 +132,7 @@ fn follow(queue: &mut Option<Vec<Sent>>, traced: Traced, words: &[u32]) {
         _ => {}
     }
     let Some(queue) = queue else { return };
-    if let Some(place) = position(traced.step) {
+    if let Some(place) = position(traced.step).filter(|_| !is_echo(traced.step)) {
         queue.remove(place);
     }
     let sent = look::messages(words) - queue.len();

@@ -248,7 +248,8 @@ pub fn previews(rings: &[&dyn Ring]) {
     rings.iter().for_each(|ring| print!("{:>18}{:>12}{:>8}", format!("{} preview", ring.name()), "play", ""));
     println!("  and over play and copy");
     let (contact, notice) = (12 << 28 | 1 << 6, 11 << 28 | 1 << 6);
-    let events = [("contact", contact), ("notice", notice), ("deliver", 14 << 28), ("on", 9 << 28)];
+    let (deliver, echo) = (14 << 28, 14 << 28 | 1 << 10);
+    let events = [("contact", contact), ("notice", notice), ("deliver", deliver), ("echo", echo), ("on", 9 << 28)];
     for messages in [0, 415, 1_024] {
         let words = full(messages, false);
         for (name, word) in events {

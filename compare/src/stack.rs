@@ -54,8 +54,8 @@ fn measure() {
     ring.open(&mut words, sides, &keys);
     let mut answers = vec![0; events.len()];
     line("play_all", depth(&mut || _ = ring.play_all(&mut words, &events, &mut answers)));
-    line("read_event", events.iter().map(|&word| depth(&mut || library::read_event(word))).max().unwrap());
-    line("write_event", (0..7).map(|kind| depth(&mut || library::write_event(9 + kind, 1, 2))).max().unwrap());
+    line("read_event", events.iter().map(|&word| depth(&mut || _ = library::read_event(word))).max().unwrap());
+    line("write_event", (0..7).map(|kind| depth(&mut || _ = library::write_event(9 + kind, 1, 2))).max().unwrap());
 }
 
 /// The deepest preview, each before its event is played.

@@ -52,7 +52,7 @@ fn raw(word: u32) -> String {
 /// The event of a word, unless an unnamed bit is set or the timer is none.
 fn event(word: u32) -> Option<String> {
     let (x, other, timer, position) = (word & 63, word >> 6 & 63, word >> 12 & 7, word & 1023);
-    let polite = word & 4096 != 0;
+    let (polite, echo) = (word & 4096 != 0, word & 1024 != 0);
     let (named, text) = match word >> 28 {
         9 => (63, format!("on {x}")),
         10 if polite => (4096 + 63, format!("leave {x}")),
@@ -60,6 +60,7 @@ fn event(word: u32) -> Option<String> {
         11 => (4095, format!("notice {x} {other}")),
         12 => (4095, format!("contact {x} {other}")),
         13 if [0, 2, 3, 4].contains(&timer) => (7 * 4096 + 63, format!("timer {timer} at {x}")),
+        14 if echo => (1024 + 1023, format!("echo {position}")),
         14 => (1023, format!("deliver {position}")),
         15 => (1023, format!("lose {position}")),
         _ => return None,
@@ -155,6 +156,7 @@ fn given(name: &[u8], parts: &[&[u8]]) -> Option<Vec<u8>> {
         (b"contact", [x, y]) => 12 << 28 | node(y)? << 6 | node(x)?,
         (b"timer", [k, b"at", x]) => 13 << 28 | number(k, 5).filter(|&k| k != 1)? << 12 | node(x)?,
         (b"deliver", [i]) => 14 << 28 | number(i, 1024)?,
+        (b"echo", [i]) => 14 << 28 | 1024 | number(i, 1024)?,
         (b"lose", [i]) => 15 << 28 | number(i, 1024)?,
         (b"word", [digits]) if digits.len() == 8 => u32::from_be_bytes(hexadecimal(digits)?.try_into().ok()?),
         (b"tail", [digits]) if [2, 4, 6].contains(&digits.len()) => return hexadecimal(digits),

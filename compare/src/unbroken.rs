@@ -1,5 +1,6 @@
 //! Demand 3, judged in a run: from a point with no acknowledgement (type 10) and no type 13 from a running node in flight,
 //! as long as no on or off is accepted and each accepted notice names a node that is off, connected nodes stay connected.
+//! "With echoes among the deliveries, any number of times each": an echoed message is in flight all the while.
 
 use crate::look;
 
@@ -23,8 +24,11 @@ pub struct Tested {
     pub spans: u64,
     /// Of the later points, those with an acknowledgement in flight.
     pub acknowledged: u64,
-    /// Running nodes released by running ones while such a span lasted.
+    /// Of the later points, those just after an acknowledgement's echo.
+    pub echoed: u64,
+    /// Running nodes released by running ones while such a span lasted, and those of them by an acknowledgement's echo.
     pub released: u64,
+    pub released_by_echo: u64,
     /// Points that may not be chosen only because a running node's type 13 is in flight.
     pub leaving: u64,
 }
@@ -35,7 +39,9 @@ impl Tested {
         self.points += other.points;
         self.spans += other.spans;
         self.acknowledged += other.acknowledged;
+        self.echoed += other.echoed;
         self.released += other.released;
+        self.released_by_echo += other.released_by_echo;
         self.leaving += other.leaving;
     }
 }
@@ -84,7 +90,12 @@ impl Unbroken {
             self.tested.points += 1;
             self.tested.spans += self.chosen;
             self.tested.acknowledged += acknowledged as u64;
-            self.tested.released += (0..64).map(|x| (self.links[x] & !links[x]).count_ones() as u64).sum::<u64>();
+            let released = (0..64).map(|x| (self.links[x] & !links[x]).count_ones() as u64).sum::<u64>();
+            self.tested.released += released;
+            if echoes_acknowledgement(word, words) {
+                self.tested.echoed += 1;
+                self.tested.released_by_echo += released;
+            }
         }
         self.links = links;
         let connects = (0..64).any(|a| groups[a] as usize != a);
@@ -97,6 +108,11 @@ impl Unbroken {
         }
         None
     }
+}
+
+/// Whether the word, which was accepted, is an echo of an acknowledgement, which is in its position still.
+fn echoes_acknowledgement(word: u32, words: &[u32]) -> bool {
+    word >> 28 == 14 && word >> 10 & 1 == 1 && look::message_type(words, word as usize & 1_023) == ACKNOWLEDGEMENT
 }
 
 /// Whether a type 13 from a running node is in flight.

@@ -2,8 +2,8 @@
 //! values and words are those of the plain implementation, with which the reference has to agree.
 
 use super::machine::{Command, Line, Machine};
-use super::tally::{count, Tally};
-use crate::events::{on, timer};
+use super::tally::{count, kind, Tally, ECHO};
+use crate::events::{deliver, echo, on, timer};
 use crate::look;
 use crate::plain::Plain;
 use crate::reference::Reference;
@@ -120,15 +120,29 @@ impl Book {
     }
 
     pub fn play(&mut self, word: u32, answer: u32) {
-        let kind = word >> 28;
+        let kind = kind(word);
         if let (0, Some(delivered)) = (answer, self.delivery(word)) {
-            count(&mut self.tally.delivered, delivered);
+            let counts = if kind == ECHO { &mut self.tally.echoed } else { &mut self.tally.delivered };
+            count(counts, delivered);
         }
         if kind == 13 && answer == 0 {
             count(&mut self.tally.timers, word >> 12 & 7);
         }
         count(&mut self.tally.events, (kind, answer));
         self.call(Command::PLAY, [word, 0, 0, 0], answer);
+    }
+
+    /// Plays an echo: what the delivery leaves, with the message in its position again.
+    pub fn echo(&mut self, position: u32) {
+        let message = 8_321 + 5 * position as usize;
+        let words = self.words()[message..message + 5].to_vec();
+        let mut expected = self.words().to_vec();
+        Plain { slip: None }.play(&mut expected, deliver(position));
+        expected.splice(message..message, words);
+        expected.truncate(LENGTH);
+        expected[0] += 1 << 11;
+        self.play(echo(position), 0);
+        assert!(self.words() == expected, "{}: an echo of message {position}", self.tally.section);
     }
 
     /// Plays timer 0 at node 0: an invitation to each of the invited, then a question to each of the asked, in one step of
@@ -234,7 +248,7 @@ impl Book {
         let line = self.call(Command::PREVIEW, [word, length as u32, 0, 0], answer);
         assert!(line.changed == 0, "{}: a preview of {word:X} wrote the ring", self.tally.section);
         assert!(self.plain.second == expected, "{}: the second buffer, {word:X}", self.tally.section);
-        count(&mut self.tally.previewed, (word >> 28, answer));
+        count(&mut self.tally.previewed, (kind(word), answer));
     }
 
     /// A preview that the implementations alone judge.

@@ -2,22 +2,14 @@
 
 use super::book::Book;
 use crate::events::*;
-use crate::plain::event_fault;
+use crate::numbers;
 
 /// The answer, and the event as a number: its kind and its two parts, four decimal digits each.
 pub fn read(word: u32) -> (u32, u64) {
-    if let Some(refusal) = event_fault(word) {
-        return (refusal, 0);
+    match numbers::read(word).map(|numbers| numbers.map(u64::from)) {
+        Ok([kind, first, second]) => (0, kind * 100_000_000 + first * 10_000 + second),
+        Err(refusal) => (refusal, 0),
     }
-    let kind = word >> 28;
-    let (first, second) = match kind {
-        9 => (word & 63, 0),
-        10 => (word & 63, word >> 12 & 1),
-        11 | 12 => (word & 63, word >> 6 & 63),
-        13 => (word & 63, word >> 12 & 7),
-        _ => (word & 1_023, 0),
-    };
-    (0, kind as u64 * 100_000_000 + first as u64 * 10_000 + second as u64)
 }
 
 /// The answer, and the word of the event of that kind with these parts.
@@ -28,7 +20,7 @@ pub fn write(kind: u32, first: u32, second: u32) -> (u32, u64) {
         11 => (first < 64 && second < 64, notice(first, second)),
         12 => (first < 64 && second < 64, contact(first, second)),
         13 => (first < 64 && TIMERS.contains(&second), timer(first, second)),
-        14 => (first < 1_024, deliver(first)),
+        14 => (first < 1_024, if second == 1 { echo(first) } else { deliver(first) }),
         _ => (first < 1_024, lose(first)),
     };
     if !fits {
@@ -47,8 +39,12 @@ pub fn write_cases(book: &mut Book) {
 }
 
 fn readings(book: &mut Book) {
-    for word in [on(0), on(63), off(0), off(63), leave(0), leave(63), deliver(0), deliver(1_023), lose(0), lose(1_023)] {
+    for word in [on(0), on(63), off(0), off(63), leave(0), leave(63)] {
         book.read(word, 0);
+    }
+    for position in [0, 1, 512, 1_023] {
+        [deliver(position), echo(position), lose(position)].into_iter().for_each(|word| book.read(word, 0));
+        book.read(lose(position) | 1 << 10, 4);
     }
     for word in [notice(0, 1), notice(63, 62), notice(1, 0), contact(0, 1), contact(63, 62), contact(0, 63)] {
         book.read(word, 0);
@@ -82,7 +78,8 @@ pub fn unnamed_bits() -> impl Iterator<Item = u32> {
         (contact(1, 2), 12..28),
         (timer(1, 0), 6..12),
         (timer(1, 0), 15..28),
-        (deliver(0), 10..28),
+        (deliver(0), 11..28),
+        (echo(0), 11..28),
         (lose(0), 10..28),
     ];
     events.into_iter().flat_map(|(word, bits)| bits.map(move |bit| word | 1 << bit))
@@ -111,4 +108,6 @@ fn writings(book: &mut Book) {
         [0, 1, 1_023].iter().for_each(|&i| book.write(kind, i, 0, 0));
         [1_024, 65_535].iter().for_each(|&i| book.write(kind, i, 0, 4));
     }
+    [0, 1, 1_023].iter().for_each(|&i| book.write(14, i, 1, 0));
+    [1_024, 65_535].iter().for_each(|&i| book.write(14, i, 1, 4));
 }

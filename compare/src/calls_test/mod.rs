@@ -2,6 +2,7 @@
 
 mod book;
 mod damaged;
+mod echoes;
 mod event_word;
 mod lists;
 mod machine;
@@ -25,6 +26,7 @@ pub fn all() -> Book {
     steps::write(&mut book);
     refusals::write(&mut book);
     pool::write(&mut book);
+    echoes::write(&mut book);
     damaged::write(&mut book);
     replays::write(&mut book);
     lists::write(&mut book);

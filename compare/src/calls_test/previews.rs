@@ -43,21 +43,23 @@ fn five(book: &mut Book) {
 }
 
 /// An acceptable event of each kind on the ring of five.
-fn acceptable() -> [u32; 8] {
-    [on(4), off(0), leave(0), notice(0, 1), contact(0, 1), timer(0, 0), deliver(0), lose(8)]
+fn acceptable() -> [u32; 9] {
+    [on(4), off(0), leave(0), notice(0, 1), contact(0, 1), timer(0, 0), deliver(0), echo(0), lose(8)]
 }
 
-/// These, all timers, and the delivery of every message.
+/// These, all timers, and the delivery and the echo of every message.
 fn every_acceptable() -> impl Iterator<Item = u32> {
-    acceptable().into_iter().chain((2..=4).map(|k| timer(0, k))).chain((1..=8).map(deliver)).chain([lose(0)])
+    let timers = (2..=4).map(|k| timer(0, k));
+    acceptable().into_iter().chain(timers).chain((1..=8).flat_map(|i| [deliver(i), echo(i)])).chain([lose(0)])
 }
 
 /// Events that the ring of five refuses, by 7, 8 and 9.
 fn refused() -> impl Iterator<Item = (u32, u32)> {
-    let out_of_table = [on(5), off(63), leave(5), notice(0, 5), contact(5, 0), timer(5, 2), deliver(9), lose(1_023)];
+    let nodes = [on(5), off(63), leave(5), notice(0, 5), contact(5, 0), timer(5, 2)];
+    let out_of_table = nodes.into_iter().chain([deliver(9), echo(9), lose(1_023)]);
     let switched_off = [off(4), leave(4), notice(4, 0), contact(4, 1), timer(4, 4)];
     let by = |answer: u32| move |word: u32| (word, answer);
-    out_of_table.into_iter().map(by(7)).chain(switched_off.into_iter().map(by(8))).chain([(on(0), 9)])
+    out_of_table.map(by(7)).chain(switched_off.into_iter().map(by(8))).chain([(on(0), 9)])
 }
 
 /// Other words in the second buffer, of two sorts.
@@ -154,11 +156,11 @@ fn spent_clock(book: &mut Book) {
     five(book);
     old_words(book, 103);
     (0..5).for_each(|x| book.set_clock(x, CLOCK_LIMIT));
-    each(book, [on(4), notice(0, 1), contact(0, 1), deliver(0)], 10);
+    each(book, [on(4), notice(0, 1), contact(0, 1), deliver(0), echo(0)], 10);
     each(book, TIMERS.map(|k| timer(0, k)), 10);
     book.preview(timer(0, 1), LENGTH, 4);
     refused().for_each(|(word, answer)| book.preview(word, LENGTH, answer));
-    each(book, [off(0), leave(0), deliver(8), lose(0)], 0);
+    each(book, [off(0), leave(0), deliver(8), echo(8), lose(0)], 0);
 }
 
 /// 11; and what would be left of a full pool, over which a small ring's preview comes.
@@ -166,7 +168,7 @@ fn full_pool(book: &mut Book) {
     crowded(book, &[10, 20, 30], 1_024);
     old_words(book, 104);
     book.hold(0, 1, 1, 64);
-    each(book, [contact(0, 1), timer(0, 0), leave(0)], 11);
+    each(book, [contact(0, 1), timer(0, 0), leave(0), echo(0), echo(1_023)], 11);
     book.preview(timer(0, 1), LENGTH, 4);
     each(book, [off(0), notice(0, 1), timer(1, 0), deliver(0), lose(1_023)], 0);
     book.open(1, &[5], 0);

@@ -28,8 +28,8 @@ fn three(book: &mut Book) {
 }
 
 /// An acceptable event of each kind on the ring of three.
-fn acceptable() -> [u32; 8] {
-    [on(2), off(0), leave(0), notice(0, 1), contact(0, 1), timer(0, 0), deliver(0), lose(1)]
+fn acceptable() -> [u32; 9] {
+    [on(2), off(0), leave(0), notice(0, 1), contact(0, 1), timer(0, 0), deliver(0), echo(0), lose(1)]
 }
 
 /// 1, also where any other applies too.

@@ -5,12 +5,14 @@ use crate::events::*;
 use crate::ring::Sides;
 use crate::LENGTH;
 
-/// A script of each mix, drawn once and kept: later changes of the mixes leave the cases as they are.
-const STORED: [&[u8]; 4] = [
+/// A script of each mix, and one with many echoes, drawn once and kept: later changes of the mixes leave the cases as
+/// they are.
+const STORED: [&[u8]; 5] = [
     include_bytes!("replayed/gentle.bin"),
     include_bytes!("replayed/chaos.bin"),
     include_bytes!("replayed/garbage.bin"),
     include_bytes!("replayed/replacement.bin"),
+    include_bytes!("replayed/echoes.bin"),
 ];
 
 pub fn write(book: &mut Book) {

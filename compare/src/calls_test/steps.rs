@@ -6,7 +6,7 @@ use crate::events::*;
 use crate::look;
 
 /// Node 0 has key 100. At L = 1 its leafset among all the others is nodes 3 and 2.
-const KEYS: [u32; 6] = [100, 130, 90, 110, 16_777_200, 5_000_000];
+pub const KEYS: [u32; 6] = [100, 130, 90, 110, 16_777_200, 5_000_000];
 
 pub fn write(book: &mut Book) {
     book.section("steps");
@@ -27,13 +27,13 @@ pub fn write(book: &mut Book) {
 }
 
 /// The ring of six at L = 1, all on, with clock 20 at node 0.
-fn six(book: &mut Book) {
+pub fn six(book: &mut Book) {
     book.open_running(1, &KEYS);
     book.set_clock(0, 20);
 }
 
 /// On the ring of six, node 0 holds these, without spares.
-fn six_holding(book: &mut Book, held: &[u32]) {
+pub fn six_holding(book: &mut Book, held: &[u32]) {
     six(book);
     held.iter().for_each(|&z| book.hold(0, z, 5, 64));
 }

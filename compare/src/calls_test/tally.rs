@@ -17,8 +17,9 @@ pub struct Tally {
     pub events: BTreeMap<(u32, u32), usize>,
     /// Previewed words, by kind and answer.
     pub previewed: BTreeMap<(u32, u32), usize>,
-    /// Accepted deliveries to a running node, by type.
+    /// Accepted deliveries to a running node, by type, and accepted echoes to one.
     pub delivered: BTreeMap<u32, usize>,
+    pub echoed: BTreeMap<u32, usize>,
     /// Accepted timers.
     pub timers: BTreeMap<u32, usize>,
     /// Answers that replays wrote.
@@ -33,6 +34,17 @@ pub struct Tally {
 
 pub fn count<K: Ord>(counts: &mut BTreeMap<K, usize>, key: K) {
     *counts.entry(key).or_default() += 1;
+}
+
+/// A deliver with bit 10, as if it were a kind of its own.
+pub const ECHO: u32 = 16;
+
+/// The kind of a word.
+pub fn kind(word: u32) -> u32 {
+    match word >> 28 {
+        14 if word >> 10 & 1 == 1 => ECHO,
+        kind => kind,
+    }
 }
 
 /// The answers that each call can give.
@@ -51,7 +63,7 @@ const CALLS: [(&str, u32, &[u32]); 11] = [
 ];
 
 /// The answers that playing or previewing a word of each event kind can give.
-const EVENTS: [(&str, u32, &[u32]); 7] = [
+const EVENTS: [(&str, u32, &[u32]); 8] = [
     ("on", 9, &[0, 1, 4, 6, 7, 9, 10]),
     ("off", 10, &[0, 1, 4, 6, 7, 8, 11]),
     ("notice", 11, &[0, 1, 4, 5, 6, 7, 8, 10]),
@@ -59,6 +71,7 @@ const EVENTS: [(&str, u32, &[u32]); 7] = [
     ("timer", 13, &[0, 1, 4, 6, 7, 8, 10, 11]),
     ("deliver", 14, &[0, 1, 4, 6, 7, 10]),
     ("lose", 15, &[0, 1, 4, 6, 7]),
+    ("echo", ECHO, &[0, 1, 4, 6, 7, 10, 11]),
 ];
 
 /// The answers in a replay's places, where no clock is ever spent.
@@ -68,7 +81,8 @@ const REPLAYED: [u32; 7] = [0, 4, 5, 7, 8, 9, 11];
 const LISTED: [u32; 8] = [0, 4, 5, 7, 8, 9, 10, 11];
 
 impl Tally {
-    /// Every answer that can come has come, and no other; every type was delivered, and every timer accepted.
+    /// Every answer that can come has come, and no other; every type was delivered and echoed, and every timer
+    /// accepted.
     pub fn is_full(&self) -> bool {
         let every_event = |counts: &BTreeMap<(u32, u32), usize>| {
             counts.keys().filter(|(kind, _)| *kind >= 9).copied().eq(each(&EVENTS))
@@ -79,6 +93,7 @@ impl Tally {
             && self.replayed.keys().copied().eq(REPLAYED)
             && self.listed.keys().copied().eq(LISTED)
             && self.delivered.keys().copied().eq(1..=13)
+            && self.echoed.keys().copied().eq(1..=13)
             && self.timers.keys().copied().eq(TIMERS)
     }
 }
@@ -95,6 +110,7 @@ impl fmt::Display for Tally {
         writeln!(f, "previewed")?;
         rows(f, &EVENTS, &self.previewed)?;
         writeln!(f, "delivered, by type: {:?}", self.delivered)?;
+        writeln!(f, "echoed, by type: {:?}", self.echoed)?;
         writeln!(f, "timers accepted: {:?}", self.timers)?;
         writeln!(f, "answers of replayed words: {:?}", self.replayed)?;
         writeln!(f, "answers of words in lists: {:?}", self.listed)?;

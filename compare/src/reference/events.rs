@@ -12,7 +12,8 @@ pub enum Event {
     Notice(usize, usize),
     Contact(usize, usize),
     Timer(usize, u32),
-    Deliver(usize),
+    /// Whether it is an echo: the message stays in its position.
+    Deliver(usize, bool),
     Lose(usize),
 }
 
@@ -29,7 +30,7 @@ impl Event {
             11 => (Event::Notice(x, y), 0xFFF),
             12 => (Event::Contact(x, y), 0xFFF),
             13 if matches!(timer, 0 | 2..=4) => (Event::Timer(x, timer), 0x703F),
-            14 => (Event::Deliver(position), 0x3FF),
+            14 => (Event::Deliver(position, word >> 10 & 1 == 1), 0x7FF),
             15 => (Event::Lose(position), 0x3FF),
             _ => return Err(4),
         };
@@ -60,7 +61,7 @@ impl Place<'_> {
             Event::Notice(x, subject) => self.notice(x, subject),
             Event::Contact(x, y) => self.contact(x, y),
             Event::Timer(x, timer) => self.timer(x, timer),
-            Event::Deliver(position) => self.deliver(position),
+            Event::Deliver(position, stays) => self.deliver(position, stays),
             Event::Lose(position) => {
                 self.in_flight(position)?;
                 self.take_out(position);
@@ -203,21 +204,38 @@ impl Place<'_> {
         Ok(())
     }
 
-    /// The room needs no test: a delivery takes one message out and sends at most one.
-    fn deliver(&mut self, position: usize) -> Result<(), u32> {
+    /// Where the message stays the answer needs room; else one is taken out, and at most one sent.
+    fn deliver(&mut self, position: usize, stays: bool) -> Result<(), u32> {
         self.in_flight(position)?;
         let message = self.message(position);
         let x = message.receiver;
         if !self.is_running(x) {
-            self.take_out(position);
+            if !stays {
+                self.take_out(position);
+            }
             return Ok(());
         }
         self.clock_can_rise(x)?;
         let view = self.view(position);
-        self.take_out(position);
+        if stays {
+            self.room_for(self.answers(message) as u32)?;
+        } else {
+            self.take_out(position);
+        }
         let now = self.tick(x);
         self.receive(message, view, now);
         Ok(())
+    }
+
+    /// Whether the message's receiver, which runs, sends one on it.
+    fn answers(&self, message: Message) -> bool {
+        let (x, subject) = (message.receiver, message.subject as usize);
+        match message.kind {
+            1 | 3 | 5 | 7 => true,
+            9 => self.holds(x, subject),
+            11 => subject != x && self.held(x) != 0,
+            _ => false,
+        }
     }
 
     fn receive(&mut self, message: Message, view: u64, now: u32) {
