@@ -35,7 +35,7 @@ fn spelt(e: Event) -> u64 {
         Event::Notice(x, z) => digits(EventWord::NOTICE, x.0 as u16, z.0 as u16),
         Event::Contact(x, y) => digits(EventWord::CONTACT, x.0 as u16, y.0 as u16),
         Event::Timer(x, k) => digits(EventWord::TIMER, x.0 as u16, k as u16),
-        Event::Deliver(i) => digits(EventWord::DELIVER, i, 0),
+        Event::Deliver(i, echo) => digits(EventWord::DELIVER, i, word_ring::mark(echo) as u16),
         Event::Lose(i) => digits(EventWord::LOSE, i, 0),
     }
 }
@@ -61,7 +61,7 @@ fn event_of(command: Command) -> Event {
         EventWord::NOTICE => Event::Notice(x, other),
         EventWord::CONTACT => Event::Contact(x, other),
         EventWord::TIMER => Event::Timer(x, other.0),
-        EventWord::DELIVER => Event::Deliver(position),
+        EventWord::DELIVER => Event::Deliver(position, command.c % 2 == 1),
         EventWord::LOSE => Event::Lose(position),
         _ => Event::On(x),
     }

@@ -148,7 +148,7 @@ fn event(script: u64, place: u64) -> Event
         2 => Event::Notice(x, y),
         3 => Event::Contact(x, y),
         4 => Event::Timer(x, (position % 8) as u8),
-        5 => Event::Deliver(position),
+        5 => Event::Deliver(position, y.0 % 2 == 1),
         _ => Event::Lose(position),
     }
 }
