@@ -58,7 +58,7 @@ enum mekvalgs_kind {
     MEKVALGS_NOTICE = 11,  /* the node releases the other one, which is then no candidate either */
     MEKVALGS_CONTACT = 12,
     MEKVALGS_TIMER = 13,   /* 0, 2, 3 or 4: 0 invites candidates, then asks each held node */
-    MEKVALGS_DELIVER = 14,
+    MEKVALGS_DELIVER = 14, /* bit 10 set: an echo, it leaves the message in its position */
     MEKVALGS_LOSE = 15
 };
 
@@ -129,13 +129,13 @@ uint32_t mekvalgs_route(const uint32_t *words, uint64_t length, uint32_t start, 
                         uint64_t places, uint32_t *end, uint32_t *hops);
 
 /* The event of a word as three numbers: its kind; its node, or of deliver and lose the position; the other node of
- * notice and contact, the timer of timer (0, 2, 3 or 4), 1 of an off that is polite, else 0. Answers 0, 4, 5; all three
- * are 0 where refused. */
+ * notice and contact, the timer of timer (0, 2, 3 or 4), 1 of an off that is polite and of a deliver that is an echo,
+ * else 0. Answers 0, 4, 5; all three are 0 where refused. */
 uint32_t mekvalgs_read_event(uint32_t word, uint32_t *kind, uint32_t *first, uint32_t *second);
 
 /* The word of the event with these three numbers. Answers 0, 4 (also where a kind without a third number is given
- * one that is not 0, off one that is neither 0 nor 1, and timer one that is none of 0, 2, 3 and 4), 5; the word is 0
- * where refused. */
+ * one that is not 0, off or deliver one that is neither 0 nor 1, and timer one that is none of 0, 2, 3 and 4), 5; the
+ * word is 0 where refused. */
 uint32_t mekvalgs_write_event(uint32_t kind, uint32_t first, uint32_t second, uint32_t *word);
 
 /* The words of a ring, for reading between calls.
@@ -200,12 +200,12 @@ uint32_t mekvalgs_write_event(uint32_t kind, uint32_t first, uint32_t second, ui
  *
  * A buffer is a whole ring: all its nodes, and all messages in flight between them. An accepted contact, timer, polite
  * off or deliver puts its new messages at the end. Deliver and lose take one out, and those behind it move down one
- * position. So after the first three the new messages are those from the old m on, after a deliver those from the old
- * m - 1.
+ * position; an echo takes none out. So after the first three and after an echo the new messages are those from the old m
+ * on, after another deliver those from the old m - 1.
  *
  * A program that keeps the ring and has a radio carry its messages reads the five words of each new one, sends them,
- * and leaves them where they are. When the message has arrived it plays deliver at the position that it has by then;
- * when it is given up, lose. Nothing but calls writes the ring, and so all of docs/PROMISES.md holds, with "Demand 3":
+ * and leaves them where they are. When the message has arrived it plays deliver at the position that it has by then, an
+ * echo if it can arrive once more; when it is given up, lose. Nothing but calls writes the ring, and so all of docs/PROMISES.md holds, with "Demand 3":
  * which nodes stay connected over a whole list of events.
  *
  * No call puts in a message from outside. A stand with a buffer of its own, in which only its own node runs, has to
