@@ -200,13 +200,13 @@ uint32_t mekvalgs_write_event(uint32_t kind, uint32_t first, uint32_t second, ui
  *
  * A buffer is a whole ring: all its nodes, and all messages in flight between them. An accepted contact, timer, polite
  * off or deliver puts its new messages at the end. Deliver and lose take one out, and those behind it move down one
- * position; an echo takes none out. So after the first three and after an echo the new messages are those from the old m
- * on, after another deliver those from the old m - 1.
+ * position; an echo takes none out. So after the first three and after an echo the new messages are those from the old
+ * m on, after another deliver those from the old m - 1.
  *
  * A program that keeps the ring and has a radio carry its messages reads the five words of each new one, sends them,
  * and leaves them where they are. When the message has arrived it plays deliver at the position that it has by then, an
- * echo if it can arrive once more; when it is given up, lose. Nothing but calls writes the ring, and so all of docs/PROMISES.md holds, with "Demand 3":
- * which nodes stay connected over a whole list of events.
+ * echo if it can arrive once more; when it is given up, lose. Nothing but calls writes the ring, and so all of
+ * docs/PROMISES.md holds, with "Demand 3": which nodes stay connected over a whole list of events.
  *
  * No call puts in a message from outside. A stand with a buffer of its own, in which only its own node runs, has to
  * write them by hand. It opens with the same A, B and keys as the others, plays events at its own node only, sends the
