@@ -15,7 +15,8 @@ returns c =
     let at-test = c .before .before .before .before .before in
     let after-open = at-test .before .before .before .before in
     let answer = after-open .open-script in
-    let entry = after-open .before .before .before .before .before .before .before .before in
+    let at-lent = after-open .before .before .before .before in
+    let entry = at-lent .before .before .before .before in
     refused-script _ _ (answer .result) (answer .ensures) (at-test .before .number .ensures) _ (at-test .if1 .taken) (entry .pre .0)
     (c .before .before .before .put-no-ring .ensures .0) (c .ended .ensures)
 
@@ -35,19 +36,22 @@ play-requires c κs =
     let at-test = after-new .before .before .before in
     let after-open = at-test .before .before .before .before in
     let answer = after-open .open-script in
-    let pre = after-open .before .before .before .before .before .before .before .before .pre in
+    let at-lent = after-open .before .before .before .before in
+    let pre = at-lent .before .before .before .before .pre in
     let new = after-new .new .ensures in
     let o = opened-ring _ _ (answer .result) (answer .ensures) (at-test .before .number .ensures) (at-test .if1 .left) in
     (begins-held _ _ o (pre .0 .1) (pre .0 .2) (new .0 .1) (new .1), (simp (length-take, length-drop) (omega arith), search needs, begins-count (new .0 .1)))
 
 returns-2 : tie.Need-returns-2
 returns-2 c =
-    let after-play = c .before .before .before .before .before .before .before .before in
+    let given-back = c .before .before .before .before in
+    let after-play = given-back .before .before .before .before in
     let after-new = after-play .before .before .before .before .before .before in
     let at-test = after-new .before .before .before in
     let after-open = at-test .before .before .before .before in
     let answer = after-open .open-script in
-    let entry = after-open .before .before .before .before .before .before .before .before in
+    let at-lent = after-open .before .before .before .before in
+    let entry = at-lent .before .before .before .before in
     let new = after-new .new .ensures in
     let o = opened-ring _ _ (answer .result) (answer .ensures) (at-test .before .number .ensures) (at-test .if1 .left) in
     first-played _ _ o (entry .pre .0 .1) (entry .pre .0 .2) (new .0 .1) (new .1) _

@@ -32,7 +32,9 @@ take-out-requires c κs =
 
 write-node-requires : tie.Need-write-node-requires
 write-node-requires c κs =
-    let at-nodes = c .before .before .before .before .before .before .before .before .before .before .before in
+    let at-out = c .before .before .before in
+    let at-messages = at-out .before .before .before .before .before .before in
+    let at-nodes = at-messages .before .before in
     let start = at-nodes .before .before .before in
     let ws : List ℕ = start .args .words .now in
     let w = start .pre in
@@ -42,7 +44,8 @@ write-node-requires c κs =
 
 send-requires : tie.Need-send-requires
 send-requires c κs =
-    let at-out = c .before .before .before .before .before .before .before in
+    let at-node = c .before .before .before in
+    let at-out = at-node .before .before .before .before in
     let at-messages = at-out .before .before .before .before .before .before in
     let at-nodes = at-messages .before .before in
     let start = at-nodes .before .before .before in
@@ -57,7 +60,8 @@ send-requires c κs =
 
 send-requires-2 : tie.Need-send-requires-2
 send-requires-2 c κs =
-    let at-node = c .before .before .before .before .before .before .before in
+    let at-first = c .before .before .before in
+    let at-node = at-first .before .before .before .before in
     let at-out = at-node .before .before .before .before in
     let at-messages = at-out .before .before .before .before .before .before in
     let at-nodes = at-messages .before .before in
@@ -68,7 +72,7 @@ send-requires-2 c κs =
     let ring = read-is ws (w .fits .reads) _ _ (at-nodes .nodes .ensures .0) (at-messages .messages .ensures .0) in
     let out = at-out .take-out .ensures (decode ws) _ ring in
     let node = node-written ws (start .args .change) w (at-node .write-node .ensures _ _ out) refl in
-    let first = c .before .before .before .send .ensures _ _ node in (
+    let first = at-first .send .ensures _ _ node in (
       (search needs, omega (arith, few ws (w .fits .reads), w .fits .member), w .fits .time-room, second-room ws (start .args .change) w first),
       (w .fits .own-room, w .fits .second-fits),
     )

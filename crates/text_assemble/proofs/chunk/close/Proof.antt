@@ -8,12 +8,13 @@ use Rattle.text_assemble.proofs.chunk.close.Tie as tie
 
 put-step-requires : tie.Need-put-step-requires
 put-step-requires c κs =
-    let at-read-byte = c .before .before .before .before .before .before .before .before .before in
+    let at-closed = c .before .before .before in
+    let at-read-byte = at-closed .before .before .before .before .before .before in
     let entry = at-read-byte .before .before .before .before .before in
     let pre = entry .pre in
     let l = line-read (pre .0) (pre .1) (at-read-byte .read-byte .ensures) in
     let s = closed-bounded (at-read-byte .read-byte .result .reader) (l .bounded) in
-    rw (c .before .before .before .closed .ensures) (
+    rw (at-closed .closed .ensures) (
       s .reader,
       s .given,
       l .bounded-keys,
@@ -24,12 +25,13 @@ put-step-requires c κs =
 
 returns : tie.Need-returns
 returns c =
-    let at-closed = c .before .before .before .before .before .before .before .before in
+    let at-put = c .before .before .before .before in
+    let at-closed = at-put .before .before .before .before in
     let at-read-byte = at-closed .before .before .before .before .before .before in
     let entry = at-read-byte .before .before .before .before .before in
     let pre = entry .pre in
     text-ended (pre .0) (pre .1) (at-read-byte .read-byte .ensures)
-    (rw (at-closed .closed .ensures) at (c .before .before .before .before .put-step .ensures))
+    (rw (at-closed .closed .ensures) at (at-put .put-step .ensures))
 
 pub close-spec : {M : Type 1} → statement M
 close-spec =

@@ -14,8 +14,9 @@ put-step-requires c κs =
 
 returns : tie.Need-returns
 returns c =
-    let at-byte-read = c .before .before .before .before .before .before .before .before in
-    rw (at-byte-read .byte-read .ensures) at (c .before .before .before .before .put-step .ensures)
+    let at-put = c .before .before .before .before in
+    let at-byte-read = at-put .before .before .before .before in
+    rw (at-byte-read .byte-read .ensures) at (at-put .put-step .ensures)
 
 pub read-byte-spec : {M : Type 1} → statement M
 read-byte-spec =

@@ -29,8 +29,9 @@ read-byte-requires c κs =
 
 loop-again : tie.Need-loop-again Inv-loop μ-loop
 loop-again c =
-    let at-loop = c .before .before .before .before .before .before .before .before .before .before in
-    (at-loop .loop .inv .0, more-read (at-loop .loop .inv .1) (search needs) (c .before .before .before .before .read-byte .ensures))
+    let at-read-byte = c .before .before .before .before in
+    let at-loop = at-read-byte .before .before .before .before .before .before in
+    (at-loop .loop .inv .0, more-read (at-loop .loop .inv .1) (search needs) (at-read-byte .read-byte .ensures))
 
 same-length : tie.Need-same-length Inv-loop μ-loop
 same-length c =

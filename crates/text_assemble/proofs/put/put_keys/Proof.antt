@@ -35,16 +35,17 @@ put-word-requires c κs = omega (arith, c .before .before .before .before .loop 
 
 loop-again : tie.Need-loop-again Inv-loop μ-loop
 loop-again c =
-    let at-loop = c .before .before .before .before .before .before .before in
+    let at-new = c .before .before .before .before in
+    let at-loop = at-new .before .before .before in
     let entry = at-loop .before .before .before in
     let l = at-loop .loop in
     let w = c .before .before .put-word .ensures in
     let long = entry .pre .0 .long in (
       search needs,
-      omega (arith, l .inv .1, w .ends, word-length (c .before .before .before .before .new .result .0)),
+      omega (arith, l .inv .1, w .ends, word-length (at-new .new .result .0)),
       put-as (put-more (l .inv .2) w)
-          (keys-more (entry .args .keys .now) (l .i) (c .before .before .before .before .new .result .0) (omega arith)
-          (c .before .before .before .before .new .ensures)),
+          (keys-more (entry .args .keys .now) (l .i) (at-new .new .result .0) (omega arith)
+          (at-new .new .ensures)),
     )
 
 same-length : tie.Need-same-length Inv-loop μ-loop
