@@ -29,4 +29,6 @@ pub mod Amended
 pub mod Routes
 pub mod Previews
 pub mod Echoes
+pub mod ScreenRows
+pub mod Screens
 pub mod Theorems

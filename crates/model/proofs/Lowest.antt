@@ -8,8 +8,8 @@ use Rattle.model.specs.Ring.{Ring}
 use Rattle.model.specs.Words.{decode}
 use Rattle.model.specs.Events.{eventOf, eventRefusals, eventAnswer, wordRefusals, wordAnswer}
 use Rattle.model.specs.Play.{stateRefusals}
-use Rattle.model.specs.Buffer.{ringRefusals, openRefusals, openAnswer, playRefusals, bufferAnswer}
-use Rattle.model.specs.Questions.{leafsetRefusals, leafsetAnswer, connectionRefusals, connectionAnswer, groupsAnswer}
+use Rattle.model.specs.Buffer.{ringRefusals, ringAnswer, openRefusals, openAnswer, playRefusals, bufferAnswer}
+use Rattle.model.specs.Questions.{leafsetRefusals, leafsetAnswer, connectionRefusals, connectionAnswer}
 use Rattle.model.specs.Route.{routeRefusals, routeAnswer}
 use Rattle.model.specs.Preview.{previewRefusals, previewAnswer}
 use Rattle.model.specs.Bench.{scriptRefusals, scriptAnswer}
@@ -55,9 +55,9 @@ pub lowest-at-connection : (ws : List ℕ) (a b : ℕ) → LowestOf (connectionR
 unfolding connectionAnswer
 lowest-at-connection ws a b = lowest-given 0 (connectionRefusals ws a b) refl
 
-pub lowest-at-groups : (ws : List ℕ) → LowestOf (ringRefusals ws) (groupsAnswer ws)
-unfolding groupsAnswer
-lowest-at-groups ws = lowest-given 0 (ringRefusals ws) refl
+pub lowest-at-ring : (ws : List ℕ) → LowestOf (ringRefusals ws) (ringAnswer ws)
+unfolding ringAnswer
+lowest-at-ring ws = lowest-given 0 (ringRefusals ws) refl
 
 pub lowest-at-routing : (ws : List ℕ) (start key : ℕ) (list : List ℕ) → LowestOf (routeRefusals ws start key list) (routeAnswer ws start key list)
 unfolding routeAnswer

@@ -1,7 +1,7 @@
 -- The theorems about the definitions, by name. Each says its sentence; the argument is in the module that is cited.
 use mathlib.Core.Path.{_≡_, sym, ap, _∙_}
 use mathlib.Core.Logic.{_↔_, _⊎_}
-use Prim.Native.Nat.{ℕ, suc, _+_, _-_, _≤_, _<_}
+use Prim.Native.Nat.{ℕ, suc, _+_, _-_, _*_, _≤_, _<_}
 use mathlib.Core.Bool.{Bool, true, false, _&&_}
 use mathlib.Core.List.{List, [], _∷_}
 use lib.Dec.{ltb}
@@ -22,6 +22,7 @@ use Rattle.model.specs.Buffer.{openBuffer, playBuffer, playBufferAll}
 use Rattle.model.specs.Questions.{leafsetOf}
 use Rattle.model.specs.Route.{nextOf, goesOn, route, Converged, routeAnswer, routeBuffer}
 use Rattle.model.specs.Preview.{previewBuffer, Call, PreviewsChangeNothing}
+use Rattle.model.specs.Screens.{conductorOf, messagesOf, Alike}
 use Rattle.model.specs.Connection.{Connected, connected, groups, CountsGroups}
 use Rattle.model.specs.ConnectivityPreserved.{Reached, opened, Unbroken, ConnectivityPreserved}
 use Rattle.model.specs.declared.event.Event.{Event}
@@ -45,9 +46,11 @@ use Rattle.model.proofs.Routes as routes
 use Rattle.model.proofs.Previews as previewed
 use Rattle.model.proofs.Echoes.{EchoLeaves, AlikeButFull}
 use Rattle.model.proofs.Echoes as echoes
+use Rattle.model.proofs.Screens as screens
 use Rattle.model.proofs.ConnectivityPreserved as preserved
 -- "The lowest number that applies is given, and none otherwise", at each call: their statements are in Lowest
-pub use Rattle.model.proofs.Lowest.{lowest-at-writing, lowest-at-reading, lowest-at-opening, lowest-at-playing, lowest-at-previewing, lowest-at-leafset, lowest-at-connection, lowest-at-groups, lowest-at-routing, lowest-at-script}
+pub use Rattle.model.proofs.Lowest.{lowest-at-writing, lowest-at-reading, lowest-at-opening, lowest-at-playing, lowest-at-previewing}
+pub use Rattle.model.proofs.Lowest.{lowest-at-leafset, lowest-at-connection, lowest-at-ring, lowest-at-routing, lowest-at-script}
 
 -- ---- event words
 
@@ -246,6 +249,21 @@ echo-answers r i h = echoes.echo-answers r i h
 -- an echo to a node that is off leaves the ring
 pub echo-to-off : (r : Ring) (i : ℕ) → isRunning r (messageAt r i .receiver) ≡ false → after r (Deliver i true) ≡ r
 echo-to-off r i off = echoes.echo-to-off r i off
+
+-- ---- screens
+
+-- "The conductor's answer must be alike for any two valid rings that agree in A, B, table, running marks and held sets."
+pub alike-shows-alike : (ws vs : List ℕ) → readsAsRing ws ≡ true → readsAsRing vs ≡ true → Alike (decode ws) (decode vs) → conductorOf ws ≡ conductorOf vs
+alike-shows-alike ws vs e f a = screens.alike-shows-alike ws vs e f a
+
+-- and it shows no less: rings whose screens are alike agree in A, B, table and running marks
+pub screen-tells : (ws vs : List ℕ) → readsAsRing ws ≡ true → readsAsRing vs ≡ true → conductorOf ws ≡ conductorOf vs
+    → (decode ws .table ≡ decode vs .table) × ((x : ℕ) → isRunning (decode ws) x ≡ isRunning (decode vs) x)
+screen-tells ws vs e f p = screens.screen-tells ws vs e f p
+
+-- "exactly 5 times m of them"
+pub messages-many : (ws : List ℕ) → readsAsRing ws ≡ true → length (messagesOf ws) ≡ 5 * length (decode ws .messages)
+messages-many ws e = screens.messages-many ws e
 
 -- ---- demand 3
 

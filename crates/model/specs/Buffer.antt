@@ -25,6 +25,9 @@ notARing ws = record { number = 6; applies = not (readsAsRing ws) }
 abbrev pub ringRefusals : List ℕ → List Refusal
 ringRefusals ws = wrongLength ws ∷ notARing ws ∷ []
 
+unfoldable pub ringAnswer : List ℕ → ℕ
+ringAnswer ws = firstOf (ringRefusals ws)
+
 -- "2. Opening: n or [A or B] out of range."
 abbrev pub outOfRange : Table → Refusal
 outOfRange t = record { number = 2; applies = not (inRange t) }

@@ -19,3 +19,4 @@ pub mod Bench
 pub mod Structs
 pub mod Route
 pub mod Preview
+pub mod Screens

@@ -8,7 +8,7 @@ use Rattle.model.specs.Leafset.{leafset}
 use Rattle.model.specs.Ring.{Ring, holds}
 use Rattle.model.specs.Answers.{Refusal, firstOf, isAccepted}
 use Rattle.model.specs.Words.{decode}
-use Rattle.model.specs.Buffer.{ringRefusals}
+use Rattle.model.specs.Buffer.{ringRefusals, ringAnswer}
 use Rattle.model.specs.Play.{noNode, nodeOff}
 use Rattle.model.specs.Connection.{connected, groups}
 
@@ -37,10 +37,6 @@ connectionAnswer ws a b = firstOf (connectionRefusals ws a b)
 unfoldable pub connectionOf : List ℕ → ℕ → ℕ → Bool
 connectionOf ws a b = if isAccepted (connectionAnswer ws a b) then connected (decode ws) a b else false
 
--- about the ring as a whole: refusals 1 and 6
-unfoldable pub groupsAnswer : List ℕ → ℕ
-groupsAnswer ws = firstOf (ringRefusals ws)
-
--- "the number of connected groups of running stands"; 0 where refused
+-- "the number of connected groups of running stands"; about the ring as a whole, 0 where refused
 unfoldable pub groupsOf : List ℕ → ℕ
-groupsOf ws = if isAccepted (groupsAnswer ws) then groups (decode ws) else 0
+groupsOf ws = if isAccepted (ringAnswer ws) then groups (decode ws) else 0

@@ -3,4 +3,5 @@ pub mod answer;
 pub mod event;
 pub mod message;
 pub mod node;
+pub mod screen;
 pub mod values;
