@@ -20,7 +20,8 @@ use Rattle.model.specs.Words.{isPair, pairPlace, decodeTable, decodeOwn, decode
 use Rattle.model.specs.Fields.{bit, flag}
 use Rattle.model.specs.Answers.{firstOf}
 use Rattle.model.specs.Connection.{groups}
-use Rattle.model.specs.Questions.{groupsAnswer, groupsOf}
+use Rattle.model.specs.Buffer.{ringAnswer}
+use Rattle.model.specs.Questions.{groupsOf}
 use Rattle.model.specs.Bench.{nodeLine}
 use Rattle.model.specs.declared.node.NodeRecord.{NodeRecord}
 use Rattle.model.proofs.Laws.{and-left, and-right, count-le}
@@ -98,7 +99,7 @@ module _ (ws : List ℕ) (reads : readsAsRing ws ≡ true) where
   few = read-sizes ws reads .nodes-high
 
   groups-are : groupsOf ws ≡ groups (decode ws)
-  unfolding groupsOf groupsAnswer firstOf
+  unfolding groupsOf ringAnswer firstOf
   groups-are = rw (eq-eqb (length ws) ringLength long, reads)
 
   pub end-of-ring : {n g : ℕ} → n ≡ size (decodeTable ws) → g ≡ groupsOf ws → linesBytes (tabulate n (nodeLine (decode ws))) ++ groupsBytes g ≡ endBytes (decode ws)

@@ -12,15 +12,14 @@ use lib.Seq.{take-length, getD-set-same, getD-set-other}
 use Rattle.model.specs.Leafset.{Table}
 use Rattle.model.specs.Answers.{numberOf, firstOf, isAccepted}
 use Rattle.model.specs.Words.{readsAsRing}
-use Rattle.model.specs.Buffer.{ringRefusals, Written, openBuffer, playBuffer, playBufferAll}
-use Rattle.model.specs.Questions.{groupsAnswer}
+use Rattle.model.specs.Buffer.{ringRefusals, ringAnswer, Written, openBuffer, playBuffer, playBufferAll}
 use Rattle.model.specs.ConnectivityPreserved.{wordsAt, answerAt}
 use Rattle.model.specs.declared.answer.Answer.{Answer}
 use Rattle.model.proofs.Laws.{clash}
 use Rattle.model.proofs.Theorems.{opening-reads, playing-reads, refused-opening, connectivity-preserved, opening-preserves}
 use Rattle.answers.specs.Applied.{written}
 use Rattle.answers.proofs.Answered.{refuses, accepts}
-use Rattle.call_refusals.proofs.Refused.{groups-reads}
+use Rattle.call_refusals.proofs.Refused.{ring-reads}
 use Rattle.call_play.specs.Replay.{AnswersPlaced, replayBuffer, Replayed, PlayedAll, PlayedUpTo}
 
 -- the words at the next point
@@ -73,9 +72,9 @@ one-more a {n} {ws} {script} {u = u} {ws' = ws'} p h e =
 
 -- ---- a script on a ring that is there, by the answer of its words
 
-module _ (ws : List ℕ) (r : Answer) (asked : numberOf r ≡ groupsAnswer ws) where
+module _ (ws : List ℕ) (r : Answer) (asked : numberOf r ≡ ringAnswer ws) where
   of-buffer : numberOf r ≡ firstOf (ringRefusals ws)
-  unfolding groupsAnswer
+  unfolding ringAnswer
   of-buffer = asked
 
   pub none-read : (script answers : List ℕ) → isAccepted (numberOf r) ≡ false → PlayedAll ws script answers (numberOf r) ws answers
@@ -91,7 +90,7 @@ module _ (ws : List ℕ) (r : Answer) (asked : numberOf r ≡ groupsAnswer ws) w
 
   module _ (ok : numberOf r ≡ 0) where
     pub read-as-ring : readsAsRing ws ≡ true
-    read-as-ring = groups-reads ws (sym asked ∙ ok)
+    read-as-ring = ring-reads ws (sym asked ∙ ok)
 
     pub all-played : {script answers ws' answers' : List ℕ} → PlayedUpTo (length script) ws script answers ws' answers' → PlayedAll ws script answers (numberOf r) ws' answers'
     all-played {script} p =

@@ -10,7 +10,8 @@ use Rattle.model.specs.Ring.{holds}
 use Rattle.model.specs.Connection.{Connected, connected, groups}
 use Rattle.model.specs.Answers.{isAccepted}
 use Rattle.model.specs.Words.{decode}
-use Rattle.model.specs.Questions.{leafsetOf, connectionAnswer, connectionOf, groupsAnswer, groupsOf}
+use Rattle.model.specs.Buffer.{ringAnswer}
+use Rattle.model.specs.Questions.{leafsetOf, connectionAnswer, connectionOf, groupsOf}
 use Rattle.model.proofs.Laws.{clash}
 use Rattle.model.proofs.Theorems.{connected-decides}
 use Rattle.call_refusals.proofs.Passed.{connection-reads, node-twice}
@@ -18,11 +19,11 @@ use Rattle.call_refusals.proofs.Passed.{connection-reads, node-twice}
 module _ (ws : List ℕ) where
   -- ---- the number of groups
 
-  pub groups-refused : isAccepted (groupsAnswer ws) ≡ false → 0 ≡ groupsOf ws
+  pub groups-refused : isAccepted (ringAnswer ws) ≡ false → 0 ≡ groupsOf ws
   unfolding groupsOf
   groups-refused n = rw n
 
-  pub groups-given : groupsAnswer ws ≡ 0 → {v : ℕ} → v ≡ groups (decode ws) → v ≡ groupsOf ws
+  pub groups-given : ringAnswer ws ≡ 0 → {v : ℕ} → v ≡ groups (decode ws) → v ≡ groupsOf ws
   unfolding groupsOf
   groups-given a e = rw (a, e)
 

@@ -6,8 +6,8 @@ ghost use Rattle.model.specs.Sets.{toBits};
 ghost use Rattle.model.specs.Ring.{holds};
 ghost use Rattle.model.specs.Answers.{numberOf};
 ghost use Rattle.model.specs.Words.{decodeTable, decode, readsAsRing};
-ghost use Rattle.model.specs.Questions.{leafsetAnswer, leafsetOf, connectionAnswer, connectionOf};
-ghost use Rattle.model.specs.Questions.{groupsAnswer, groupsOf};
+ghost use Rattle.model.specs.Questions.{leafsetAnswer, leafsetOf, connectionAnswer, connectionOf, groupsOf};
+ghost use Rattle.model.specs.Buffer.{ringAnswer};
 ghost use Rattle.model.specs.Connection.{Connected};
 ghost use Rattle.model.specs.Leafset as model;
 use leafset::leafset;
@@ -73,7 +73,7 @@ pub fn connected(words: &[u32], a: NodeNumber, b: NodeNumber) -> ConnectionAnswe
 
 // "the number of connected groups of running stands"
 pub fn groups(words: &[u32]) -> GroupsAnswer
-    ensures answer { λ r. ⌜ numberOf (r .answer) ≡ groupsAnswer (now (words .entry)) ⌝ }
+    ensures answer { λ r. ⌜ numberOf (r .answer) ≡ ringAnswer (now (words .entry)) ⌝ }
     ensures groups { λ r. ⌜ r .groups ≡ groupsOf (now (words .entry)) ⌝ }
 {
     let answer = call_refusals::of_words(words);

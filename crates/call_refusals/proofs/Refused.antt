@@ -8,8 +8,8 @@ use Rattle.model.specs.Answers.{firstOf, isAccepted}
 use Rattle.model.specs.Words.{decodeNode, decode, readsAsRing}
 use Rattle.model.specs.WellFormed.{Each, nil, cons}
 use Rattle.model.specs.Play.{nodeOff}
-use Rattle.model.specs.Buffer.{ringRefusals}
-use Rattle.model.specs.Questions.{nodesRefusals, connectionAnswer, groupsAnswer}
+use Rattle.model.specs.Buffer.{ringRefusals, ringAnswer}
+use Rattle.model.specs.Questions.{nodesRefusals, connectionAnswer}
 use Rattle.model.proofs.Laws.{not-out-false}
 use Rattle.model.proofs.Lists.{first, rest}
 use Rattle.model.proofs.Answers.{none-applies, stays, passes}
@@ -17,13 +17,13 @@ use Rattle.model.proofs.Answers.{none-applies, stays, passes}
 module _ (ws : List ℕ) where
   -- ---- refusals 1 and 6 come first
 
-  module _ (a : groupsAnswer ws ≡ 0) where
-    none-of-groups : Each (λ q. q .applies ≡ false) (ringRefusals ws)
-    unfolding groupsAnswer
-    none-of-groups = none-applies (ringRefusals ws) (cons refl (cons refl nil)) a
+  module _ (a : ringAnswer ws ≡ 0) where
+    none-applies-here : Each (λ q. q .applies ≡ false) (ringRefusals ws)
+    unfolding ringAnswer
+    none-applies-here = none-applies (ringRefusals ws) (cons refl (cons refl nil)) a
 
-    pub groups-reads : readsAsRing ws ≡ true
-    groups-reads = not-out-false (readsAsRing ws) (first (rest none-of-groups))
+    pub ring-reads : readsAsRing ws ≡ true
+    ring-reads = not-out-false (readsAsRing ws) (first (rest none-applies-here))
 
   module _ (x y : ℕ) where
     -- ---- 8 for either of two nodes
@@ -44,10 +44,10 @@ module _ (ws : List ℕ) where
 
     -- ---- the questions about two nodes
 
-    pub refused-words : {a : ℕ} → a ≡ groupsAnswer ws → isAccepted (groupsAnswer ws) ≡ false → a ≡ connectionAnswer ws x y
-    unfolding groupsAnswer connectionAnswer
+    pub refused-words : {a : ℕ} → a ≡ ringAnswer ws → isAccepted (ringAnswer ws) ≡ false → a ≡ connectionAnswer ws x y
+    unfolding ringAnswer connectionAnswer
     refused-words e n = e ∙ sym (stays (ringRefusals ws) (nodesRefusals (decode ws) x y) n)
 
-    pub after-words : {a : ℕ} → groupsAnswer ws ≡ 0 → a ≡ firstOf (nodesRefusals (decode ws) x y) → a ≡ connectionAnswer ws x y
-    unfolding groupsAnswer connectionAnswer
-    after-words g e = e ∙ sym (passes (ringRefusals ws) (nodesRefusals (decode ws) x y) (none-of-groups g))
+    pub after-words : {a : ℕ} → ringAnswer ws ≡ 0 → a ≡ firstOf (nodesRefusals (decode ws) x y) → a ≡ connectionAnswer ws x y
+    unfolding ringAnswer connectionAnswer
+    after-words g e = e ∙ sym (passes (ringRefusals ws) (nodesRefusals (decode ws) x y) (none-applies-here g))

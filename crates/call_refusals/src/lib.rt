@@ -5,7 +5,8 @@ ghost use lib.ListN.{length};
 ghost use lib.Dec.{eqb};
 ghost use Rattle.model.specs.Answers.{numberOf, firstOf};
 ghost use Rattle.model.specs.Words.{ringLength, decode, readsAsRing};
-ghost use Rattle.model.specs.Questions.{nodesRefusals, connectionAnswer, groupsAnswer};
+ghost use Rattle.model.specs.Buffer.{ringAnswer};
+ghost use Rattle.model.specs.Questions.{nodesRefusals, connectionAnswer};
 ghost use Rattle.call_refusals.specs.Admitted.{Admitted};
 use model::answer::Answer;
 use model::event::Reading;
@@ -21,7 +22,7 @@ pub fn as_long(words: &[u32]) -> bool
 
 // 1 and 6, which every question begins with.
 pub fn of_words(words: &[u32]) -> Answer
-    ensures answer { λ r. ⌜ numberOf r ≡ groupsAnswer (now (words .entry)) ⌝ }
+    ensures answer { λ r. ⌜ numberOf r ≡ ringAnswer (now (words .entry)) ⌝ }
 {
     if !as_long(words) {
         return Answer::WrongLength;

@@ -1,20 +1,23 @@
 // The calls under C's names, on numbers and slices: include/mekvalgs.h. An answer is document 01's number; what a call
 // returns beside it is written through a reference.
 ghost use mathlib.Core.Path.{_≡_};
+ghost use lib.ListN.{length};
 ghost use Rattle.model.specs.Fields.{bit};
 ghost use Rattle.model.specs.Structs.{tableOf};
-ghost use Rattle.model.specs.Buffer.{openBuffer, playBuffer};
-ghost use Rattle.model.specs.Questions.{leafsetAnswer, leafsetOf, connectionAnswer, connectionOf};
-ghost use Rattle.model.specs.Questions.{groupsAnswer, groupsOf};
+ghost use Rattle.model.specs.Buffer.{ringAnswer, openBuffer, playBuffer};
+ghost use Rattle.model.specs.Questions.{leafsetAnswer, leafsetOf, connectionAnswer, connectionOf, groupsOf};
 ghost use Rattle.model.specs.Words.{decode};
 ghost use Rattle.model.specs.Preview.{previewBuffer};
 ghost use Rattle.model.specs.Route.{routeBuffer};
+ghost use Rattle.model.specs.Screens.{conductorOf, technicianOf, stampsOf, sparesOf, messagesOf};
 ghost use Rattle.model.specs.Connection.{Connected};
 ghost use Rattle.model.specs.Events.{wordAnswer};
 ghost use Rattle.call_play.specs.Replay.{PlayedAll, Replayed};
 ghost use Rattle.mekvalgs_event.specs.Parts.{numbers, readParts, partsAnswer, writeParts};
 ghost use Rattle.mekvalgs.specs.Nodes.{nodeOf};
+ghost use Rattle.mekvalgs.specs.Screens.{screenIn};
 use call_open::open;
+use model::screen::ConductorScreen;
 use model::values::NodeNumber;
 
 // Writes the initial ring of A, B and the keys.
@@ -109,7 +112,7 @@ pub extern "C" fn mekvalgs_connected(words: &[u32], a: u32, b: u32, connected: &
 // The number of groups.
 #[no_mangle]
 pub extern "C" fn mekvalgs_groups(words: &[u32], groups: &mut u32) -> u32
-    ensures answer { λ r. ⌜ r ≡ groupsAnswer (now (words .entry)) ⌝ }
+    ensures answer { λ r. ⌜ r ≡ ringAnswer (now (words .entry)) ⌝ }
     ensures groups { λ r. ⌜ now (groups .exit) ≡ groupsOf (now (words .entry)) ⌝ }
 {
     let asked = call_questions::groups(words);
@@ -141,6 +144,108 @@ pub extern "C" fn mekvalgs_route(
     *hops = routed.hops;
     let answer = routed.answer;
     answers::number(answer)
+}
+
+// The conductor's screen.
+#[no_mangle]
+pub extern "C" fn mekvalgs_conductor(
+    words: &[u32],
+    clockwise: &mut u32,
+    counter_clockwise: &mut u32,
+    nodes: &mut u32,
+    running: &mut u64,
+    keys: &mut [u32; 64],
+    leafsets: &mut [u64; 64],
+) -> u32
+    ensures answer { λ r. ⌜ r ≡ ringAnswer (now (words .entry)) ⌝ }
+    ensures screen { λ _. ⌜ screenIn (now (clockwise .exit)) (now («counter_clockwise» .exit)) (now (nodes .exit))
+        (now (running .exit)) (now (keys .exit)) (now (leafsets .exit)) ≡ conductorOf (now (words .entry)) ⌝ }
+{
+    let shown = call_screens::conductor(words);
+    let screen = shown.screen;
+    put_screen(
+        screen,
+        clockwise,
+        counter_clockwise,
+        nodes,
+        running,
+        keys,
+        leafsets,
+    );
+    let answer = shown.answer;
+    answers::number(answer)
+}
+
+// The technician's screen, but for the messages.
+#[no_mangle]
+pub extern "C" fn mekvalgs_technician(
+    words: &[u32],
+    clockwise: &mut u32,
+    counter_clockwise: &mut u32,
+    nodes: &mut u32,
+    running: &mut u64,
+    keys: &mut [u32; 64],
+    leafsets: &mut [u64; 64],
+    candidates: &mut [u64; 64],
+    stamps: &mut [u32; 4096],
+    spares: &mut [u8; 4096],
+) -> u32
+    ensures answer { λ r. ⌜ r ≡ ringAnswer (now (words .entry)) ⌝ }
+    ensures shown { λ _. ⌜ (record {
+      conductor = screenIn (now (clockwise .exit)) (now («counter_clockwise» .exit)) (now (nodes .exit))
+          (now (running .exit)) (now (keys .exit)) (now (leafsets .exit));
+      candidates = now (candidates .exit);
+    } ≡ technicianOf (now (words .entry)))
+        × (now (stamps .exit) ≡ stampsOf (now (words .entry)))
+        × (now (spares .exit) ≡ sparesOf (now (words .entry))) ⌝ }
+{
+    let shown = call_screens::technician(words, stamps, spares);
+    let screen = shown.screen;
+    let conductor = screen.conductor;
+    put_screen(
+        conductor,
+        clockwise,
+        counter_clockwise,
+        nodes,
+        running,
+        keys,
+        leafsets,
+    );
+    let screen_candidates = screen.candidates;
+    *candidates = screen_candidates;
+    let answer = shown.answer;
+    answers::number(answer)
+}
+
+// How many words the messages in flight have.
+#[no_mangle]
+pub extern "C" fn mekvalgs_messages(words: &[u32]) -> u64
+    ensures length { λ r. ⌜ r ≡ length (messagesOf (now (words .entry))) ⌝ }
+{
+    call_screens::messages(words).len() as u64
+}
+
+fn put_screen(
+    screen: ConductorScreen,
+    clockwise: &mut u32,
+    counter_clockwise: &mut u32,
+    nodes: &mut u32,
+    running: &mut u64,
+    keys: &mut [u32; 64],
+    leafsets: &mut [u64; 64],
+)
+    ensures value { λ _. ⌜ screenIn (now (clockwise .exit)) (now («counter_clockwise» .exit)) (now (nodes .exit))
+        (now (running .exit)) (now (keys .exit)) (now (leafsets .exit)) ≡ screen ⌝ }
+{
+    let sides = screen.sides;
+    *clockwise = sides.ahead;
+    *counter_clockwise = sides.behind;
+    *nodes = screen.nodes;
+    *running = screen.running;
+    let screen_keys = screen.keys;
+    let screen_leafsets = screen.leafsets;
+    *keys = screen_keys;
+    *leafsets = screen_leafsets;
 }
 
 // The event of a word as three numbers, its kind first.

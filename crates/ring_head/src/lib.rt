@@ -2,6 +2,7 @@
 ghost use mathlib.Core.Path.{_≡_};
 ghost use Prim.Native.Nat.{_^_, _<_, _≤_};
 ghost use lib.ListN.{length, take};
+ghost use Rattle.model.specs.Sets.{tabulate};
 ghost use Rattle.model.specs.Leafset.{size};
 ghost use Rattle.model.specs.Words.{ringLength, decodeTable, decode};
 ghost use Rattle.model.specs.Leafset as model;
@@ -47,11 +48,12 @@ pub fn key(words: &[u32], x: NodeNumber) -> Key
     KeyWord(words[place::NODES + 2 * (x.0 as usize)]).key()
 }
 
-// The keys of the n nodes, node 0's first.
+// The keys of the n nodes, node 0's first, then zeros.
 pub fn keys(words: &[u32], n: usize) -> [u32; 64]
     requires words { ⌜ (length (now words) ≡ ringLength) × (n ≡ size (decodeTable (now words))) × (n ≤ 64) ⌝ }
     ensures places { λ r. ⌜ length r ≡ 64 ⌝ }
-    ensures keys { λ r. ⌜ take n r ≡ decodeTable (now (words .entry)) .keys ⌝ }
+    ensures keys { λ r. ⌜ (take n r ≡ decodeTable (now (words .entry)) .keys)
+        × (r ≡ tabulate 64 (model.key (decodeTable (now (words .entry))))) ⌝ }
 {
     let mut keys = [0; 64];
     for x in 0..n {

@@ -244,8 +244,8 @@ module _ (ws : List ℕ) (n x : ℕ) (size-n : n ≡ size (decodeTable ws)) (le 
   abbrev ownRecord : NodeRecord
   ownRecord = record { held = h'; candidates = c'; spare = set ps x (record { 0 = noneNode }); commit = set ss x (record { 0 = 0 }) }
 
-  pub load-all : LoadedNode ws x ownRecord
-  load-all =
+  pub load-all : c' < 2 ^ 64 → LoadedNode ws x ownRecord
+  load-all fits =
       record {
         own = λ i. record {
           held = above-all _ (decodeOwn ws x .held) h h' n x (l .held) eh (held-none ws x x self) (λ z a d. sym (held-at ws x z (pair z a d))) (λ z a. held-none ws x z (high z a)) i;
@@ -259,6 +259,7 @@ module _ (ws : List ℕ) (n x : ℕ) (size-n : n ≡ size (decodeTable ws)) (le 
           commit-long = length-set ss x _ ∙ l .commit .long;
           spare-long = length-set ps x _ ∙ l .spare .long;
         };
+        candidates-room = fits;
       }
     where
       self : isPair (decodeTable ws) x x ≡ false

@@ -5,8 +5,10 @@ use Prim.Native.Nat.{ℕ, _+_, _-_, _<_, _≤_}
 use native.Mathlib.Omega.{arith}
 use native.Mathlib.Decide.{decLt}
 use lib.ListN.{length, getD, set, take, drop, length-set, List·getD-append}
-use lib.Seq.{getD-set-same, getD-set-other, getD-take, getD-drop, getD-append-add, length-take-le}
+use lib.Seq.{getD-set-same, getD-set-other, getD-take, getD-drop, getD-append-add, length-take-le, ext-getD}
 use borrow.Rule.Slice.PartMut.{midOf, postOf, putMid, mid-len, same-len-mid}
+use Rattle.model.specs.Sets.{tabulate}
+use Rattle.model.proofs.Laws.{getD-tabulate, length-tabulate}
 use Rattle.ring_ranges.specs.Spans.{Patched}
 
 pub patched-none : (ws : List ℕ) (from : ℕ) (f : ℕ → ℕ) → Patched ws ws from from f
@@ -29,6 +31,27 @@ module _ (ws ws' : List ℕ) (from to next : ℕ) (f : ℕ → ℕ) (v : ℕ) (s
     where
       here : (i : ℕ) → i ≡ to → getD (set ws' to v) i 0 ≡ f i
       here i q = rw (q, getD-set-same ws' to v 0 (rw (s .long) l)) e
+
+-- a span and the next, as one
+pub patched-join : {ws ws' ws'' : List ℕ} {from mid to : ℕ} {f g : ℕ → ℕ} → from ≤ mid → mid ≤ to
+    → Patched ws ws' from mid f → Patched ws' ws'' mid to g → ((i : ℕ) → mid ≤ i → i < to → g i ≡ f i) → Patched ws ws'' from to f
+patched-join {mid = mid} o p s t e =
+    record {
+      long = t .long ∙ s .long;
+      low = λ i h. t .low i (omega arith) ∙ s .low i h;
+      inside = λ i h k. elim (decLt i mid) [ yes y ↦ t .low i y ∙ s .inside i h y | no y ↦ t .inside i (omega arith) k ∙ e i (omega arith) k ];
+      high = λ i h. t .high i h ∙ s .high i (omega arith);
+    }
+
+-- all places written, or as they have to be
+pub patched-all : {ws ws' : List ℕ} {to : ℕ} (many : ℕ) (f : ℕ → ℕ) → length ws ≡ many → Patched ws ws' 0 to f
+    → ((i : ℕ) → to ≤ i → i < many → getD ws i 0 ≡ f i) → ws' ≡ tabulate many f
+patched-all {ws' = ws'} {to = to} many f l s rest =
+    ext-getD 0 ws' (tabulate many f) (s .long ∙ l ∙ sym (length-tabulate f many))
+    (λ i h.
+    let k : i < many = omega (arith, s .long) in
+    elim (decLt i to) [ yes y ↦ s .inside i (omega arith) y | no y ↦ s .high i (omega arith) ∙ rest i (omega arith) k ]
+    ∙ sym (getD-tabulate f 0 many i k))
 
 -- the words from `from` up to `to + 5` moved down by five, as a slice of their own
 module _ (ws ys : List ℕ) (from to : ℕ) (o : from ≤ to) (h : to + 5 ≤ length ws) where

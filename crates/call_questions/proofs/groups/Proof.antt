@@ -3,7 +3,7 @@ use Prim.Native.Nat.{ℕ}
 use native.Mathlib.Omega.{arith}
 use Rattle.answers.proofs.Valid.{long, few}
 use Rattle.answers.proofs.Answered.{refused, accepted}
-use Rattle.call_refusals.proofs.Refused.{groups-reads}
+use Rattle.call_refusals.proofs.Refused.{ring-reads}
 use Rattle.call_questions.proofs.Asked.{groups-refused, groups-given}
 use borrow.Author.Needs.{needs}
 use Rattle.call_questions.proofs.groups.Statement.{statement}
@@ -18,13 +18,13 @@ nodes-requires : tie.Need-nodes-requires
 nodes-requires c κs =
     let ws : List ℕ = c .before .before .before .before .args .words .now in
     let words = c .before .before .of-words in
-    long ws (groups-reads ws (accepted (words .result) _ (words .ensures) (c .before .is-refusal .ensures) (c .if1 .left)))
+    long ws (ring-reads ws (accepted (words .result) _ (words .ensures) (c .before .is-refusal .ensures) (c .if1 .left)))
 
 groups-requires : tie.Need-groups-requires
 groups-requires c κs =
     let ws : List ℕ = c .before .before .before .before .before .args .words .now in
     let words = c .before .before .before .of-words in
-    let reads = groups-reads ws (accepted (words .result) _ (words .ensures) (c .before .before .is-refusal .ensures) (c .before .if1 .left)) in
+    let reads = ring-reads ws (accepted (words .result) _ (words .ensures) (c .before .before .is-refusal .ensures) (c .before .if1 .left)) in
     (long ws reads, c .nodes .ensures .0, omega (arith, few ws reads, c .nodes .ensures .0))
 
 returns-2 : tie.Need-returns-2

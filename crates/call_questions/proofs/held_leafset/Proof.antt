@@ -35,15 +35,18 @@ slice-aggregate-leafset c = sym (simp length-take (omega (arith, few (c .before 
 
 leafset-requires : tie.Need-leafset-requires
 leafset-requires c κs =
-    let ws : List ℕ = c .before .before .before .before .before .before .args .words .now in
-    let reads = c .before .before .before .before .before .before .pre .0 in (
-      held-in-table ws reads (c .before .before .before .before .before .before .args .x .0) (c .before .before .before .keys .ensures .1) (c .before .load .ensures) (c .before .before .before .before .before .before .pre .1),
+    let start = c .before .before .before .before .before .before in
+    let ws : List ℕ = start .args .words .now in
+    let reads = start .pre .0 in (
+      held-in-table ws reads (start .args .x .0) (c .before .before .before .keys .ensures .1 .0) (c .before .load .ensures) (start .pre .1),
       rw (c .before .before .sides .ensures) (table-sides-room ws),
     )
 
 returns : tie.Need-returns
 returns c =
-    held-leafset (c .before .before .before .before .before .before .before .args .words .now) (c .before .before .before .before .before .before .before .pre .0) (c .before .before .before .before .before .before .before .args .x .0) (c .before .before .before .before .keys .ensures .1) (c .before .before .load .ensures)
+    let start = c .before .before .before .before .before .before .before in
+    held-leafset (start .args .words .now) (start .pre .0) (start .args .x .0)
+    (c .before .before .before .before .keys .ensures .1 .0) (c .before .before .load .ensures)
     (c .before .before .before .sides .ensures) (c .leafset .ensures)
 
 pub held-leafset-spec : {M : Type 1} → statement M

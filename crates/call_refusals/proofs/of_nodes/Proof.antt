@@ -1,6 +1,6 @@
 use borrow.Author.Needs.{needs}
 use Rattle.answers.proofs.Answered.{refused, accepted}
-use Rattle.call_refusals.proofs.Refused.{refused-words, groups-reads, after-words}
+use Rattle.call_refusals.proofs.Refused.{refused-words, ring-reads, after-words}
 use Rattle.call_refusals.proofs.of_nodes.Statement.{statement}
 use Rattle.call_refusals.proofs.of_nodes.Tie as tie
 
@@ -14,7 +14,7 @@ returns c =
 of-ring-requires : tie.Need-of-ring-requires
 of-ring-requires c κs =
     let words = c .before .before .of-words in
-    groups-reads (c .before .before .before .before .args .words .now)
+    ring-reads (c .before .before .before .before .args .words .now)
     (accepted (words .result) _ (words .ensures) (c .before .is-refusal .ensures) (c .if1 .left))
 
 returns-2 : tie.Need-returns-2

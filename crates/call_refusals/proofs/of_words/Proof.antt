@@ -4,21 +4,21 @@ use mathlib.Core.List.{List}
 use Prim.Native.Nat.{ℕ}
 use borrow.Author.Needs.{needs}
 use borrow.Author.Tests.{eqb-true, not-true, not-false}
-use Rattle.model.specs.Questions.{groupsAnswer}
+use Rattle.model.specs.Buffer.{ringAnswer}
 use Rattle.model.proofs.Answers.{here, next, no-more}
 use Rattle.answers.proofs.Refusals.{no-ring, a-ring}
 use Rattle.call_refusals.proofs.of_words.Statement.{statement}
 use Rattle.call_refusals.proofs.of_words.Tie as tie
 
 returns : tie.Need-returns
-unfolding groupsAnswer
+unfolding ringAnswer
 returns c = sym (here _ _ (ap not (sym (c .before .as-long .ensures) ∙ not-true _ (c .if1 .taken))))
 
 reads-as-ring-requires : tie.Need-reads-as-ring-requires
 reads-as-ring-requires c κs = eqb-true _ _ (sym (c .before .as-long .ensures) ∙ not-false _ (c .if1 .left))
 
 returns-2 : tie.Need-returns-2
-unfolding groupsAnswer
+unfolding ringAnswer
 returns-2 c =
     let ws : List ℕ = c .before .before .before .before .before .args .words .now in
     sym
@@ -26,7 +26,7 @@ returns-2 c =
     ∙ here _ _ (no-ring ws (sym (c .before .reads-as-ring .ensures) ∙ not-true _ (c .if2 .taken))))
 
 returns-3 : tie.Need-returns-3
-unfolding groupsAnswer
+unfolding ringAnswer
 returns-3 c =
     let ws : List ℕ = c .before .before .before .before .before .args .words .now in
     sym

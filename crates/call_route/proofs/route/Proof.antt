@@ -51,7 +51,7 @@ walk-requires : tie.Need-walk-requires
 walk-requires c κs =
     let a = c .before .before .before .before .before .before .before .before .before .before .before .args in
     let ok = accepted (c .before .before .before .before .before .before .before .refusal .result) _ (c .before .before .before .before .before .before .before .refusal .ensures) (c .before .before .before .before .before .before .is-refusal .ensures) (c .before .before .before .before .before .if1 .left) in
-    let keys = c .before .before .before .keys .ensures .1 in
+    let keys = c .before .before .before .keys .ensures .1 .0 in
     (ready (a .words .now) (a .start .0) (a .key) (a .list .now) ok keys (c .before .before .running .ensures), (start-in (a .words .now) (a .start .0) (a .key) (a .list .now) ok keys, omega (arith, path-fits (a .words .now) (a .start .0) (a .key) (a .list .now) ok)))
 
 cast-t21 : tie.Need-cast-t21

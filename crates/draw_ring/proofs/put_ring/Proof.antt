@@ -31,7 +31,7 @@ slice-aggregate-put-keyed c = sym (simp length-take (omega (arith, few _ (c .bef
 put-keyed-requires : tie.Need-put-keyed-requires
 put-keyed-requires c κs =
     let q = c .before .before .before .before .before .before .pre in
-    (scene _ (q .0) (c .before .before .keys .ensures .1), omega (arith, q .1))
+    (scene _ (q .0) (c .before .before .keys .ensures .1 .0), omega (arith, q .1))
 
 pub put-ring-spec : {M : Type 1} → statement M
 put-ring-spec =

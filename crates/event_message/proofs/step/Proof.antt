@@ -17,20 +17,20 @@ keys-requires c κs =
     (long _ (c .before .before .pre .0), is .nodes, is .few)
 
 slice-aggregate-deliver : tie.Need-slice-aggregate-deliver
-slice-aggregate-deliver c = sym (keys-many (c .before .before .before .before .pre .1) _ (c .before .keys .ensures .1))
+slice-aggregate-deliver c = sym (keys-many (c .before .before .before .before .pre .1) _ (c .before .keys .ensures .1 .0))
 
 deliver-requires : tie.Need-deliver-requires
 deliver-requires c κs =
     let start = c .before .before .before .before in
     let is = start .pre .1 in
-    let keys = c .before .keys .ensures .1 in
+    let keys = c .before .keys .ensures .1 .0 in
     (lent is _ keys (c .before .before .sides .ensures), (is .time-room, rw (keys-many is _ keys) (start .pre .2)))
 
 returns : tie.Need-returns
 returns c =
     let start = c .before .before .before .before .before in
     let a = start .args in
-    of-table (start .pre .1) _ (c .before .before .keys .ensures .1)
+    of-table (start .pre .1) _ (c .before .before .keys .ensures .1 .0)
     (λ n t. Leaves n (a .message .receiver .0) (a .actor .time .0) (c .deliver .result) (steps.deliver t (a .message .receiver .0) (a .actor .time .0) (ownOf (a .actor .own)) (messageOf (a .message))))
     (c .before .before .before .sides .ensures) (c .deliver .ensures)
 

@@ -17,20 +17,20 @@ keys-requires c κs =
     (long _ (c .before .before .pre .0), is .nodes, is .few)
 
 slice-aggregate-timer : tie.Need-slice-aggregate-timer
-slice-aggregate-timer c = sym (keys-many (c .before .before .before .before .pre .1) _ (c .before .keys .ensures .1))
+slice-aggregate-timer c = sym (keys-many (c .before .before .before .before .pre .1) _ (c .before .keys .ensures .1 .0))
 
 timer-requires : tie.Need-timer-requires
 timer-requires c κs =
     let start = c .before .before .before .before in
     let is = start .pre .1 in
-    let keys = c .before .keys .ensures .1 in
+    let keys = c .before .keys .ensures .1 .0 in
     lent is _ keys (c .before .before .sides .ensures)
 
 returns : tie.Need-returns
 returns c =
     let start = c .before .before .before .before .before in
     let a = start .args in
-    of-table (start .pre .1) _ (c .before .before .keys .ensures .1)
+    of-table (start .pre .1) _ (c .before .before .keys .ensures .1 .0)
     (λ n t. Leaves n (a .x .0) (a .actor .time .0) (c .timer .result) (steps.timer t (a .x .0) (a .actor .time .0) (ownOf (a .actor .own)) (a .k)))
     (c .before .before .before .sides .ensures) (c .timer .ensures (a .actor .time .0))
 

@@ -6,7 +6,7 @@ use Rattle.model.specs.Leafset.{size, key}
 use Rattle.model.specs.Words.{decodeTable}
 use Rattle.ring_head.proofs.Decoded.{key-read}
 use Rattle.ring_head.proofs.Arrays.{Filled, fill-none, fill-more}
-use Rattle.ring_head.proofs.AllKeys.{keys-all}
+use Rattle.ring_head.proofs.AllKeys.{keys-all, keys-tabulated}
 use Rattle.ring_head.proofs.keys.Statement.{statement}
 use Rattle.ring_head.proofs.keys.Tie as tie
 
@@ -30,7 +30,8 @@ returns c =
     let l = c .before .loop in
     let p = c .before .before .before .pre in
     let e : l .x ≡ c .before .before .before .args .n = omega arith in
-    (l .inv .1 .long, keys-all _ _ _ (p .1) (p .2) (rw e at (l .inv .1)))
+    let filled = rw e at (l .inv .1) in
+    (l .inv .1 .long, (keys-all _ _ _ (p .1) (p .2) filled, keys-tabulated _ _ _ (p .1) filled))
 
 pub keys-spec : {M : Type 1} → statement M
 keys-spec =

@@ -39,7 +39,7 @@ returns c =
     let l = c .before .before .before .loop in
     let p = c .before .before .before .before .before .before .pre in
     let e : l .z ≡ 0 = omega arith in
-    load-all _ _ _ (p .1) (p .2) (p .3) _ _ _ _ _ _ (rw e at (l .inv)) (c .before .without .ensures) (c .without2 .ensures)
+    load-all _ _ _ (p .1) (p .2) (p .3) _ _ _ _ _ _ (rw e at (l .inv)) (c .before .without .ensures) (c .without2 .ensures) (search needs)
 
 pub load-spec : {M : Type 1} → statement M
 load-spec =

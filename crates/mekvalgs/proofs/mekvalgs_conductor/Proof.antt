@@ -1,0 +1,15 @@
+use mathlib.Core.Path.{_∙_}
+use borrow.Author.Needs.{needs}
+use Rattle.mekvalgs.proofs.mekvalgs_conductor.Statement.{statement}
+use Rattle.mekvalgs.proofs.mekvalgs_conductor.Tie as tie
+
+returns : tie.Need-returns
+returns c =
+    let shown = c .before .before .before .before .before .before .before .before .before .conductor .ensures in
+    (c .number .ensures ∙ shown .0, c .before .put-screen .ensures ∙ shown .1)
+
+pub mekvalgs-conductor-spec : {M : Type 1} → statement M
+mekvalgs-conductor-spec =
+    tie.close
+    (tie.spec
+    (λ c κs. search needs) (λ c κs. search needs) (λ c κs. search needs) returns)
