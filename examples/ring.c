@@ -5,7 +5,8 @@
  *     target/ring
  *
  * A preview of the first event; for each event its answer and the messages in flight; then each node with those that it
- * holds, read from the words, who is linked, and which of them keeps key 16. It prints what ring.out has.
+ * holds, read from the words, who is linked, which of them keeps key 16, and what the conductor sees. It prints what
+ * ring.out has.
  */
 #include <inttypes.h>
 #include <stdio.h>
@@ -42,6 +43,19 @@ static void print_node(uint32_t x)
         if (MEKVALGS_HELD(pair))
             printf(", holds %" PRIu32 " since %" PRIu32, z, MEKVALGS_COMMIT(pair));
     }
+    printf("\n");
+}
+
+static void print_screen(void)
+{
+    uint32_t answer, clockwise, counter_clockwise, nodes, keys[MEKVALGS_MAX_NODES];
+    uint64_t running, leafsets[MEKVALGS_MAX_NODES];
+    answer = mekvalgs_conductor(ring, MEKVALGS_RING_LENGTH, &clockwise, &counter_clockwise, &nodes, &running, keys,
+                                leafsets);
+    printf("conductor's screen: answer %" PRIu32 ", A %" PRIu32 ", B %" PRIu32 ", running %" PRIu64, answer, clockwise,
+           counter_clockwise, running);
+    for (uint32_t x = 0; x < nodes; x++)
+        printf(", key %" PRIu32 " leafset %" PRIu64, keys[x], leafsets[x]);
     printf("\n");
 }
 
@@ -86,5 +100,6 @@ int main(void)
     for (uint32_t i = 0; answer == MEKVALGS_ACCEPTED && i <= hops; i++)
         printf(" %" PRIu8, route[i]);
     printf("\n");
+    print_screen();
     return 0;
 }

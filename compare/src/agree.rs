@@ -1,5 +1,6 @@
 //! Random scripts, played on implementations in step, with damaged buffers between the events.
 
+use crate::alike;
 use crate::case::{Case, Fault, List, Runner, Step};
 use crate::damage::damage;
 use crate::look;
@@ -7,6 +8,7 @@ use crate::previews::{self, Preview};
 use crate::random::Random;
 use crate::ring::Ring;
 use crate::routes::{self, Route};
+use crate::screens::{self, Screens};
 use crate::script::{Mix, Script};
 use crate::unbroken::Tested;
 use std::fmt;
@@ -21,6 +23,8 @@ pub struct Plan {
     pub routes: u64,
     /// Previews at least.
     pub previews: u64,
+    /// Screens at least, each time both and the part.
+    pub screens: u64,
     pub mixes: Vec<Mix>,
     /// Scripts have from 1 to this number of nodes.
     pub nodes: usize,
@@ -52,6 +56,10 @@ pub struct Tally {
     pub damaged_previews: previews::Tally,
     /// Accepted events that were held to a preview just before them.
     pub foreseen: u64,
+    /// As the routes.
+    pub screens: screens::Tally,
+    pub damaged_screens: screens::Tally,
+    pub alike: alike::Tally,
     pub tested: Tested,
 }
 
@@ -72,6 +80,9 @@ impl Tally {
         self.previews.add(&other.previews);
         self.damaged_previews.add(&other.damaged_previews);
         self.foreseen += other.foreseen;
+        self.screens.add(&other.screens);
+        self.damaged_screens.add(&other.damaged_screens);
+        self.alike.add(&other.alike);
         self.tested.add(other.tested);
     }
 }
@@ -88,6 +99,7 @@ impl fmt::Display for Tally {
         writeln!(f, "{}\non damaged buffers: {}", self.routes, self.damaged_routes)?;
         writeln!(f, "{}\non damaged buffers: {}", self.previews, self.damaged_previews)?;
         writeln!(f, "  {} accepted events came as a preview just before them had shown", self.foreseen)?;
+        writeln!(f, "{}\non damaged buffers: {}\n{}", self.screens, self.damaged_screens, self.alike)?;
         let Tested { starts, points, spans, acknowledged, echoed, released, released_by_echo, leaving } = self.tested;
         writeln!(f, "demand 3: {points} points tested, against {starts} chosen points, {spans} pairs of points;")?;
         writeln!(f, "  {acknowledged} of them with an acknowledgement in flight, {echoed} just after its echo;")?;
@@ -129,6 +141,7 @@ fn run_thread(plan: &Plan, rings: &[&dyn Ring], first: u64, stop: &AtomicBool) -
         tally.events >= plan.events / plan.threads
             && tally.routes.count() >= share(plan.routes)
             && tally.previews.count() >= share(plan.previews)
+            && tally.screens.count() >= share(plan.screens)
     };
     while !fulfilled(&tally) && !stop.load(Ordering::Relaxed) {
         let mix = plan.mixes[script as usize % plan.mixes.len()];
@@ -149,10 +162,11 @@ struct Play<'a> {
     script: Script,
     random: Random,
     case: Case,
-    /// Damaged buffers, routes and previews for each 1,000 events.
+    /// Damaged buffers, routes, previews and screens for each 1,000 events.
     damage_rate: u64,
     route_rate: u64,
     preview_rate: u64,
+    screen_rate: u64,
 }
 
 impl<'a> Play<'a> {
@@ -168,6 +182,7 @@ impl<'a> Play<'a> {
             damage_rate: rate(plan.damaged),
             route_rate: rate(plan.routes),
             preview_rate: rate(plan.previews),
+            screen_rate: rate(plan.screens),
         }
     }
 
@@ -201,6 +216,10 @@ impl<'a> Play<'a> {
             }
             for _ in 0..self.times(self.route_rate) {
                 self.route(&mut tally.routes)?;
+            }
+            for _ in 0..self.times(self.screen_rate) {
+                self.screens(&mut tally.screens)?;
+                self.alike(&mut tally.alike)?;
             }
         }
         Ok(())
@@ -259,6 +278,28 @@ impl<'a> Play<'a> {
         Ok(())
     }
 
+    /// Both screens and the part, on the case for as long as they are asked for.
+    fn screens(&mut self, tally: &mut screens::Tally) -> Result<(), Fault> {
+        let screens = Screens::any(&mut self.random);
+        self.case.steps.push(Step::Screens(screens));
+        let seen = self.runner.screens(screens)?;
+        self.case.steps.pop();
+        tally.note(self.runner.words(), &seen);
+        Ok(())
+    }
+
+    /// A fifth of the rings beside one that is alike for the conductor.
+    fn alike(&mut self, tally: &mut alike::Tally) -> Result<(), Fault> {
+        if !self.random.percent(20) {
+            return Ok(());
+        }
+        let number = self.random.word();
+        self.case.steps.push(Step::Alike(number));
+        tally.note(self.runner.alike(number)?);
+        self.case.steps.pop();
+        Ok(())
+    }
+
     /// Plays a list by one call, on the case for as long as it is played, and puts the words back.
     fn play_list(&mut self, chosen_by: &[u32], tally: &mut Tally) -> Result<(), Fault> {
         let words: Vec<u32> = (0..self.random.below(List::MOST + 1)).map(|_| self.script.any(chosen_by)).collect();
@@ -299,6 +340,9 @@ impl<'a> Play<'a> {
         }
         if self.route_rate > 0 && self.random.percent(20) {
             self.route(&mut tally.damaged_routes)?;
+        }
+        if self.screen_rate > 0 && self.random.percent(20) {
+            self.screens(&mut tally.damaged_screens)?;
         }
         self.case.steps.truncate(length);
         self.runner.restore(&before);

@@ -1,9 +1,11 @@
 //! A case: an opening and steps, played on one or more implementations at once.
 
+use crate::alike::{self, Changed};
 use crate::look;
 use crate::previews::Preview;
 use crate::ring::{Ring, Routed, Sides};
 use crate::routes::Route;
+use crate::screens::{Screens, Seen};
 use crate::unbroken::Unbroken;
 use crate::LENGTH;
 use std::fmt;
@@ -19,6 +21,9 @@ pub enum Step {
     Connected(u32, u32),
     Groups,
     Route(Route),
+    Screens(Screens),
+    /// The screens beside those of a ring that is alike for the conductor, by a number.
+    Alike(u32),
 }
 
 /// A list of event words for one call, and the number of places for their answers.
@@ -75,6 +80,8 @@ impl fmt::Display for Step {
             Step::Connected(a, b) => write!(f, "connected({a},{b})"),
             Step::Groups => write!(f, "groups()"),
             Step::Route(route) => write!(f, "{route}"),
+            Step::Screens(screens) => write!(f, "{screens}"),
+            Step::Alike(number) => write!(f, "alike({number:X})"),
         }
     }
 }
@@ -127,6 +134,10 @@ pub enum Fault {
     Written { name: &'static str, words: Differing },
     /// An event got another answer or left other words than its preview, just before it, had shown.
     Unforeseen { name: &'static str, answers: [u32; 2], words: Differing },
+    /// Two implementations show other things on the screens.
+    Screens { names: [&'static str; 2], differing: Vec<&'static str> },
+    /// Rings that are alike for the conductor don't show what they have to.
+    Unlike { line: String },
     /// Demand 3 is broken: two nodes that were connected no longer are.
     Parted { name: &'static str, nodes: (usize, usize) },
 }
@@ -154,6 +165,10 @@ impl fmt::Display for Fault {
                 writeln!(f, "  {name}: a preview answers {shown}, the event after it {given}")?;
                 list(f, words, ["shown", "left"])
             }
+            Fault::Screens { names: [one, other], differing } => {
+                write!(f, "  {one} and {other} differ on the screens: {}", differing.join(", "))
+            }
+            Fault::Unlike { line } => write!(f, "  {line}"),
             Fault::Parted { name, nodes: (a, b) } => {
                 write!(f, "  {name}: nodes {a} and {b} were connected with no acknowledgement in flight, and are parted")
             }
@@ -247,6 +262,11 @@ impl<'a> Runner<'a> {
                 (answer, number as u64)
             })?,
             Step::Route(route) => (self.route(route)?.0.answer, 0),
+            Step::Screens(screens) => (self.screens(screens)?.answer, 0),
+            Step::Alike(number) => {
+                self.alike(number)?;
+                (0, 0)
+            }
             Step::Poke(at, value) => {
                 self.buffers.iter_mut().for_each(|words| words[at] = value);
                 (0, 0)
@@ -295,6 +315,26 @@ impl<'a> Runner<'a> {
             outcome
         })?;
         Ok(given.swap_remove(0))
+    }
+
+    /// Both screens and the part on every implementation: what the first one shows.
+    pub fn screens(&mut self, screens: Screens) -> Result<Seen, Fault> {
+        let first = screens.ask(self.rings[0], &self.buffers[0]);
+        for other in 1..self.playing {
+            let differing = first.differing(&screens.ask(self.rings[other], &self.buffers[other]));
+            if !differing.is_empty() {
+                let names = [self.rings[0].name(), self.rings[other].name()];
+                return Err(Fault::Screens { names, differing });
+            }
+        }
+        Ok(first)
+    }
+
+    /// The screens of the ring and of one alike, on every implementation: in what these differ.
+    pub fn alike(&mut self, number: u32) -> Result<Changed, Fault> {
+        let hold = |ring: &&dyn Ring| alike::hold(*ring, &self.buffers[0], number);
+        let held: Result<Vec<Changed>, String> = self.rings[..self.playing].iter().map(hold).collect();
+        held.map(|changed| changed[0]).map_err(|line| Fault::Unlike { line })
     }
 
     /// One call on every implementation: the answers and all words have to agree.

@@ -1,6 +1,7 @@
 //! Implementations of document 01 side by side: the proved library, a reference tuned by hand, and a plain one.
 
 pub mod agree;
+pub mod alike;
 pub mod audit;
 pub mod bench;
 pub mod calls_test;
@@ -20,6 +21,7 @@ pub mod random;
 pub mod reference;
 pub mod ring;
 pub mod routes;
+pub mod screens;
 pub mod script;
 pub mod self_test;
 pub mod shorten;

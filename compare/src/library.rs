@@ -1,6 +1,6 @@
 //! The proved library, linked: the only file that knows its C interface. A slice goes as pointer and length.
 
-use crate::ring::{Ring, Routed, Sides};
+use crate::ring::{Conductor, Ring, Routed, Sides, Technician};
 
 #[link(name = "mekvalgs", kind = "static")]
 extern "C" {
@@ -23,6 +23,16 @@ extern "C" {
         words: *mut u32, len: u64, clockwise: u32, counter_clockwise: u32, keys: *const u32, n: u64,
         script: *const u32, script_len: u64, answers: *mut u8, places: u64,
     ) -> u32;
+    fn mekvalgs_conductor(
+        words: *const u32, len: u64, clockwise: *mut u32, counter_clockwise: *mut u32, nodes: *mut u32,
+        running: *mut u64, keys: *mut u32, leafsets: *mut u64,
+    ) -> u32;
+    fn mekvalgs_technician(
+        words: *const u32, len: u64, clockwise: *mut u32, counter_clockwise: *mut u32, nodes: *mut u32,
+        running: *mut u64, keys: *mut u32, leafsets: *mut u64, candidates: *mut u64, stamps: *mut u32,
+        spares: *mut u8,
+    ) -> u32;
+    fn mekvalgs_messages(words: *const u32, len: u64) -> u64;
     fn mekvalgs_read_event(word: u32, kind: *mut u32, first: *mut u32, second: *mut u32) -> u32;
     fn mekvalgs_write_event(kind: u32, first: u32, second: u32, word: *mut u32) -> u32;
 }
@@ -92,6 +102,34 @@ impl Ring for Library {
             )
         };
         Routed { answer, end, hops }
+    }
+
+    fn conductor(&self, words: &[u32], screen: &mut Conductor) -> u32 {
+        let Conductor { sides, nodes, running, keys, leafsets } = screen;
+        unsafe {
+            mekvalgs_conductor(
+                words.as_ptr(), words.len() as u64, &mut sides.clockwise, &mut sides.counter_clockwise, nodes, running,
+                keys.as_mut_ptr(), leafsets.as_mut_ptr(),
+            )
+        }
+    }
+
+    fn technician(&self, words: &[u32], screen: &mut Technician) -> u32 {
+        let Technician { conductor, candidates, stamps, spares } = screen;
+        let Conductor { sides, nodes, running, keys, leafsets } = conductor;
+        unsafe {
+            mekvalgs_technician(
+                words.as_ptr(), words.len() as u64, &mut sides.clockwise, &mut sides.counter_clockwise, nodes, running,
+                keys.as_mut_ptr(), leafsets.as_mut_ptr(), candidates.as_mut_ptr(), stamps.as_mut_ptr(),
+                spares.as_mut_ptr(),
+            )
+        }
+    }
+
+    /// C's name gives the part's length; it begins at the first message.
+    fn messages<'a>(&self, words: &'a [u32]) -> &'a [u32] {
+        let length = unsafe { mekvalgs_messages(words.as_ptr(), words.len() as u64) } as usize;
+        words.get(8_321..).map_or(&[], |messages| &messages[..length])
     }
 }
 

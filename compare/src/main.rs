@@ -4,14 +4,14 @@ use compare::agree::{self, Found, Plan};
 use compare::ring::Ring;
 use compare::script::Mix;
 use compare::routes::Made;
-use compare::{edges, every_ring, fast_rings, self_test, speed, stage, vectors};
+use compare::{alike, edges, every_ring, fast_rings, self_test, speed, stage, vectors};
 use std::path::Path;
 use std::process::ExitCode;
 use std::time::Instant;
 
 const USAGE: &str = "compare [all | agree | unbroken | self-test | speed | stack | stage | vectors]
-    [seed=1] [events=5000000] [damaged=1000000] [routes=EVENTS/10] [previews=EVENTS/10] [nodes=64]
-    [threads=CORES] [mixes=gentle,chaos,garbage,replacement]
+    [seed=1] [events=5000000] [damaged=1000000] [routes=EVENTS/10] [previews=EVENTS/10]
+    [screens=EVENTS/10] [nodes=64] [threads=CORES] [mixes=gentle,chaos,garbage,replacement]
     [vectors=FOLDER] [slip=NAME] [seeds=5]";
 
 struct Options {
@@ -35,8 +35,9 @@ impl Options {
 fn options() -> Option<Options> {
     let threads = std::thread::available_parallelism().map_or(1, |count| count.get() as u64);
     let (events, mixes) = (5_000_000, Mix::ALL.to_vec());
-    let plan = Plan { seed: 1, events, damaged: 1_000_000, routes: 0, previews: 0, mixes, nodes: 64, threads };
-    let (mut routes, mut previews) = (None, None);
+    let (damaged, routes, previews, screens) = (1_000_000, 0, 0, 0);
+    let plan = Plan { seed: 1, events, damaged, routes, previews, screens, mixes, nodes: 64, threads };
+    let (mut routes, mut previews, mut screens) = (None, None, None);
     let steady = vec![Mix::Gentle, Mix::Replacement];
     let mut options = Options { mode: "all".to_string(), plan, steady, vectors: None, slip: None, seeds: 5 };
     for word in std::env::args().skip(1) {
@@ -47,6 +48,7 @@ fn options() -> Option<Options> {
             Some(("damaged", value)) => options.plan.damaged = value.parse().ok()?,
             Some(("routes", value)) => routes = Some(value.parse().ok()?),
             Some(("previews", value)) => previews = Some(value.parse().ok()?),
+            Some(("screens", value)) => screens = Some(value.parse().ok()?),
             Some(("nodes", value)) => options.plan.nodes = value.parse().ok().filter(|n| (1..=64).contains(n))?,
             Some(("threads", value)) => options.plan.threads = value.parse().ok().filter(|&count| count > 0)?,
             Some(("mixes", value)) => {
@@ -61,6 +63,7 @@ fn options() -> Option<Options> {
     }
     options.plan.routes = routes.unwrap_or(options.plan.events / 10);
     options.plan.previews = previews.unwrap_or(options.plan.events / 10);
+    options.plan.screens = screens.unwrap_or(options.plan.events / 10);
     Some(options)
 }
 
@@ -106,6 +109,7 @@ fn speed_table() -> bool {
     speed::lists(fast_rings()[0], &compare::reference::Reference);
     speed::routes(&fast_rings());
     speed::previews(&fast_rings());
+    speed::screens(&fast_rings());
     true
 }
 
@@ -141,7 +145,8 @@ fn agree_all(plan: &Plan) -> bool {
     let start = Instant::now();
     let (tally, found) = agree::run(plan, &rings);
     println!("{tally}\n{:.0} seconds", start.elapsed().as_secs_f64());
-    made_rings(plan, &rings) & differences.is_empty() & numbers_agree & nothing(plan, &rings, found)
+    let made = made_rings(plan, &rings) & alike_rings(plan, &rings);
+    made & differences.is_empty() & numbers_agree & nothing(plan, &rings, found)
 }
 
 /// Event words read and written under C's names, where the library is linked.
@@ -168,11 +173,19 @@ fn made_rings(plan: &Plan, rings: &[&dyn Ring]) -> bool {
     found.is_empty()
 }
 
+/// Pairs of made rings that are alike for the conductor, a tenth as many as the plan's screens.
+fn alike_rings(plan: &Plan, rings: &[&dyn Ring]) -> bool {
+    let alike::Made { tally, found } = alike::Made::run(plan.seed, plan.screens / 10, plan.threads, rings);
+    println!("on made rings: {tally}\n{} pairs that don't show what they have to", found.len());
+    found.iter().take(3).for_each(|line| println!("  {line}"));
+    found.is_empty()
+}
+
 /// Demand 3 on the first implementation alone.
 fn unbroken(options: &Options) -> bool {
     let rings = &fast_rings()[..1];
     println!("\nUnbroken connection, {}", rings[0].name());
-    let plan = Plan { damaged: 0, routes: 0, previews: 0, mixes: options.steady.clone(), ..options.plan };
+    let plan = Plan { damaged: 0, routes: 0, previews: 0, screens: 0, mixes: options.steady.clone(), ..options.plan };
     let (tally, found) = agree::run(&plan, rings);
     println!("{tally}");
     nothing(&plan, rings, found)

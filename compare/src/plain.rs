@@ -3,7 +3,7 @@
 //!
 //! A [`Slip`] makes it a wrong program, for the self-test of the harness.
 
-use crate::ring::{Ring, Routed, Sides};
+use crate::ring::{Conductor, Ring, Routed, Sides, Technician};
 use crate::LENGTH;
 use std::collections::BTreeSet;
 
@@ -120,6 +120,38 @@ pub enum Slip {
     PreviewAnySecond,
     /// A preview is content with a longer second buffer.
     PreviewLongSecond,
+    /// The conductor's keys have the low bits of the clocks above them.
+    ScreenClock,
+    /// The conductor's leafsets are of the held nodes and the candidates.
+    ScreenCandidates,
+    /// A node that is off has a leafset, too, of all running nodes.
+    ScreenOffLeafset,
+    /// The conductor's leafsets are of all running nodes.
+    ScreenAllRunning,
+    /// The conductor's leafsets are of the held nodes that run.
+    ScreenHeldRunning,
+    /// The conductor sees the held sets.
+    ScreenHeldSets,
+    /// The part has one message more, where there is room.
+    ScreenPartLonger,
+    /// The part begins one word early.
+    ScreenPartEarly,
+    /// The part has as many messages as word 0 says, though the words don't read as a ring.
+    ScreenPartUnread,
+    /// Places of no pair have 64 for a spare.
+    ScreenNoPair64,
+    /// A refused call shows 64 for each spare.
+    ScreenRefused64,
+    /// A refused call shows n.
+    ScreenRefusedNodes,
+    /// A refused call leaves lent arrays as they are.
+    ScreenRefusedKeeps,
+    /// An accepted call leaves places of no node and of no pair as they are.
+    ScreenUnusedKept,
+    /// The stamp of (x, z) is at 64 z + x.
+    ScreenStampsTurned,
+    /// The spare of (x, z) is at n x + z.
+    ScreenSparesPacked,
     /// Reads as a ring with a commit stamp one above the clock.
     CommitAboveClock,
     /// Reads as a ring with a node as its own spare.
@@ -137,7 +169,7 @@ pub enum Slip {
 }
 
 impl Slip {
-    pub const ALL: [Slip; 62] = [
+    pub const ALL: [Slip; 78] = [
         Slip::StampNotAbove,
         Slip::CommitZero,
         Slip::AskerAsSpare,
@@ -193,6 +225,22 @@ impl Slip {
         Slip::PreviewLengthLast,
         Slip::PreviewAnySecond,
         Slip::PreviewLongSecond,
+        Slip::ScreenClock,
+        Slip::ScreenCandidates,
+        Slip::ScreenOffLeafset,
+        Slip::ScreenAllRunning,
+        Slip::ScreenHeldRunning,
+        Slip::ScreenHeldSets,
+        Slip::ScreenPartLonger,
+        Slip::ScreenPartEarly,
+        Slip::ScreenPartUnread,
+        Slip::ScreenNoPair64,
+        Slip::ScreenRefused64,
+        Slip::ScreenRefusedNodes,
+        Slip::ScreenRefusedKeeps,
+        Slip::ScreenUnusedKept,
+        Slip::ScreenStampsTurned,
+        Slip::ScreenSparesPacked,
         Slip::CommitAboveClock,
         Slip::OwnSpare,
         Slip::ReceiverInView,
@@ -853,6 +901,65 @@ impl State {
         route
     }
 
+    // Screens.
+
+    /// "Each running stand's leafset of its held set": none of a node that is off.
+    fn shown_leafset(&self, x: usize) -> BTreeSet<usize> {
+        let running = || self.having(|node| node.running);
+        if !self.nodes[x].running {
+            let of_off = self.has(Slip::ScreenOffLeafset);
+            return if of_off { self.leafset(x, &running()) } else { BTreeSet::new() };
+        }
+        let mut held = self.held(x);
+        match self.slip {
+            Some(Slip::ScreenCandidates) => held.extend(self.candidates(x)),
+            Some(Slip::ScreenAllRunning) => held = running(),
+            Some(Slip::ScreenHeldRunning) => held.retain(|&z| self.nodes[z].running),
+            Some(Slip::ScreenHeldSets) => return held,
+            _ => {}
+        }
+        self.leafset(x, &held)
+    }
+
+    fn having(&self, mark: impl Fn(&Node) -> bool) -> BTreeSet<usize> {
+        (0..self.nodes.len()).filter(|&x| mark(&self.nodes[x])).collect()
+    }
+
+    fn show_conductor(&self, screen: &mut Conductor) {
+        if !self.has(Slip::ScreenUnusedKept) {
+            *screen = Conductor::EMPTY;
+        }
+        screen.sides = self.sides;
+        screen.nodes = self.nodes.len() as u32;
+        screen.running = as_bits(&self.having(|node| node.running));
+        for (x, node) in self.nodes.iter().enumerate() {
+            let clock = if self.has(Slip::ScreenClock) { node.clock << 24 } else { 0 };
+            screen.keys[x] = node.key | clock;
+            screen.leafsets[x] = as_bits(&self.shown_leafset(x));
+        }
+    }
+
+    fn show_technician(&self, screen: &mut Technician) {
+        if !self.has(Slip::ScreenUnusedKept) {
+            *screen = Technician::EMPTY;
+        }
+        if self.has(Slip::ScreenNoPair64) {
+            screen.spares.fill(64);
+        }
+        self.show_conductor(&mut screen.conductor);
+        let n = self.nodes.len();
+        let row = if self.has(Slip::ScreenSparesPacked) { n } else { 64 };
+        for x in 0..n {
+            screen.candidates[x] = as_bits(&self.candidates(x));
+            for z in (0..n).filter(|&z| z != x) {
+                let pair = &self.nodes[x].pairs[z];
+                let at = if self.has(Slip::ScreenStampsTurned) { 64 * z + x } else { 64 * x + z };
+                screen.stamps[at] = pair.commit;
+                screen.spares[row * x + z] = number_or_64(pair.spare) as u8;
+            }
+        }
+    }
+
     /// Refusals 7 and 8 of a question about a node.
     fn ask(&self, node: u32) -> Result<usize, u32> {
         match self.nodes.get(node as usize) {
@@ -861,6 +968,11 @@ impl State {
             Some(_) => Ok(node as usize),
         }
     }
+}
+
+/// A set of nodes as 64 bits.
+fn as_bits(set: &BTreeSet<usize>) -> u64 {
+    set.iter().map(|&s| 1u64 << s).sum()
 }
 
 /// Refusals 4 and 5 of an event word.
@@ -968,7 +1080,7 @@ impl Plain {
     fn try_leafset(&self, words: &[u32], node: u32) -> Result<u64, u32> {
         let state = self.read(words)?;
         let node = state.ask(node)?;
-        Ok(state.own_leafset(node).iter().map(|&s| 1u64 << s).sum())
+        Ok(as_bits(&state.own_leafset(node)))
     }
 
     fn try_connected(&self, words: &[u32], a: u32, b: u32) -> Result<bool, u32> {
@@ -994,6 +1106,40 @@ impl Plain {
             return Err(13);
         }
         Ok(state.route(start, key))
+    }
+
+    /// What a refused call shows of n: nothing.
+    fn refused_nodes(&self, words: &[u32]) -> u32 {
+        let shows = self.slip == Some(Slip::ScreenRefusedNodes);
+        words.first().filter(|_| shows).map_or(0, |&word| bits(word, 4, 10))
+    }
+
+    fn refuse_conductor(&self, words: &[u32], screen: &mut Conductor) {
+        let (keys, leafsets) = (screen.keys, screen.leafsets);
+        *screen = Conductor { nodes: self.refused_nodes(words), ..Conductor::EMPTY };
+        if self.slip == Some(Slip::ScreenRefusedKeeps) {
+            (screen.keys, screen.leafsets) = (keys, leafsets);
+        }
+    }
+
+    fn refuse_technician(&self, words: &[u32], screen: &mut Technician) {
+        self.refuse_conductor(words, &mut screen.conductor);
+        if self.slip != Some(Slip::ScreenRefusedKeeps) {
+            *screen = Technician { conductor: screen.conductor.clone(), ..Technician::EMPTY };
+        }
+        if self.slip == Some(Slip::ScreenRefused64) {
+            screen.spares.fill(64);
+        }
+    }
+
+    /// How many messages the part has.
+    fn messages_shown(&self, words: &[u32]) -> usize {
+        match self.read(words) {
+            Ok(state) if self.slip == Some(Slip::ScreenPartLonger) => POOL.min(state.messages.len() + 1),
+            Ok(state) => state.messages.len(),
+            Err(6) if self.slip == Some(Slip::ScreenPartUnread) => POOL.min(bits(words[0], 11, 21) as usize),
+            Err(_) => 0,
+        }
     }
 }
 
@@ -1040,5 +1186,40 @@ impl Ring for Plain {
                 Routed::refused(refusal)
             }
         }
+    }
+
+    fn conductor(&self, words: &[u32], screen: &mut Conductor) -> u32 {
+        match self.read(words) {
+            Ok(state) => {
+                state.show_conductor(screen);
+                0
+            }
+            Err(refusal) => {
+                self.refuse_conductor(words, screen);
+                refusal
+            }
+        }
+    }
+
+    fn technician(&self, words: &[u32], screen: &mut Technician) -> u32 {
+        match self.read(words) {
+            Ok(state) => {
+                state.show_technician(screen);
+                0
+            }
+            Err(refusal) => {
+                self.refuse_technician(words, screen);
+                refusal
+            }
+        }
+    }
+
+    fn messages<'a>(&self, words: &'a [u32]) -> &'a [u32] {
+        let count = self.messages_shown(words);
+        if count == 0 {
+            return &[];
+        }
+        let start = 8_321 - (self.slip == Some(Slip::ScreenPartEarly)) as usize;
+        &words[start..start + 5 * count]
     }
 }

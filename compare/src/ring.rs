@@ -56,6 +56,42 @@ impl Routed {
     }
 }
 
+/// What the conductor's screen shows, bit s of a set for node s.
+#[derive(Clone, Debug, PartialEq, Eq)]
+pub struct Conductor {
+    pub sides: Sides,
+    pub nodes: u32,
+    pub running: u64,
+    pub keys: [u32; 64],
+    /// Of each running node, in its held set.
+    pub leafsets: [u64; 64],
+}
+
+/// What the technician's shows. Of the pair (x, z) the stamp and the spare are at 64 x + z.
+#[derive(Clone, Debug, PartialEq, Eq)]
+pub struct Technician {
+    pub conductor: Conductor,
+    pub candidates: [u64; 64],
+    pub stamps: [u32; 4_096],
+    pub spares: [u8; 4_096],
+}
+
+impl Conductor {
+    /// "A refused screen call gives an empty answer: each number 0, each set empty."
+    pub const EMPTY: Conductor = Conductor {
+        sides: Sides { clockwise: 0, counter_clockwise: 0 },
+        nodes: 0,
+        running: 0,
+        keys: [0; 64],
+        leafsets: [0; 64],
+    };
+}
+
+impl Technician {
+    pub const EMPTY: Technician =
+        Technician { conductor: Conductor::EMPTY, candidates: [0; 64], stamps: [0; 4_096], spares: [0; 4_096] };
+}
+
 pub trait Ring: Sync {
     fn name(&self) -> &'static str;
 
@@ -92,4 +128,13 @@ pub trait Ring: Sync {
 
     /// The route from a node towards a key: its nodes, the start first and the end last, go to the list's first places.
     fn route(&self, words: &[u32], start: u32, key: u32, list: &mut [u8]) -> Routed;
+
+    /// The conductor's screen. Each place is written at every call, so that what was shown before doesn't matter.
+    fn conductor(&self, words: &[u32], screen: &mut Conductor) -> u32;
+
+    /// The technician's screen but for the messages, likewise.
+    fn technician(&self, words: &[u32], screen: &mut Technician) -> u32;
+
+    /// The messages in flight as a part of the words, which is empty where the technician's screen is refused.
+    fn messages<'a>(&self, words: &'a [u32]) -> &'a [u32];
 }

@@ -188,7 +188,7 @@ pub fn converged(sides: Sides, keys: &[u32], running: &[bool]) -> Vec<u32> {
 }
 
 /// Every running node holds a few others and has a few candidates, mostly near ones, also such as are off.
-fn scattered(random: &mut Random, sides: Sides, keys: &[u32], running: &[bool]) -> Vec<u32> {
+pub fn scattered(random: &mut Random, sides: Sides, keys: &[u32], running: &[bool]) -> Vec<u32> {
     let mut words = ring(sides, keys, running, |_| Vec::new());
     let n = keys.len();
     let mut round: Vec<usize> = (0..n).collect();
@@ -207,7 +207,7 @@ fn scattered(random: &mut Random, sides: Sides, keys: &[u32], running: &[bool]) 
 }
 
 /// Any n, A and B; keys anywhere, close together round zero, or on a grid with many equal distances; any of them run.
-fn table(random: &mut Random) -> (Sides, Vec<u32>, Vec<bool>) {
+pub fn table(random: &mut Random) -> (Sides, Vec<u32>, Vec<bool>) {
     let n = 1 + random.below(64);
     let mut side = || 1 + random.below(8) as u32;
     let sides = Sides { clockwise: side(), counter_clockwise: side() };

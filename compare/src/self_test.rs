@@ -1,6 +1,7 @@
 //! The harness has to be able to fail: every wrong program ([`Slip`]) must be found, and its case shortened.
 
 use crate::agree::{self, Found, Plan};
+use crate::alike;
 use crate::plain::{Plain, Slip};
 use crate::reference::Reference;
 use crate::ring::Ring;
@@ -16,14 +17,18 @@ const MISLEADING: [Slip; 2] = [Slip::PreviewPlays, Slip::PreviewUnplayed];
 /// Wrong programs whose routes end elsewhere: found on converged rings alone, without another implementation.
 const ASTRAY: [Slip; 2] = [Slip::RouteTieOther, Slip::RouteDistanceOnly];
 
+/// Wrong programs whose conductor sees too much: found by rings alike for the conductor alone.
+const TELLING: [Slip; 2] = [Slip::ScreenClock, Slip::ScreenCandidates];
+
 /// How many wrong programs were not found. Where one is named, only that, and its case is shown.
 pub fn run(plan: &Plan, only: Option<&str>) -> usize {
     let wanted = |slip: &Slip| only.is_none_or(|only| only == format!("{slip:?}"));
     let mixes = Mix::ALL.to_vec();
-    let agreement =
-        Plan { events: 3_000_000, damaged: 300_000, routes: 300_000, previews: 300_000, mixes, ..*plan };
+    let (events, each) = (3_000_000, 300_000);
+    let agreement = Plan { events, damaged: each, routes: each, previews: each, screens: each, mixes, ..*plan };
     let mixes = vec![Mix::Replacement];
-    let demand_3 = Plan { events: 10_000_000, damaged: 0, routes: 0, previews: 0, mixes, nodes: 10, ..*plan };
+    let (damaged, routes, previews, screens) = (0, 0, 0, 0);
+    let demand_3 = Plan { events: 10_000_000, damaged, routes, previews, screens, mixes, nodes: 10, ..*plan };
     let by_difference = Slip::ALL.into_iter().filter(wanted).filter(|&slip| {
         let wrong = Plain { slip: Some(slip) };
         !finds(&agreement, &[&Reference, &wrong], slip, "difference", only.is_some())
@@ -37,7 +42,15 @@ pub fn run(plan: &Plan, only: Option<&str>) -> usize {
         !finds(&agreement, &[&wrong], slip, "preview", only.is_some())
     });
     let by_end = ASTRAY.into_iter().filter(wanted).filter(|&slip| !goes_astray(plan, slip));
-    by_difference.count() + by_demand_3.count() + by_preview.count() + by_end.count()
+    let by_pair = TELLING.into_iter().filter(wanted).filter(|&slip| !tells(plan, slip));
+    by_difference.count() + by_demand_3.count() + by_preview.count() + by_end.count() + by_pair.count()
+}
+
+fn tells(plan: &Plan, slip: Slip) -> bool {
+    let made = alike::Made::run(plan.seed, 2_000, plan.threads, &[&Plain { slip: Some(slip) }]);
+    let name = format!("{slip:?}");
+    println!("{name:<20} {:<11} {} of 2000 pairs of rings show otherwise", "alike", made.found.len());
+    !made.found.is_empty()
 }
 
 fn goes_astray(plan: &Plan, slip: Slip) -> bool {

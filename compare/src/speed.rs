@@ -3,7 +3,7 @@
 use crate::look;
 use crate::random::Random;
 use crate::reference::Reference;
-use crate::ring::{Ring, Sides};
+use crate::ring::{Conductor, Ring, Sides, Technician};
 use crate::routes;
 use crate::LENGTH;
 use std::hint::black_box;
@@ -280,6 +280,46 @@ fn preview_times(start: &[u32], word: u32, rings: &[&dyn Ring]) -> (Vec<(f64, f6
         }
     }
     (shortest, copy)
+}
+
+/// The screens and the part beside a play, on 64 running nodes; the shortest of rounds in turns, and over the play.
+pub fn screens(rings: &[&dyn Ring]) {
+    print!("{:<48}", "nanoseconds a screen, the shortest, over a play");
+    for ring in rings {
+        print!("{:>18}", format!("{} play", ring.name()));
+        ["conductor", "technician", "part"].iter().for_each(|name| print!("{name:>12}{:>6}", ""));
+    }
+    println!();
+    let keys: Vec<u32> = (0..64).map(|s| s << 18).collect();
+    let settled = routes::converged(Sides::from(8), &keys, &[true; 64]);
+    let all_held = [0, 415, 1_024].map(|messages| (format!("  n 64, m {messages}, all held"), full(messages, false)));
+    for (name, words) in all_held.into_iter().chain([("  n 64, m 0, A = B = 8, leafsets held".into(), settled)]) {
+        print!("{name:<48}");
+        for [play, screens @ ..] in screen_times(&words, rings) {
+            print!("{play:>18.0}");
+            screens.iter().for_each(|time| print!("{time:>12.0}{:>6.2}", time / play));
+        }
+        println!();
+    }
+}
+
+/// Nanoseconds a play, the conductor's screen, the technician's and the part, of each ring. The event is a notice.
+fn screen_times(start: &[u32], rings: &[&dyn Ring]) -> Vec<[f64; 4]> {
+    let mut shortest = vec![[f64::MAX; 4]; rings.len()];
+    let (mut words, mut conductor, mut technician) = (start.to_vec(), Conductor::EMPTY, Box::new(Technician::EMPTY));
+    for _ in 0..10 * ROUNDS {
+        for (ring, shortest) in rings.iter().zip(&mut shortest) {
+            words.copy_from_slice(start);
+            let times = [
+                each(&[11 << 28 | 1 << 6], |word| ring.play(&mut words, word)),
+                each(&[0], |_| ring.conductor(black_box(start), &mut conductor)),
+                each(&[0], |_| ring.technician(black_box(start), &mut technician)),
+                each(&[0], |_| ring.messages(black_box(start)).len() as u32),
+            ];
+            shortest.iter_mut().zip(times).for_each(|(shortest, time)| *shortest = shortest.min(time));
+        }
+    }
+    shortest
 }
 
 fn head(load: &Load) -> String {

@@ -2,7 +2,7 @@
 
 use crate::library;
 use crate::random::Random;
-use crate::ring::{Ring, Sides};
+use crate::ring::{Conductor, Ring, Sides, Technician};
 use crate::routes;
 use crate::script::{Mix, Script};
 use crate::LENGTH;
@@ -50,6 +50,10 @@ fn measure() {
     line("connected", (0..64).map(|s| depth(&mut || _ = ring.connected(&words, s, 63 - s))).max().unwrap());
     line("groups", depth(&mut || _ = ring.groups(&words)));
     line("route", route_depth());
+    let (mut conductor, mut technician) = (Conductor::EMPTY, Box::new(Technician::EMPTY));
+    line("conductor", depth(&mut || _ = ring.conductor(&words, &mut conductor)));
+    line("technician", depth(&mut || _ = ring.technician(&words, &mut technician)));
+    line("messages", depth(&mut || _ = ring.messages(&words)));
     line("replay", depth(&mut || library::replay(&mut words, sides, &keys, &events)));
     ring.open(&mut words, sides, &keys);
     let mut answers = vec![0; events.len()];

@@ -7,7 +7,7 @@ use crate::events::{deliver, echo, on, timer};
 use crate::look;
 use crate::plain::Plain;
 use crate::reference::Reference;
-use crate::ring::{Ring, Sides};
+use crate::ring::{Conductor, Ring, Sides, Technician};
 use crate::LENGTH;
 
 pub struct Book {
@@ -254,6 +254,37 @@ impl Book {
     /// A preview that the implementations alone judge.
     pub fn preview_any(&mut self, word: u32) {
         self.preview(word, LENGTH, self.judged(word));
+    }
+
+    pub fn fill_screen(&mut self, stamp: u32, spare: u32) {
+        self.run(Command::FILL_SCREEN, [stamp, spare, 0, 0]);
+    }
+
+    /// Both screens and the part, refused: "each number 0, each set empty", and "of length 0".
+    pub fn screens_refused(&mut self, answer: u32) {
+        self.ask_screens(answer);
+        let section = self.tally.section;
+        assert!(self.plain.conductor == Conductor::EMPTY, "{section}: a refused conductor's screen");
+        assert!(*self.plain.technician == Technician::EMPTY, "{section}: a refused technician's screen");
+        assert!(self.plain.part.is_empty(), "{section}: a refused part");
+    }
+
+    /// Both screens and the part, accepted: the part is the 5 m words from the first message on, and the technician's
+    /// screen has the conductor's.
+    pub fn screens(&mut self) -> &Technician {
+        self.ask_screens(0);
+        let (section, part) = (self.tally.section, 5 * look::messages(self.words()));
+        assert!(self.plain.part == self.words()[8_321..][..part], "{section}: the part");
+        assert!(self.plain.technician.conductor == self.plain.conductor, "{section}: two conductor's screens");
+        count(&mut self.tally.shown, (self.plain.conductor.nodes, part / 5));
+        &self.plain.technician
+    }
+
+    fn ask_screens(&mut self, answer: u32) {
+        for (number, answer) in [(Command::CONDUCTOR, answer), (Command::TECHNICIAN, answer), (Command::MESSAGES, 0)] {
+            let line = self.call(number, [0; 4], answer);
+            assert!(line.changed == 0, "{}: a screen wrote the ring", self.tally.section);
+        }
     }
 
     // Parts of a ring, written as words.

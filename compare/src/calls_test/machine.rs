@@ -1,7 +1,7 @@
 //! What `crates/test_calls` does with its commands, on any implementation.
 
 use super::event_word;
-use crate::ring::{Ring, Routed};
+use crate::ring::{Conductor, Ring, Routed, Sides, Technician};
 use crate::LENGTH;
 use std::fmt;
 
@@ -31,6 +31,10 @@ impl Command {
     pub const ROUTE: u32 = 11;
     pub const PREVIEW: u32 = 12;
     pub const FILL_SECOND: u32 = 13;
+    pub const CONDUCTOR: u32 = 14;
+    pub const TECHNICIAN: u32 = 15;
+    pub const MESSAGES: u32 = 16;
+    pub const FILL_SCREEN: u32 = 17;
 
     pub fn bytes(self) -> Vec<u8> {
         [self.number, self.a, self.b, self.c, self.d, self.lent].iter().flat_map(|word| word.to_le_bytes()).collect()
@@ -60,19 +64,41 @@ impl fmt::Display for Line {
 }
 
 /// A buffer of one word more than a ring, a list with keys and after them a script, places for the answers of its words
-/// or for the nodes of a route, and a second buffer for previews, as long as the first.
+/// or for the nodes of a route, a second buffer for previews, as long as the first, and what the screens show.
 pub struct Machine<'a> {
     ring: &'a dyn Ring,
     pub words: Vec<u32>,
     pub list: Vec<u32>,
     pub places: Vec<u8>,
     pub second: Vec<u32>,
+    pub conductor: Conductor,
+    pub technician: Box<Technician>,
+    /// The part, as the last call for it gave it.
+    pub part: Vec<u32>,
 }
+
+/// What the screens' own places have before each call; stamps and spares have what they had.
+const OLD: Conductor = Conductor {
+    sides: Sides { clockwise: u32::MAX, counter_clockwise: u32::MAX },
+    nodes: u32::MAX,
+    running: u64::MAX,
+    keys: [u32::MAX; 64],
+    leafsets: [u64::MAX; 64],
+};
 
 impl<'a> Machine<'a> {
     pub fn new(ring: &'a dyn Ring) -> Machine<'a> {
         let words = vec![0; LENGTH + 1];
-        Machine { ring, second: words.clone(), words, list: vec![0; 1_200], places: vec![0; 1_040] }
+        Machine {
+            ring,
+            second: words.clone(),
+            words,
+            list: vec![0; 1_200],
+            places: vec![0; 1_040],
+            conductor: OLD,
+            technician: Box::new(Technician::EMPTY),
+            part: Vec::new(),
+        }
     }
 
     pub fn run(&mut self, command: Command) -> Option<Line> {
@@ -81,6 +107,10 @@ impl<'a> Machine<'a> {
             Command::FILL_WORDS => self.words[a as usize..b as usize].fill(c),
             Command::FILL_LIST => self.list[a as usize..b as usize].fill(c),
             Command::FILL_SECOND => self.second[a as usize..b as usize].fill(c),
+            Command::FILL_SCREEN => {
+                self.technician.stamps.fill(a);
+                self.technician.spares.fill(b as u8);
+            }
             _ => {
                 let before = self.words.clone();
                 let (answer, value) = self.call(command);
@@ -111,6 +141,9 @@ impl<'a> Machine<'a> {
             Command::REPLAY => self.replay(command),
             Command::PLAY_ALL => self.play_all(command),
             Command::ROUTE => self.route(command),
+            Command::CONDUCTOR => self.conductor(command),
+            Command::TECHNICIAN => self.technician(command),
+            Command::MESSAGES => self.messages(command),
             _ => self.preview(command),
         }
     }
@@ -155,9 +188,45 @@ impl<'a> Machine<'a> {
         (answer, digest(self.second.iter().copied()))
     }
 
+    /// The value is the digest of all that the screen shows.
+    fn conductor(&mut self, command: Command) -> (u32, u64) {
+        self.conductor = OLD;
+        let answer = self.ring.conductor(&self.words[..command.lent as usize], &mut self.conductor);
+        (answer, digest(conductor_words(&self.conductor)))
+    }
+
+    /// The value is the digest of all that the screen shows, the conductor's first.
+    fn technician(&mut self, command: Command) -> (u32, u64) {
+        self.technician.conductor = OLD;
+        self.technician.candidates.fill(u64::MAX);
+        let answer = self.ring.technician(&self.words[..command.lent as usize], &mut self.technician);
+        let Technician { conductor, candidates, stamps, spares } = &*self.technician;
+        let more = set_words(candidates).chain(stamps.iter().copied()).chain(spares.iter().map(|&spare| spare as u32));
+        (answer, digest(conductor_words(conductor).chain(more)))
+    }
+
+    /// The value has the digest of the part, then its length, four decimal digits. The call has no answer, for which 0
+    /// stands.
+    fn messages(&mut self, command: Command) -> (u32, u64) {
+        self.part = self.ring.messages(&self.words[..command.lent as usize]).to_vec();
+        (0, digest(self.part.iter().copied()) * 10_000 + self.part.len() as u64)
+    }
+
     fn places_digest(&self) -> u64 {
         digest(self.places.iter().map(|&place| place as u32))
     }
+}
+
+/// A, B, n, the running nodes, the keys and the leafsets.
+fn conductor_words(screen: &Conductor) -> impl Iterator<Item = u32> + '_ {
+    let Conductor { sides, nodes, running, keys, leafsets } = screen;
+    let numbers = [sides.clockwise, sides.counter_clockwise, *nodes].into_iter();
+    numbers.chain(set_words(std::slice::from_ref(running))).chain(keys.iter().copied()).chain(set_words(leafsets))
+}
+
+/// Each set as two words, the lower one first.
+fn set_words(sets: &[u64]) -> impl Iterator<Item = u32> + '_ {
+    sets.iter().flat_map(|&set| [set as u32, (set >> 32) as u32])
 }
 
 fn digest(words: impl Iterator<Item = u32>) -> u64 {

@@ -12,6 +12,7 @@ mod previews;
 mod refusals;
 mod replays;
 mod routes;
+mod screens;
 mod steps;
 mod tally;
 
@@ -32,5 +33,6 @@ pub fn all() -> Book {
     lists::write(&mut book);
     routes::write(&mut book);
     previews::write(&mut book);
+    screens::write(&mut book);
     book
 }

@@ -28,6 +28,8 @@ pub struct Tally {
     pub listed: BTreeMap<u32, usize>,
     /// Accepted routes, by hops.
     pub hops: BTreeMap<u64, usize>,
+    /// Accepted screens, by n and m.
+    pub shown: BTreeMap<(u32, usize), usize>,
     /// Words damaged.
     pub damages: usize,
 }
@@ -48,7 +50,7 @@ pub fn kind(word: u32) -> u32 {
 }
 
 /// The answers that each call can give.
-const CALLS: [(&str, u32, &[u32]); 11] = [
+const CALLS: [(&str, u32, &[u32]); 14] = [
     ("open", Command::OPEN, &[0, 1, 2, 3]),
     ("play", Command::PLAY, &[0, 1, 4, 5, 6, 7, 8, 9, 10, 11]),
     ("leafset", Command::LEAFSET, &[0, 1, 6, 7, 8]),
@@ -60,6 +62,9 @@ const CALLS: [(&str, u32, &[u32]); 11] = [
     ("play_all", Command::PLAY_ALL, &[0, 1, 6]),
     ("route", Command::ROUTE, &[0, 1, 6, 7, 8, 12, 13]),
     ("preview", Command::PREVIEW, &[0, 1, 4, 5, 6, 7, 8, 9, 10, 11]),
+    ("conductor", Command::CONDUCTOR, &[0, 1, 6]),
+    ("technician", Command::TECHNICIAN, &[0, 1, 6]),
+    ("messages", Command::MESSAGES, &[0]),
 ];
 
 /// The answers that playing or previewing a word of each event kind can give.
@@ -80,9 +85,12 @@ const REPLAYED: [u32; 7] = [0, 4, 5, 7, 8, 9, 11];
 /// The answers in the places of a list on a ring.
 const LISTED: [u32; 8] = [0, 4, 5, 7, 8, 9, 10, 11];
 
+/// The fewest and the most nodes, without messages and with a full pool.
+const LIMITS: [(u32, usize); 3] = [(1, 0), (64, 0), (64, 1_024)];
+
 impl Tally {
-    /// Every answer that can come has come, and no other; every type was delivered and echoed, and every timer
-    /// accepted.
+    /// Every answer that can come has come, and no other; every type was delivered and echoed, every timer accepted,
+    /// and rings at their limits shown.
     pub fn is_full(&self) -> bool {
         let every_event = |counts: &BTreeMap<(u32, u32), usize>| {
             counts.keys().filter(|(kind, _)| *kind >= 9).copied().eq(each(&EVENTS))
@@ -95,6 +103,7 @@ impl Tally {
             && self.delivered.keys().copied().eq(1..=13)
             && self.echoed.keys().copied().eq(1..=13)
             && self.timers.keys().copied().eq(TIMERS)
+            && LIMITS.iter().all(|limit| self.shown.contains_key(limit))
     }
 }
 
@@ -114,7 +123,8 @@ impl fmt::Display for Tally {
         writeln!(f, "timers accepted: {:?}", self.timers)?;
         writeln!(f, "answers of replayed words: {:?}", self.replayed)?;
         writeln!(f, "answers of words in lists: {:?}", self.listed)?;
-        write!(f, "accepted routes, by hops: {:?}", self.hops)
+        writeln!(f, "accepted routes, by hops: {:?}", self.hops)?;
+        write!(f, "accepted screens, by n and m: {:?}", self.shown)
     }
 }
 

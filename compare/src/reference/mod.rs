@@ -8,10 +8,11 @@ mod messages;
 mod place;
 mod questions;
 mod row;
+mod screens;
 mod sets;
 mod validity;
 
-use crate::ring::{Ring, Routed, Sides};
+use crate::ring::{Conductor, Ring, Routed, Sides, Technician};
 use events::Event;
 use layout::*;
 use place::Place;
@@ -49,6 +50,18 @@ impl Ring for Reference {
 
     fn route(&self, words: &[u32], start: u32, key: u32, list: &mut [u8]) -> Routed {
         questions::route(words, start, key, list).unwrap_or_else(Routed::refused)
+    }
+
+    fn conductor(&self, words: &[u32], screen: &mut Conductor) -> u32 {
+        screens::conductor(words, screen)
+    }
+
+    fn technician(&self, words: &[u32], screen: &mut Technician) -> u32 {
+        screens::technician(words, screen)
+    }
+
+    fn messages<'a>(&self, words: &'a [u32]) -> &'a [u32] {
+        screens::messages(words)
     }
 }
 

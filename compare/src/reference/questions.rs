@@ -7,7 +7,7 @@ use super::validity::reads_as_ring;
 use crate::ring::Routed;
 
 /// The words as a ring, or refusal 1 or 6.
-fn ring(words: &[u32]) -> Result<(&Words, Header), u32> {
+pub fn ring(words: &[u32]) -> Result<(&Words, Header), u32> {
     let words: &Words = words.try_into().map_err(|_| 1u32)?;
     Ok((words, reads_as_ring(words).ok_or(6u32)?))
 }
@@ -71,7 +71,7 @@ pub fn route(words: &[u32], start: u32, key: u32, list: &mut [u8]) -> Result<Rou
     Ok(Routed { answer: 0, end: here.node() as u32, hops: hops as u32 })
 }
 
-fn running(words: &Words, header: Header) -> u64 {
+pub fn running(words: &Words, header: Header) -> u64 {
     (0..header.nodes).filter(|&x| is_running(words, x)).fold(0, |set, x| set | 1 << x)
 }
 

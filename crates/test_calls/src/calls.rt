@@ -5,6 +5,7 @@ use super::events::node;
 use super::events::outcome;
 use super::line::Outcome;
 use super::memory;
+use super::screens;
 use call_open::open;
 
 pub fn call(
@@ -13,6 +14,8 @@ pub fn call(
     list: &[u32],
     places: &mut [u8],
     second: &mut [u32],
+    stamps: &mut [u32; 4096],
+    spares: &mut [u8; 4096],
 ) -> Outcome {
     let number = command.number;
     match number {
@@ -22,6 +25,7 @@ pub fn call(
         Command::REPLAY => replayed(words, command, list, places),
         Command::PLAY_ALL => played_all(words, command, list, places),
         Command::ROUTE => routed(words, command, places),
+        Command::CONDUCTOR..=Command::MESSAGES => screens::show(command, words, stamps, spares),
         _ => previewed(words, command, second),
     }
 }

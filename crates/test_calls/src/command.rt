@@ -51,6 +51,18 @@ impl Command {
     // Words a up to b of the second buffer become c.
     pub const FILL_SECOND: u32 = 13;
 
+    // The conductor's screen.
+    pub const CONDUCTOR: u32 = 14;
+
+    // The technician's screen, over the stamps and spares as they are.
+    pub const TECHNICIAN: u32 = 15;
+
+    // The messages as a part of the words.
+    pub const MESSAGES: u32 = 16;
+
+    // Every stamp of the screens becomes a, every spare b.
+    pub const FILL_SCREEN: u32 = 17;
+
     // Every other number previews the word a, with the first b words of the second buffer.
 }
 

@@ -6,6 +6,7 @@ mod command;
 mod events;
 mod line;
 mod memory;
+mod screens;
 
 ghost use mathlib.Core.Path.{_≡_};
 ghost use lib.ListN.{length};
@@ -20,17 +21,41 @@ const WORDS: usize = place::LENGTH + 1;
 const MOST: u32 = 1_000_000;
 
 // A call, with its line.
-fn call(command: Command, words: &mut [u32], list: &[u32], places: &mut [u8], second: &mut [u32])
+fn call(
+    command: Command,
+    words: &mut [u32],
+    list: &[u32],
+    places: &mut [u8],
+    second: &mut [u32],
+    stamps: &mut [u32; 4096],
+    spares: &mut [u8; 4096],
+)
     requires length { ⌜ length (now words) ≡ 13442 ⌝ }
 {
     let mut before = [0u32; WORDS];
     ring_ranges::copy(words, &mut before);
     let end = memory::at_most(command.lent, words);
-    let outcome = calls::call(command, &mut words[..end], list, places, second);
+    let outcome = calls::call(
+        command,
+        &mut words[..end],
+        list,
+        places,
+        second,
+        stamps,
+        spares,
+    );
     line::print(command.number, outcome, &before, words);
 }
 
-fn run(command: Command, words: &mut [u32], list: &mut [u32], places: &mut [u8], second: &mut [u32])
+fn run(
+    command: Command,
+    words: &mut [u32],
+    list: &mut [u32],
+    places: &mut [u8],
+    second: &mut [u32],
+    stamps: &mut [u32; 4096],
+    spares: &mut [u8; 4096],
+)
     requires length { ⌜ length (now words) ≡ 13442 ⌝ }
 {
     let number = command.number;
@@ -38,11 +63,19 @@ fn run(command: Command, words: &mut [u32], list: &mut [u32], places: &mut [u8],
         Command::FILL_WORDS => memory::fill(words, command.a, command.b, command.c),
         Command::FILL_LIST => memory::fill(list, command.a, command.b, command.c),
         Command::FILL_SECOND => memory::fill(second, command.a, command.b, command.c),
-        _ => call(command, words, list, places, second),
+        Command::FILL_SCREEN => memory::fill_all(stamps, spares, command.a, command.b),
+        _ => call(command, words, list, places, second, stamps, spares),
     }
 }
 
-fn run_all(words: &mut [u32], list: &mut [u32], places: &mut [u8], second: &mut [u32])
+fn run_all(
+    words: &mut [u32],
+    list: &mut [u32],
+    places: &mut [u8],
+    second: &mut [u32],
+    stamps: &mut [u32; 4096],
+    spares: &mut [u8; 4096],
+)
     requires length { ⌜ length (now words) ≡ 13442 ⌝ }
 {
     for _ in 0..MOST {
@@ -50,16 +83,25 @@ fn run_all(words: &mut [u32], list: &mut [u32], places: &mut [u8], second: &mut 
         let Next::Command(command) = next else {
             return;
         };
-        run(command, words, list, places, second);
+        run(command, words, list, places, second, stamps, spares);
     }
 }
 
 // The list has keys, and after them a script; or a script alone. The places take the answers of its words, or the
-// nodes of a route. The second buffer is for previews.
+// nodes of a route. The second buffer is for previews; stamps and spares are the technician's.
 fn main() {
     let mut words = [0u32; WORDS];
     let mut list = [0u32; 1200];
     let mut places = [0u8; 1040];
     let mut second = [0u32; WORDS];
-    run_all(&mut words, &mut list, &mut places, &mut second);
+    let mut stamps = [0u32; 4096];
+    let mut spares = [0u8; 4096];
+    run_all(
+        &mut words,
+        &mut list,
+        &mut places,
+        &mut second,
+        &mut stamps,
+        &mut spares,
+    );
 }

@@ -34,6 +34,13 @@ pub fn fill(words: &mut [u32], from: u32, to: u32, value: u32) {
     }
 }
 
+pub fn fill_all(stamps: &mut [u32; 4096], spares: &mut [u8; 4096], stamp: u32, spare: u32) {
+    for i in 0..4096 {
+        stamps[i] = stamp;
+        spares[i] = (spare % 256) as u8;
+    }
+}
+
 // The number of places at which the words differ.
 pub fn differing(before: &[u32], after: &[u32]) -> u64
     requires lengths { ⌜ length (now before) ≡ length (now after) ⌝ }
@@ -55,8 +62,18 @@ fn digested(digest: u64, word: u32) -> u64
     (31 * digest + word as u64) % 0x1_0000_0000
 }
 
-pub fn digest(words: &[u32]) -> u64 {
-    let mut digest = 0;
+pub fn digest(words: &[u32]) -> u64
+    ensures bound { λ r. ⌜ r < 2 ^ 32 ⌝ }
+{
+    digest_on(0, words)
+}
+
+// The digest of words after others, whose digest is the first.
+pub fn digest_on(first: u64, words: &[u32]) -> u64
+    requires bounds { ⌜ first < 2 ^ 32 ⌝ }
+    ensures bound { λ r. ⌜ r < 2 ^ 32 ⌝ }
+{
+    let mut digest = first;
     for i in 0..words.len() {
         digest = digested(digest, words[i]);
     }
@@ -66,7 +83,14 @@ pub fn digest(words: &[u32]) -> u64 {
 pub fn digest_bytes(bytes: &[u8]) -> u64
     ensures bound { λ r. ⌜ r < 2 ^ 32 ⌝ }
 {
-    let mut digest = 0;
+    digest_bytes_on(0, bytes)
+}
+
+pub fn digest_bytes_on(first: u64, bytes: &[u8]) -> u64
+    requires bounds { ⌜ first < 2 ^ 32 ⌝ }
+    ensures bound { λ r. ⌜ r < 2 ^ 32 ⌝ }
+{
+    let mut digest = first;
     for i in 0..bytes.len() {
         digest = digested(digest, wide(bytes[i]));
     }
@@ -75,4 +99,24 @@ pub fn digest_bytes(bytes: &[u8]) -> u64
 
 fn wide(byte: u8) -> u32 {
     byte as u32
+}
+
+// A set as two words, the lower one first.
+pub fn digest_set(first: u64, set: u64) -> u64
+    requires bounds { ⌜ first < 2 ^ 32 ⌝ }
+    ensures bound { λ r. ⌜ r < 2 ^ 32 ⌝ }
+{
+    let low = digested(first, (set % 0x1_0000_0000) as u32);
+    digested(low, (set / 0x1_0000_0000) as u32)
+}
+
+pub fn digest_sets(first: u64, sets: &[u64; 64]) -> u64
+    requires bounds { ⌜ first < 2 ^ 32 ⌝ }
+    ensures bound { λ r. ⌜ r < 2 ^ 32 ⌝ }
+{
+    let mut digest = first;
+    for i in 0..64 {
+        digest = digest_set(digest, sets[i]);
+    }
+    digest
 }

@@ -6,12 +6,13 @@ use Rattle.test_calls.proofs.run_all.Statement.{statement}
 use Rattle.test_calls.proofs.run_all.Tie as tie
 
 abbrev Inv-loop : tie.InvT-loop
-Inv-loop words₀ list₀ places₀ second₀ counter₀ words list places second counter =
+Inv-loop words₀ list₀ places₀ second₀ stamps₀ spares₀ counter₀ words list places second stamps spares counter =
     (length words ≡ length words₀) × (length list ≡ length list₀) × (length places ≡ length places₀)
     × (length second ≡ length second₀)
 
 abbrev μ-loop : tie.MeasureT-loop
-μ-loop words₀ list₀ places₀ second₀ counter₀ words list places second counter = 1000000 - counter
+μ-loop words₀ list₀ places₀ second₀ stamps₀ spares₀ counter₀ words list places second stamps spares counter =
+    1000000 - counter
 
 pub run-all-spec : {M : Type 1} → statement M
 run-all-spec =

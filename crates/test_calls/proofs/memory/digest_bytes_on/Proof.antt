@@ -2,17 +2,17 @@ use mathlib.Core.Path.{_≡_}
 use Prim.Native.Nat.{_<_, _-_, _^_}
 use lib.ListN.{length}
 use borrow.Author.Needs.{needs}
-use Rattle.test_calls.proofs.memory.digest_bytes.Statement.{statement}
-use Rattle.test_calls.proofs.memory.digest_bytes.Tie as tie
+use Rattle.test_calls.proofs.memory.digest_bytes_on.Statement.{statement}
+use Rattle.test_calls.proofs.memory.digest_bytes_on.Tie as tie
 
 abbrev Inv-loop : tie.InvT-loop
-Inv-loop bytes digest₀ i₀ i-end digest i = (i-end ≡ length bytes) × (digest < 2 ^ 32)
+Inv-loop first bytes digest₀ i₀ i-end digest i = (i-end ≡ length bytes) × (digest < 2 ^ 32)
 
 abbrev μ-loop : tie.MeasureT-loop
-μ-loop bytes digest₀ i₀ i-end digest i = i-end - i
+μ-loop first bytes digest₀ i₀ i-end digest i = i-end - i
 
-pub digest-bytes-spec : {M : Type 1} → statement M
-digest-bytes-spec =
+pub digest-bytes-on-spec : {M : Type 1} → statement M
+digest-bytes-on-spec =
     tie.close
     (tie.spec
     Inv-loop

@@ -2,17 +2,17 @@ use mathlib.Core.Path.{_≡_}
 use Prim.Native.Nat.{_<_, _-_, _^_}
 use lib.ListN.{length}
 use borrow.Author.Needs.{needs}
-use Rattle.test_calls.proofs.memory.digest.Statement.{statement}
-use Rattle.test_calls.proofs.memory.digest.Tie as tie
+use Rattle.test_calls.proofs.memory.digest_on.Statement.{statement}
+use Rattle.test_calls.proofs.memory.digest_on.Tie as tie
 
 abbrev Inv-loop : tie.InvT-loop
-Inv-loop words digest₀ i₀ i-end digest i = (i-end ≡ length words) × (digest < 2 ^ 32)
+Inv-loop first words digest₀ i₀ i-end digest i = (i-end ≡ length words) × (digest < 2 ^ 32)
 
 abbrev μ-loop : tie.MeasureT-loop
-μ-loop words digest₀ i₀ i-end digest i = i-end - i
+μ-loop first words digest₀ i₀ i-end digest i = i-end - i
 
-pub digest-spec : {M : Type 1} → statement M
-digest-spec =
+pub digest-on-spec : {M : Type 1} → statement M
+digest-on-spec =
     tie.close
     (tie.spec
     Inv-loop

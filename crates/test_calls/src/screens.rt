@@ -1,0 +1,58 @@
+// The screens, by a command.
+ghost use Prim.Native.Nat.{_<_, _^_};
+use super::command::Command;
+use super::events::outcome;
+use super::line::Outcome;
+use super::memory;
+use model::screen::ConductorScreen;
+
+pub fn show(
+    command: Command,
+    words: &[u32],
+    stamps: &mut [u32; 4096],
+    spares: &mut [u8; 4096],
+) -> Outcome {
+    let number = command.number;
+    match number {
+        Command::CONDUCTOR => conductor(words),
+        Command::TECHNICIAN => technician(words, stamps, spares),
+        _ => messages(words),
+    }
+}
+
+fn conductor(words: &[u32]) -> Outcome {
+    let reply = call_screens::conductor(words);
+    let answer = reply.answer;
+    outcome(answer, digest(reply.screen))
+}
+
+// The value is the digest of A, B, n, the running nodes, the keys and the leafsets.
+fn digest(screen: ConductorScreen) -> u64
+    ensures bound { λ r. ⌜ r < 2 ^ 32 ⌝ }
+{
+    let numbers = [screen.sides.ahead, screen.sides.behind, screen.nodes];
+    let running = memory::digest_set(memory::digest(&numbers), screen.running);
+    let keys = memory::digest_on(running, &screen.keys);
+    memory::digest_sets(keys, &screen.leafsets)
+}
+
+// The value is the digest of what the conductor's screen has, of the candidates, the stamps and the spares.
+fn technician(words: &[u32], stamps: &mut [u32; 4096], spares: &mut [u8; 4096]) -> Outcome {
+    let reply = call_screens::technician(words, stamps, spares);
+    let answer = reply.answer;
+    let screen = reply.screen;
+    let candidates = memory::digest_sets(digest(screen.conductor), &screen.candidates);
+    outcome(
+        answer,
+        memory::digest_bytes_on(memory::digest_on(candidates, stamps), spares),
+    )
+}
+
+// The value has the digest of the part, then its length, four decimal digits. The call has no answer: 0 stands for it.
+fn messages(words: &[u32]) -> Outcome {
+    let part = call_screens::messages(words);
+    Outcome {
+        answer: 0,
+        value: memory::digest(part) * 10_000 + (part.len() % 10_000) as u64,
+    }
+}
