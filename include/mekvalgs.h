@@ -128,6 +128,25 @@ uint32_t mekvalgs_groups(const uint32_t *words, uint64_t length, uint32_t *group
 uint32_t mekvalgs_route(const uint32_t *words, uint64_t length, uint32_t start, uint32_t key, uint8_t *route,
                         uint64_t places, uint32_t *end, uint32_t *hops);
 
+/* What a conductor sees: A, B and n; which nodes run, bit s for node s; the key of each node, and the leafset of each
+ * running node in its held set. Clocks are not shown, nor is anything else: two rings alike in A, B, keys, running
+ * marks and held sets show alike. The places from n on, and the leafsets of nodes that are off, are 0.
+ * Answers 0, 1, 6. Every place is written at every call; where refused, all are 0. */
+uint32_t mekvalgs_conductor(const uint32_t *words, uint64_t length, uint32_t *clockwise, uint32_t *counter_clockwise,
+                            uint32_t *nodes, uint64_t *running, uint32_t keys[64], uint64_t leafsets[64]);
+
+/* What a technician sees: the same, the candidates of each node, and the commit stamp and the spare of each pair (x, z)
+ * at 64 x + z. A pair without a spare has MEKVALGS_NONE there; the places of no pair, (x, x) among them, are 0. The
+ * messages are in the ring's own words: mekvalgs_messages.
+ * Answers 0, 1, 6. Every place is written at every call; where refused, all are 0, the spares too. */
+uint32_t mekvalgs_technician(const uint32_t *words, uint64_t length, uint32_t *clockwise, uint32_t *counter_clockwise,
+                             uint32_t *nodes, uint64_t *running, uint32_t keys[64], uint64_t leafsets[64],
+                             uint64_t candidates[64], uint32_t stamps[4096], uint8_t spares[4096]);
+
+/* How many words the messages in flight have, from words[MEKVALGS_AT_MESSAGE(0)] on: five times m. No answer is given;
+ * there are 0 words where the technician's screen is refused. */
+uint64_t mekvalgs_messages(const uint32_t *words, uint64_t length);
+
 /* The event of a word as three numbers: its kind; its node, or of deliver and lose the position; the other node of
  * notice and contact, the timer of timer (0, 2, 3 or 4), 1 of an off that is polite and of a deliver that is an echo,
  * else 0. Answers 0, 4, 5; all three are 0 where refused. */
