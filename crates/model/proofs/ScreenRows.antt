@@ -8,7 +8,10 @@ use Rattle.model.specs.Choice.{if_then_else_}
 use Rattle.model.specs.Sets.{put, ofBits, toBits, count, noneNode, tabulate, tabulateFrom}
 use Rattle.model.specs.Leafset.{Table, leafset}
 use Rattle.model.specs.Ring.{Own, Node, Ring, blank, cleared}
-use Rattle.model.specs.Screens.{seen, ofPairAt, conductorScreen, technicianScreen, messagesIn, emptyConductor, emptyTechnician}
+use Rattle.model.specs.Screens.{seen, conductorScreen, technicianScreen, shownStamps, shownSpares, messagesIn}
+use Rattle.model.specs.Screens.{emptyConductor, emptyTechnician, conductorOf, technicianOf, stampsOf, sparesOf, messagesOf}
+use Rattle.model.specs.Answers.{firstOf}
+use Rattle.model.specs.Buffer.{ringAnswer}
 use Rattle.model.specs.declared.screen.ConductorScreen.{ConductorScreen}
 
 -- A = 1 and B = 2
@@ -41,14 +44,11 @@ pub conductor : ConductorScreen
 conductor = conductorScreen (seen ring)
 
 -- what is shown of the pair (x, z)
-pair : (Own → ℕ → ℕ) → ℕ → ℕ → ℕ
-pair part x z = ofPairAt ring part (64 * x + z)
-
 pub stamp : ℕ → ℕ → ℕ
-stamp = pair (λ o. o .commit)
+stamp x z = getD (shownStamps ring) (64 * x + z) 1
 
 pub spare : ℕ → ℕ → ℕ
-spare = pair (λ o. o .spare)
+spare x z = getD (shownSpares ring) (64 * x + z) 1
 
 pub record ScreenRows : Type 0 where
   -- "A, B, the table, who is running"
@@ -71,10 +71,17 @@ pub record ScreenRows : Type 0 where
   pub nothing-shown : emptyConductor .sides ≡ record { ahead = 0; behind = 0 }
   pub nobody-shown : emptyConductor .nodes ∷ emptyConductor .running ∷ getD (emptyConductor .keys) 63 1 ∷ [] ≡ 0 ∷ 0 ∷ 0 ∷ []
   pub no-set-shown : getD (emptyConductor .leafsets) 63 1 ∷ getD (emptyTechnician .candidates) 63 1 ∷ [] ≡ 0 ∷ 0 ∷ []
+  -- of a buffer of one word
+  pub refused-conductor : conductorOf (7 ∷ []) ≡ emptyConductor
+  pub refused-technician : technicianOf (7 ∷ []) ≡ emptyTechnician
+  pub refused-arrays : map (λ l. getD l 4095 1) (stampsOf (7 ∷ []) ∷ sparesOf (7 ∷ []) ∷ []) ≡ 0 ∷ 0 ∷ []
+  -- "of length 0 when refused"
+  pub refused-messages : messagesOf (7 ∷ []) ≡ []
 
 pub screen-rows : ScreenRows
 unfolding tabulateFrom toBits count leafset conductorScreen technicianScreen messagesIn emptyConductor emptyTechnician
-    table noting nodes ring conductor pair stamp spare
+    shownStamps shownSpares conductorOf technicianOf stampsOf sparesOf messagesOf ringAnswer firstOf
+    table noting nodes ring conductor stamp spare
 screen-rows =
     record {
       shows-sides = refl;
@@ -90,4 +97,8 @@ screen-rows =
       nothing-shown = refl;
       nobody-shown = refl;
       no-set-shown = refl;
+      refused-conductor = refl;
+      refused-technician = refl;
+      refused-arrays = refl;
+      refused-messages = refl;
     }
