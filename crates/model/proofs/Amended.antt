@@ -9,7 +9,7 @@ use Rattle.model.specs.Choice.{if_then_else_}
 use Rattle.model.specs.Fields.{ofKind}
 use Rattle.model.specs.Sets.{noneNode, ofBits, count, some, members, tabulateFrom}
 use Rattle.model.specs.Leafset.{Table, leafset, nearest}
-use Rattle.model.specs.Ring.{Own, Message, Ring, cleared, initial, isRunning}
+use Rattle.model.specs.Ring.{Own, Message, Ring, fresh, initial, isRunning}
 use Rattle.model.specs.Types.{pongAskInv, leave, usedByType}
 use Rattle.model.specs.Words.{headWord, sidesOf}
 use Rattle.model.specs.Steps.{plain, viewing, hold, release, forget, leaving, contact, notice, timer0, timer}
@@ -69,7 +69,7 @@ unfoldable flying : List Message → Ring
 flying ms =
     record {
       table = five;
-      node = λ x. if eqb x 0 then record { running = true; clock = 8; own = knowing 0b11000 } else record { running = false; clock = 0; own = cleared };
+      node = λ x. if eqb x 0 then record { running = true; clock = 8; own = knowing 0b11000 } else fresh;
       messages = ms;
     }
 

@@ -8,7 +8,9 @@ use Rattle.model.specs.WellFormed.{Each, nil, cons}
 use Rattle.model.specs.Answers.{isAccepted, numberOf}
 use Rattle.model.specs.Play.{after, act, receive, removeMessage, refusals, leftRefusals}
 use Rattle.model.specs.declared.answer.Answer.{Answer}
-use Rattle.model.specs.declared.answer.Answer.the-variants.{Accepted, WrongLength, OpeningOutOfRange, BadKey, NotAnEvent, SameNode, NotARing, OutOfTable, NodeOff, AlreadyRunning, ClockSpent, PoolFull, KeyOutOfRange, ListTooShort}
+use Rattle.model.specs.declared.answer.Answer.the-variants.{Accepted, WrongLength, OpeningOutOfRange, BadKey, NotAnEvent, SameNode, NotARing}
+use Rattle.model.specs.declared.answer.Answer.the-variants.{OutOfTable, NodeOff, AlreadyRunning, ClockSpent, PoolFull, KeyOutOfRange, ListTooShort}
+use Rattle.model.specs.declared.answer.Answer.the-variants.{SidesDiffer, TablesClash, TooManyMessages}
 use Rattle.model.specs.declared.event.Event.{Event}
 use Rattle.model.specs.declared.event.Event.the-variants.{On, Off, Notice, Contact, Timer, Deliver, Lose}
 use Rattle.model.proofs.Laws.{if-law}
@@ -43,7 +45,7 @@ after-table r (Lose i) = refl
 -- ---- answers
 
 -- an answer's number fits a byte
-pub number-low : (a : Answer) → numberOf a ≤ 13
+pub number-low : (a : Answer) → numberOf a ≤ 16
 number-low Accepted = lit≤ tt
 number-low WrongLength = lit≤ tt
 number-low OpeningOutOfRange = lit≤ tt
@@ -58,3 +60,6 @@ number-low ClockSpent = lit≤ tt
 number-low PoolFull = lit≤ tt
 number-low KeyOutOfRange = lit≤ tt
 number-low ListTooShort = lit≤ tt
+number-low SidesDiffer = lit≤ tt
+number-low TablesClash = lit≤ tt
+number-low TooManyMessages = lit≤ tt

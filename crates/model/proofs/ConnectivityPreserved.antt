@@ -1,26 +1,30 @@
 -- Demand 3: from a point with no acknowledgement and no type 13 from a running node in flight, and while only harmless words are accepted, connected nodes stay so. Each word
 -- is a step of Cut; the lent words follow the ring.
-use mathlib.Core.Path.{_≡_, refl, ap, _∙_}
-use mathlib.Core.Logic.{_↔_}
-use Prim.Native.Nat.{ℕ, zero, suc, _≤_, _<_}
+use mathlib.Core.Path.{_≡_, refl, sym, ap, ap₂, _∙_, subst}
+use mathlib.Core.Logic.{_↔_, inl, inr}
+use Prim.Native.Nat.{ℕ, zero, suc, _+_, _-_, _≤_, _<_}
 use native.Mathlib.Nat.{le-refl, le-of-suc-le-suc, not-suc-le-zero}
 use native.Mathlib.Omega.{arith}
 use native.Mathlib.Decide.{ℕ-discrete}
 use mathlib.Core.Bool.{Bool, true, not, _&&_}
-use mathlib.Core.List.{List, [], _∷_}
+use mathlib.Core.List.{List, [], _∷_, List·Memᴰ, List·Memᴰ·append-cases}
 use lib.ListN.{length, getD, take}
 use lib.Dec.{leb}
 use borrow.Author.Tests.{leb-true, le-leb}
 use Rattle.model.specs.Sets.{Set, some}
-use Rattle.model.specs.Ring.{Ring, isRunning}
+use Rattle.model.specs.Leafset.{size}
+use Rattle.model.specs.Ring.{Node, Message, Ring, isRunning}
 use Rattle.model.specs.WellFormed.{WellFormed, Each}
 use Rattle.model.specs.Answers.{isAccepted}
 use Rattle.model.specs.Events.{eventOf}
 use Rattle.model.specs.Words.{encode, decode, readsAsRing}
 use Rattle.model.specs.Play.{after, playAnswer, playWord, playAll}
 use Rattle.model.specs.Buffer.{Written, playBuffer, playBufferAll}
-use Rattle.model.specs.ConnectivityPreserved.{NoAcknowledgement, LeaversOff, Harmless, isHarmless, Reached, opened, played, wordsAt, readAt, answerAt, ringAt, AcceptedIsHarmless, Uncovered, isUncovered, uncovered, Unbroken, ConnectivityPreserved}
+use Rattle.model.specs.ConnectivityPreserved.{NoAcknowledgement, LeaversOff, Harmless, isHarmless, Reached, opened, played, joined}
+use Rattle.model.specs.ConnectivityPreserved.{wordsAt, readAt, answerAt, ringAt, AcceptedIsHarmless}
+use Rattle.model.specs.ConnectivityPreserved.{Uncovered, isUncovered, uncovered, Unbroken, ConnectivityPreserved}
 use Rattle.model.specs.Connection.{Connected}
+use Rattle.model.specs.Join.{raised, raisedMessage, join, joinBuffer, Joinable}
 use Rattle.model.specs.declared.event.Event.{Event}
 use Rattle.model.specs.declared.event.Event.the-variants.{On, Off, Notice, Contact, Timer, Deliver, Lose}
 use Rattle.model.proofs.Laws.{clash, and-left, and-right, and-in, not-in, not-out, decide, if-law, some-in, some-out}
@@ -31,8 +35,9 @@ use Rattle.model.proofs.RoundTrip.{round-trip}
 use Rattle.model.proofs.Fits.{encoded-reads}
 use Rattle.model.proofs.WellFormedPlay.{word-well}
 use Rattle.model.proofs.Follows.{follows, opened-well, opened-words}
-use Rattle.model.proofs.Cut.{Step, Steps, stay, more, at-point, leavers-steps, intact-steps, never-parted}
-use Rattle.model.proofs.Handlers.{Requests, event-step, event-requests, initial-requests, unchanged}
+use Rattle.model.proofs.Joins.{raised-is, first-node, second-node, joined-well, joinable, accepted-words}
+use Rattle.model.proofs.Cut.{clock, Step, Steps, stay, more, at-point, leavers-steps, intact-steps, never-parted}
+use Rattle.model.proofs.Handlers.{each-in, map-out, Requests, event-step, event-requests, initial-requests, unchanged}
 
 -- ---- a word
 
@@ -79,10 +84,55 @@ word-invariant {r = r} i w =
       requests = requests-word r (i .well) (i .requests) w;
     }
 
+-- a join keeps it: a request keeps its stamp, and its sender its clock
+
+module _ (r s : Ring) (g : WellFormed r) (h : WellFormed s) (may : Joinable r s) where
+  abbrev n : ℕ
+  n = size (r .table)
+
+  first-clock : (x : ℕ) → x < n → clock (join r s) x ≡ clock r x
+  first-clock x l = ap (λ (q : Node). q .clock) (first-node r s x l)
+
+  second-clock : (x : ℕ) → x < size (s .table) → clock (join r s) (raised n x) ≡ clock s x
+  second-clock x l =
+      let back : x + n - n ≡ x = omega arith in
+      ap (clock (join r s)) (raised-is n (size (s .table)) (may .size-fits) x l)
+      ∙ ap (λ (q : Node). q .clock) (second-node r s (x + n) (omega arith))
+      ∙ ap (clock s) back
+
+  joined-requests : Requests r → Requests s → Requests (join r s)
+  unfolding join
+  joined-requests p q m into nine =
+      elim (List·Memᴰ·append-cases (r .messages) into) [
+        | inl o ↦ rw (first-clock (m .sender) (each-in (g .messages-well) o .sender-low)) (p m o nine)
+        | inr t ↦ of-second (map-out (raisedMessage n) (s .messages) m t)
+      ]
+    where
+      of-second : (a : Message) × List·Memᴰ a (s .messages) × (m ≡ raisedMessage n a) → m .stamp ≤ clock (join r s) (m .sender)
+      of-second (a, o, e) =
+          subst (λ (b : Message). b .stamp ≤ clock (join r s) (b .sender)) (sym e)
+          (rw (second-clock (a .sender) (each-in (h .messages-well) o .sender-low)) (q a o (ap (λ (b : Message). b .type) (sym e) ∙ nine)))
+
+joined-invariant :
+    {first second : List ℕ} {r s : Ring} → Invariant first r → Invariant second s
+    → (third : List ℕ) → joinBuffer first second third .answer ≡ 0
+    → Invariant (joinBuffer first second third .words) (join r s)
+unfolding joinBuffer
+joined-invariant {first} {second} {r} {s} i j third ok =
+    let e : decode first ≡ r = ap decode (i .encoded) ∙ round-trip r (i .well) in
+    let f : decode second ≡ s = ap decode (j .encoded) ∙ round-trip s (j .well) in
+    let may : Joinable r s = subst (λ (q : Ring). Joinable q s) e (subst (Joinable (decode first)) f (joinable first second third ok)) in
+    record {
+      encoded = accepted-words first second third ok ∙ ap₂ (λ (p q : Ring). encode (join p q)) e f;
+      well = joined-well r s (i .well) (j .well) may;
+      requests = joined-requests r s (i .well) (j .well) may (i .requests) (j .requests);
+    }
+
 -- it holds of every ring that was reached
 invariant : {ws : List ℕ} {r : Ring} → Reached ws r → Invariant ws r
 invariant (opened old t ok) = record { encoded = opened-words old t ok; well = opened-well old t ok; requests = initial-requests t }
 invariant (played p w) = word-invariant (invariant p) w
+invariant (joined p q third ok) = joined-invariant (invariant p) (invariant q) third ok
 
 pub reached-reads : {ws : List ℕ} {r : Ring} → Reached ws r → readsAsRing ws ≡ true
 reached-reads {r = r} reached = ap readsAsRing (invariant reached .encoded) ∙ encoded-reads r (invariant reached .well)

@@ -39,7 +39,7 @@ message-in [] i k e = absurd (omega arith)
 message-in (m ∷ l) zero k e = List·Memᴰ·head refl
 message-in (m ∷ l) (suc i) k e = List·Memᴰ·tail (message-in l i k e)
 
-each-in : {P : Message → Type 0} {l : List Message} {m : Message} → Each P l → List·Memᴰ m l → P m
+pub each-in : {P : Message → Type 0} {l : List Message} {m : Message} → Each P l → List·Memᴰ m l → P m
 each-in nil h = absent h
 each-in {P} {m = m} (cons {l = l} p e) h = go (List·Memᴰ·cases-cons h) p (each-in e)
   where
@@ -65,13 +65,15 @@ take-part (suc i) (a ∷ l) m h = go (take-part i l m) (List·Memᴰ·cases-cons
 left-part : (i : ℕ) (l : List Message) → Part (take i l ++ drop (suc i) l) l
 left-part i l m h = elim (List·Memᴰ·append-cases (take i l) h) [ inl t ↦ take-part i l m t | inr d ↦ drop-part (suc i) l m d ]
 
-map-out : (make : ℕ → Message) (l : List ℕ) (m : Message) → List·Memᴰ m (map make l) → (y : ℕ) × (m ≡ make y)
+-- a message that was made of an element of a list
+pub map-out : {A : Type 0} (make : A → Message) (l : List A) (m : Message) → List·Memᴰ m (map make l) → (y : A) × List·Memᴰ y l × (m ≡ make y)
 map-out make [] m h = absent h
-map-out make (y ∷ l) m h = go (map-out make l m) (List·Memᴰ·cases-cons h)
+map-out {A} make (y ∷ l) m h = go (map-out make l m) (List·Memᴰ·cases-cons h)
   where
-    go : (List·Memᴰ m (map make l) → (y : ℕ) × (m ≡ make y)) → (m ≡ make y) ⊎ List·Memᴰ m (map make l) → (y : ℕ) × (m ≡ make y)
-    go f (inl e) = (y, e)
-    go f (inr t) = f t
+    go : (List·Memᴰ m (map make l) → (z : A) × List·Memᴰ z l × (m ≡ make z)) → (m ≡ make y) ⊎ List·Memᴰ m (map make l)
+        → (z : A) × List·Memᴰ z (y ∷ l) × (m ≡ make z)
+    go f (inl e) = (y, List·Memᴰ·head refl, e)
+    go f (inr t) = let q = f t in (q .0, List·Memᴰ·tail (q .1), q .2)
 
 -- ---- what holds at every point
 
@@ -219,7 +221,7 @@ module _ (r : Ring) (x : ℕ) where
   calm-one S m p = calm S (m ∷ []) (λ a h. rw (List·Memᴰ·eq-of-singleton h) p)
 
   plain-each : (make : ℕ → Message) (to : List ℕ) → ((y : ℕ) → Plain (make y)) → (m : Message) → List·Memᴰ m (map make to) → Plain m
-  plain-each make to p m h = let q = map-out make to m h in rw (q .1) (p (q .0))
+  plain-each make to p m h = let q = map-out make to m h in rw (q .2) (p (q .0))
 
   calm-many : (S : Set) (make : ℕ → Message) (to : List ℕ) → ((y : ℕ) → Plain (make y)) → Law (record { own = setCandidates S own; sent = map make to })
   calm-many S make to p = calm S (map make to) (plain-each make to p)
@@ -320,7 +322,7 @@ module _ (r : Ring) (x : ℕ) where
       to = members (size t) (λ z. outside t x now own z && not (eqb (own .spare z) noneNode))
 
       out : (m : Message) → List·Memᴰ m (map request to) → (z : ℕ) × (m ≡ request z)
-      out m h = map-out request to m h
+      out m h = let q = map-out request to m h in (q .0, q .2)
 
       no-other : (m : Message) (k : ℕ) → List·Memᴰ m (map request to) → ¬ (pingReplace ≡ k) → ¬ (m .type ≡ k)
       no-other m k h other is = other (sym (ap (λ (a : Message). a .type) (out m h .1)) ∙ is)
@@ -539,7 +541,7 @@ all-stay r m h = h
 -- a node says that it leaves
 leaving-types : (t : Table) (x now : ℕ) (o : Own) (m : Message) → List·Memᴰ m (leaving t x now o .sent) → m .type ≡ leave
 unfolding leaving
-leaving-types t x now o m h = ap (λ (a : Message). a .type) (map-out (plain leave x) (members (size t) (o .held)) m h .1)
+leaving-types t x now o m h = ap (λ (a : Message). a .type) (map-out (plain leave x) (members (size t) (o .held)) m h .2)
 
 leave-requests : (r : Ring) (x : ℕ) → Requests r → Requests (sendLeave x r)
 leave-requests r x q m h nine =

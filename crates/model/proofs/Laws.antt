@@ -5,7 +5,7 @@ use Prim.Native.Nat.{ℕ, zero, suc, _+_, _≤_, _<_, zero-le}
 use native.Mathlib.Nat.{le-refl, le-of-suc-le-suc, not-suc-le-zero, add-zero, zero-add, suc-add, add-suc}
 use native.Mathlib.Omega.{arith}
 use native.Mathlib.Decide.{ℕ-discrete}
-use mathlib.Core.Bool.{Bool, true, false, not, _&&_, _||_}
+use mathlib.Core.Bool.{Bool, true, false, not, _&&_, _||_, or-false, or-assoc}
 use mathlib.Core.List.{List, [], _∷_}
 use lib.ListN.{length, getD}
 use lib.Dec.{T, eqb, leb}
@@ -166,6 +166,17 @@ some-out (suc n) S t =
 pub some-none : (n : ℕ) (S : Set) → some n S ≡ false → (i : ℕ) → i < n → S i ≡ false
 some-none n S e i h = is-false (S i) (λ t. clash (some-in n S i h t) e)
 
+pub some-cong : (n : ℕ) (S R : Set) → ((z : ℕ) → z < n → S z ≡ R z) → some n S ≡ some n R
+unfolding some
+some-cong zero S R f = refl
+some-cong (suc n) S R f = ap₂ _||_ (some-cong n S R (λ z h. f z (omega arith))) (f n (le-refl (suc n)))
+
+-- below n, or from n on
+pub some-parts : (n k : ℕ) (S : Set) → some (n + k) S ≡ (some n S || some k (λ z. S (n + z)))
+unfolding some
+some-parts n zero S = rw (add-zero n) (sym (or-false (some n S)))
+some-parts n (suc k) S = rw (add-suc n k) (ap (λ (b : Bool). b || S (n + k)) (some-parts n k S) ∙ or-assoc (some n S) (some k (λ z. S (n + z))) (S (n + k)))
+
 -- ---- counts
 
 unfoldable pub one : Bool → ℕ
@@ -199,6 +210,12 @@ pub count-cong : (n : ℕ) (S R : Set) → ((z : ℕ) → z < n → S z ≡ R z)
 unfolding count
 count-cong zero S R f = refl
 count-cong (suc n) S R f = ap₂ (λ (x : ℕ) (b : Bool). x + (if b then 1 else 0)) (count-cong n S R (λ z h. f z (omega arith))) (f n (le-refl (suc n)))
+
+pub count-parts : (n k : ℕ) (S : Set) → count (n + k) S ≡ count n S + count k (λ z. S (n + z))
+unfolding count one
+count-parts n zero S = ap (λ (i : ℕ). count i S) (add-zero n) ∙ sym (add-zero (count n S))
+count-parts n (suc k) S =
+    rw (add-suc n k) (let e : count (n + k) S ≡ count n S + count k (λ z. S (n + z)) = count-parts n k S in omega (arith, one-le (S (n + k))))
 
 -- where at each number p and q together count as often as r
 pub count-add : (n : ℕ) (P Q R : Set) → ((z : ℕ) → z < n → one (R z) ≡ one (P z) + one (Q z)) → count n R ≡ count n P + count n Q

@@ -19,6 +19,9 @@ pub mod Groups
 pub mod Cut
 pub mod Handlers
 pub mod Follows
+pub mod Joins
+pub mod JoinedGroups
+pub mod Parted
 pub mod ConnectivityPreserved
 pub mod LeafsetSize
 pub mod Questions
@@ -26,9 +29,11 @@ pub mod ExampleRing
 pub mod Base
 pub mod PointsFit
 pub mod Amended
+pub mod JoinRows
 pub mod Routes
 pub mod Previews
 pub mod Echoes
 pub mod ScreenRows
 pub mod Screens
+pub mod Unreached
 pub mod Theorems

@@ -12,6 +12,7 @@ use Rattle.model.specs.Buffer.{ringRefusals, ringAnswer, openRefusals, o
 use Rattle.model.specs.Questions.{leafsetRefusals, leafsetAnswer, connectionRefusals, connectionAnswer}
 use Rattle.model.specs.Route.{routeRefusals, routeAnswer}
 use Rattle.model.specs.Preview.{previewRefusals, previewAnswer}
+use Rattle.model.specs.Join.{joinRefusals, joinAnswer}
 use Rattle.model.specs.Bench.{scriptRefusals, scriptAnswer}
 use Rattle.model.specs.declared.event.Event.{Event}
 use Rattle.model.specs.declared.event.Event.the-variants.{On, Off, Notice, Contact, Timer, Deliver, Lose}
@@ -62,6 +63,10 @@ lowest-at-ring ws = lowest-given 0 (ringRefusals ws) refl
 pub lowest-at-routing : (ws : List ℕ) (start key : ℕ) (list : List ℕ) → LowestOf (routeRefusals ws start key list) (routeAnswer ws start key list)
 unfolding routeAnswer
 lowest-at-routing ws start key list = lowest-given 0 (routeRefusals ws start key list) refl
+
+pub lowest-at-joining : (first second third : List ℕ) → LowestOf (joinRefusals first second third) (joinAnswer first second third)
+unfolding joinAnswer
+lowest-at-joining first second third = lowest-given 0 (joinRefusals first second third) refl
 
 pub lowest-at-script : (ws : List ℕ) → LowestOf (scriptRefusals ws) (scriptAnswer ws)
 unfolding scriptAnswer

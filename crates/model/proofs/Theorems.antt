@@ -24,7 +24,8 @@ use Rattle.model.specs.Route.{nextOf, goesOn, route, Converged, routeAns
 use Rattle.model.specs.Preview.{previewBuffer, Call, PreviewsChangeNothing}
 use Rattle.model.specs.Screens.{conductorOf, messagesOf, Alike}
 use Rattle.model.specs.Connection.{Connected, connected, groups, CountsGroups}
-use Rattle.model.specs.ConnectivityPreserved.{Reached, opened, Unbroken, ConnectivityPreserved}
+use Rattle.model.specs.Join.{join, joinBuffer, Joinable, FromOneRing, firstPart, secondPart}
+use Rattle.model.specs.ConnectivityPreserved.{Reached, opened, joined, Unbroken, ConnectivityPreserved}
 use Rattle.model.specs.declared.event.Event.{Event}
 use Rattle.model.specs.declared.event.Event.the-variants.{Deliver}
 use Rattle.model.specs.declared.event.Reading.the-variants.{Read}
@@ -47,10 +48,14 @@ use Rattle.model.proofs.Previews as previewed
 use Rattle.model.proofs.Echoes.{EchoLeaves, AlikeButFull}
 use Rattle.model.proofs.Echoes as echoes
 use Rattle.model.proofs.Screens as screens
+use Rattle.model.proofs.Joins as joins
+use Rattle.model.proofs.JoinedGroups as joined-groups
+use Rattle.model.proofs.Parted as parted
 use Rattle.model.proofs.ConnectivityPreserved as preserved
+use Rattle.model.proofs.Unreached as unreached
 -- "The lowest number that applies is given, and none otherwise", at each call: their statements are in Lowest
 pub use Rattle.model.proofs.Lowest.{lowest-at-writing, lowest-at-reading, lowest-at-opening, lowest-at-playing, lowest-at-previewing}
-pub use Rattle.model.proofs.Lowest.{lowest-at-leafset, lowest-at-connection, lowest-at-ring, lowest-at-routing, lowest-at-script}
+pub use Rattle.model.proofs.Lowest.{lowest-at-leafset, lowest-at-connection, lowest-at-ring, lowest-at-routing, lowest-at-joining, lowest-at-script}
 
 -- ---- event words
 
@@ -265,6 +270,77 @@ screen-tells ws vs e f p = screens.screen-tells ws vs e f p
 pub messages-many : (ws : List ℕ) → readsAsRing ws ≡ true → length (messagesOf ws) ≡ 5 * length (decode ws .messages)
 messages-many ws e = screens.messages-many ws e
 
+-- ---- joins
+
+module _ (first second third : List ℕ) (a : joinBuffer first second third .answer ≡ 0) where
+  -- "The result goes to a third buffer": an accepted join writes the encoding of the join, which reads as a ring, and as that ring
+  pub join-writes : joinBuffer first second third .words ≡ encode (join (decode first) (decode second))
+  unfolding joinBuffer
+  join-writes = joins.accepted-words first second third a
+
+  pub join-reads : readsAsRing (joinBuffer first second third .words) ≡ true
+  unfolding joinBuffer
+  join-reads = joins.join-reads first second third a
+
+  pub join-decodes : decode (joinBuffer first second third .words) ≡ join (decode first) (decode second)
+  unfolding joinBuffer
+  join-decodes = joins.join-decodes first second third a
+
+  -- its sources read as rings, and neither 14 nor 15 nor 16 applies to these
+  pub join-sources : (readsAsRing first ≡ true) × (readsAsRing second ≡ true) × Joinable (decode first) (decode second)
+  unfolding joinBuffer
+  join-sources = (joins.first-reads first second third a, joins.second-reads first second third a, joins.joinable first second third a)
+
+  -- "Two stands are connected in it exactly when they came from one ring and were connected there."
+  pub join-connects : (x y : ℕ) → Connected (decode (joinBuffer first second third .words)) x y ↔ FromOneRing (decode first) (decode second) x y
+  join-connects x y =
+      rw join-decodes (joined-groups.connected-in-join (decode first) (decode second) (decoded.reads-well first (join-sources .0)) x y)
+
+  -- so the groups of the two are its groups
+  pub join-groups : groups (decode (joinBuffer first second third .words)) ≡ groups (decode first) + groups (decode second)
+  join-groups =
+      ap groups join-decodes
+      ∙ joined-groups.groups-of-join (decode first) (decode second)
+      (decoded.reads-well first (join-sources .0)) (decoded.reads-well second (join-sources .1)) (join-sources .2)
+
+  -- nothing is lost: taken apart at the first's n and m, it gives back the two
+  pub join-first-back :
+      firstPart (size (decode first .table)) (length (decode first .messages)) (decode (joinBuffer first second third .words)) ≡ decode first
+  join-first-back =
+      ap (firstPart _ _) join-decodes ∙ parted.first-back (decode first) (decode second) (decoded.reads-well first (join-sources .0))
+
+  pub join-second-back :
+      secondPart (size (decode first .table)) (length (decode first .messages)) (decode (joinBuffer first second third .words)) ≡ decode second
+  join-second-back =
+      ap (secondPart _ _) join-decodes
+      ∙ parted.second-back (decode first) (decode second) (decoded.reads-well second (join-sources .1)) (join-sources .2)
+
+-- the join of well-formed rings to which neither 14 nor 15 nor 16 applies is well-formed
+pub join-well-formed : (r s : Ring) → WellFormed r → WellFormed s → Joinable r s → WellFormed (join r s)
+join-well-formed r s g h may = joins.joined-well r s g h may
+
+-- a join is accepted where its sources read as rings, the third buffer has the length of one, and neither 14 nor 15 nor 16 applies
+pub join-accepted :
+    (first second third : List ℕ) → readsAsRing first ≡ true → readsAsRing second ≡ true → length third ≡ ringLength
+    → Joinable (decode first) (decode second)
+    → joinBuffer first second third .answer ≡ 0
+unfolding joinBuffer
+join-accepted first second third e f l may = joins.accepts first second third e f l may
+
+-- "nothing is written" by a refused join
+pub refused-join :
+    (first second third : List ℕ) → isAccepted (joinBuffer first second third .answer) ≡ false
+    → joinBuffer first second third .words ≡ third
+unfolding joinBuffer
+refused-join first second third e = rw e
+
+-- of the third buffer only the length matters
+pub join-over :
+    (first second third other : List ℕ) → length third ≡ length other
+    → joinBuffer first second third .answer ≡ joinBuffer first second other .answer
+unfolding joinBuffer
+join-over first second third other e = joins.third-length first second third other e
+
 -- ---- demand 3
 
 -- words that were reached read as a ring
@@ -284,3 +360,15 @@ pub opening-preserves :
     (old : List ℕ) (t : Table) → openBuffer old t .answer ≡ 0
     → (words : List ℕ) → Unbroken (openBuffer old t .words) words (initial t)
 opening-preserves old t a words = connectivity-preserved (openBuffer old t .words) (initial t) (opened old t a) words
+
+-- "A list of events may from now on start from a join of rings that such lists reached": the sources may themselves be joins
+pub joining-preserves :
+    (first second : List ℕ) (r s : Ring) → Reached first r → Reached second s
+    → (third : List ℕ) → joinBuffer first second third .answer ≡ 0
+    → (words : List ℕ) → Unbroken (joinBuffer first second third .words) words (join r s)
+joining-preserves first second r s p q third a words =
+    connectivity-preserved (joinBuffer first second third .words) (join r s) (joined p q third a) words
+
+-- but not from any words that read as a ring, joined or not
+pub reading-is-not-enough : ¬ ((ws words : List ℕ) → readsAsRing ws ≡ true → Unbroken ws words (decode ws))
+reading-is-not-enough = unreached.reading-is-not-enough

@@ -17,7 +17,7 @@ use Rattle.model.specs.Events.{eventOf, sameNode, wordRefusals}
 use Rattle.model.specs.Words.{between, sidesFit, inRange, keysDiffer}
 use Rattle.model.specs.Buffer.{wrongLength, openingRefusals, openAnswer}
 use Rattle.model.specs.Play.{setNode, stopped, sendLeave, removeMessage, act, receive, after}
-use Rattle.model.specs.Play.{clockSpent, refusals, leftRefusals, stateRefusals, playAnswer, playWord}
+use Rattle.model.specs.Play.{clockSpent, refusals, leftRefusals, stateRefusals, playAnswer, playWord, playAll}
 use Rattle.model.specs.declared.event.Event.{Event}
 use Rattle.model.specs.declared.event.Event.the-variants.{On, Off, Notice, Contact, Timer, Deliver, Lose}
 use Rattle.model.proofs.Fits.{sides-out}
@@ -197,6 +197,12 @@ word-well r w g =
     if-law WellFormed (isAccepted (playAnswer r w)) (after r (eventOf w)) r
     (λ a. let p : AcceptedWord r w = accepted-word r w a in event-well r (eventOf w) g (p .event .well .differ) (p .passed))
     (λ a. g)
+
+-- a list of words leaves a well-formed ring
+pub words-well : (r : Ring) (words : List ℕ) → WellFormed r → WellFormed (playAll r words)
+unfolding playAll
+words-well r [] g = g
+words-well r (w ∷ words) g = words-well (playWord r w .ring) words (word-well r w g)
 
 -- ---- the initial ring of a table that opens
 

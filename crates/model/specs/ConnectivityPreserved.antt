@@ -17,6 +17,7 @@ use Rattle.model.specs.Play.{playWord, playAll}
 use Rattle.model.specs.Buffer.{openBuffer, playBuffer, playBufferAll}
 use Rattle.model.specs.Words.{encode, decode}
 use Rattle.model.specs.Connection.{Connected}
+use Rattle.model.specs.Join.{join, joinBuffer}
 use Rattle.model.specs.declared.event.Event.{Event}
 use Rattle.model.specs.declared.event.Event.the-variants.{On, Off, Notice, Contact, Timer, Deliver, Lose}
 
@@ -54,6 +55,11 @@ pub data Reached : List ℕ → Ring → Type 0 where
   opened : (old : List ℕ) (t : Table) → openBuffer old t .answer ≡ 0 → Reached (openBuffer old t .words) (initial t)
   -- "Each word is played on what the one before left, a refused one changing nothing, and nobody else writes the ring meanwhile."
   played : {ws : List ℕ} {r : Ring} → Reached ws r → (w : ℕ) → Reached (playBuffer ws w .words) (playWord r w .ring)
+  -- "A list of events may from now on start from a join of rings that such lists reached": of joins too, over any old words
+  joined :
+      {first second : List ℕ} {r s : Ring} → Reached first r → Reached second s
+      → (third : List ℕ) → joinBuffer first second third .answer ≡ 0
+      → Reached (joinBuffer first second third .words) (join r s)
 
 -- a list of words, played on the lent words `start`
 module _ (start words : List ℕ) where

@@ -20,3 +20,4 @@ pub mod Structs
 pub mod Route
 pub mod Preview
 pub mod Screens
+pub mod Join

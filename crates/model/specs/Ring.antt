@@ -39,9 +39,13 @@ blank = record { type = 0; sender = 0; receiver = 0; subject = noneNode; stamp =
 abbrev pub cleared : Own
 cleared = record { held = empty; candidates = empty; commit = λ z. 0; spare = λ z. noneNode }
 
+-- a node of the initial ring, and what is no node of a table
+abbrev pub fresh : Node
+fresh = record { running = false; clock = 0; own = cleared }
+
 -- the initial ring, document 01's fresh ring: "A fresh ring has every stand off, all clocks 0, no messages."
 unfoldable pub initial : Table → Ring
-initial t = record { table = t; node = λ x. record { running = false; clock = 0; own = cleared }; messages = [] }
+initial t = record { table = t; node = λ x. fresh; messages = [] }
 
 -- the message at a position, "oldest 0"
 abbrev pub messageAt : Ring → ℕ → Message

@@ -15,4 +15,7 @@ pub enum Answer {
     PoolFull,
     KeyOutOfRange,
     ListTooShort,
+    SidesDiffer,
+    TablesClash,
+    TooManyMessages,
 }
