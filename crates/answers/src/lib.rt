@@ -23,6 +23,9 @@ pub fn number(answer: Answer) -> u32
         Answer::PoolFull => 11,
         Answer::KeyOutOfRange => 12,
         Answer::ListTooShort => 13,
+        Answer::SidesDiffer => 14,
+        Answer::TablesClash => 15,
+        Answer::TooManyMessages => 16,
     }
 }
 

@@ -72,6 +72,9 @@ fn put_answer(out: &mut [u8], at: usize, answer: Answer) -> usize
         }
         Answer::KeyOutOfRange => at,
         Answer::ListTooShort => at,
+        Answer::SidesDiffer => at,
+        Answer::TablesClash => at,
+        Answer::TooManyMessages => at,
     }
 }
 

@@ -8,6 +8,7 @@ ghost use Rattle.model.specs.Buffer.{ringAnswer, openBuffer, playBuffer};
 ghost use Rattle.model.specs.Questions.{leafsetAnswer, leafsetOf, connectionAnswer, connectionOf, groupsOf};
 ghost use Rattle.model.specs.Words.{decode};
 ghost use Rattle.model.specs.Preview.{previewBuffer};
+ghost use Rattle.model.specs.Join.{joinBuffer};
 ghost use Rattle.model.specs.Route.{routeBuffer};
 ghost use Rattle.model.specs.Screens.{conductorOf, technicianOf, stampsOf, sparesOf, messagesOf};
 ghost use Rattle.model.specs.Connection.{Connected};
@@ -55,6 +56,16 @@ pub extern "C" fn mekvalgs_preview(words: &[u32], word: u32, preview: &mut [u32]
     ensures ring { λ _. ⌜ now (words .exit) ≡ now (words .entry) ⌝ }
 {
     answers::number(call_preview::preview(words, word, preview))
+}
+
+// The join of two rings, in the third buffer.
+#[no_mangle]
+pub extern "C" fn mekvalgs_join(first: &[u32], second: &[u32], joined: &mut [u32]) -> u32
+    ensures joined { λ r. ⌜ record { answer = r; words = now (joined .exit) }
+        ≡ joinBuffer (now (first .entry)) (now (second .entry)) (now (joined .entry)) ⌝ }
+    ensures sources { λ _. ⌜ (now (first .exit) ≡ now (first .entry)) × (now (second .exit) ≡ now (second .entry)) ⌝ }
+{
+    answers::number(call_join::join(first, second, joined))
 }
 
 // Plays the script on the ring; the answers' numbers, as far as there are places for them.

@@ -63,6 +63,18 @@ returns-14 : tie.Need-returns-14
 unfolding answerText
 returns-14 c = answered (c .enum-told14 .given .1) (put-none _ _) refl (lit≤ tt)
 
+returns-15 : tie.Need-returns-15
+unfolding answerText
+returns-15 c = answered (c .enum-told15 .given .1) (put-none _ _) refl (lit≤ tt)
+
+returns-16 : tie.Need-returns-16
+unfolding answerText
+returns-16 c = answered (c .enum-told16 .given .1) (put-none _ _) refl (lit≤ tt)
+
+returns-17 : tie.Need-returns-17
+unfolding answerText
+returns-17 c = answered (c .enum-told17 .given .1) (put-none _ _) refl (lit≤ tt)
+
 pub put-answer-spec : {M : Type 1} → statement M
 put-answer-spec =
     tie.close
@@ -75,8 +87,9 @@ put-answer-spec =
     (λ c κs. search needs) (λ c. search needs) (λ c. search needs) (λ c κs. search needs)
     (λ c. search needs) (λ c. search needs) (λ c κs. search needs) (λ c. search needs) (λ c. search needs)
     (λ c κs. search needs) (λ c. search needs) (λ c. search needs) (λ c κs. search needs)
-    (λ c. search needs) (λ c. search needs) (λ c. search needs) returns (λ c. search needs) returns-2
+    (λ c. search needs) (λ c. search needs) (λ c. search needs) (λ c. search needs) (λ c. search needs)
+    (λ c. search needs) returns (λ c. search needs) returns-2
     (λ c. search needs) returns-3 (λ c. search needs) returns-4 (λ c. search needs) returns-5
     (λ c. search needs) returns-6 (λ c. search needs) returns-7 (λ c. search needs) returns-8
     (λ c. search needs) returns-9 (λ c. search needs) returns-10 (λ c. search needs) returns-11
-    (λ c. search needs) returns-12 returns-13 returns-14)
+    (λ c. search needs) returns-12 returns-13 returns-14 returns-15 returns-16 returns-17)

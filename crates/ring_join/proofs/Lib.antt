@@ -1,0 +1,4 @@
+pub mod Raises
+pub mod Rows
+pub mod Messages
+pub mod Join
