@@ -5,8 +5,8 @@
  *     target/ring
  *
  * A preview of the first event; for each event its answer and the messages in flight; then each node with those that it
- * holds, read from the words, who is linked, which of them keeps key 16, and what the conductor sees. It prints what
- * ring.out has.
+ * holds, read from the words, who is linked, which of them keeps key 16, and what the conductor sees. Then a second ring,
+ * the join of the two, and a contact across, delivered and answered, that makes one group. It prints what ring.out has.
  */
 #include <inttypes.h>
 #include <stdio.h>
@@ -14,6 +14,7 @@
 #include "mekvalgs.h"
 
 static uint32_t ring[MEKVALGS_RING_LENGTH], preview[MEKVALGS_RING_LENGTH];
+static uint32_t second[MEKVALGS_RING_LENGTH], joined[MEKVALGS_RING_LENGTH];
 
 /* The word of an event whose parts are known to fit. */
 static uint32_t event(uint32_t kind, uint32_t first, uint32_t second)
@@ -59,6 +60,34 @@ static void print_screen(void)
     printf("\n");
 }
 
+static void print_groups(const char *when)
+{
+    uint32_t groups, answer = mekvalgs_groups(joined, MEKVALGS_RING_LENGTH, &groups);
+    printf("groups %s: answer %" PRIu32 ", %" PRIu32 "\n", when, answer, groups);
+}
+
+/* The nodes of the second ring get the numbers 3 and 4. */
+static void print_join(void)
+{
+    const uint32_t keys[] = { 15, 25 };
+    const uint32_t apart[] = { event(MEKVALGS_ON, 0, 0), event(MEKVALGS_ON, 1, 0), event(MEKVALGS_CONTACT, 0, 1),
+                               event(MEKVALGS_DELIVER, 0, 0), event(MEKVALGS_DELIVER, 0, 0) };
+    const uint32_t across[] = { event(MEKVALGS_CONTACT, 1, 4), event(MEKVALGS_DELIVER, 0, 0),
+                                event(MEKVALGS_DELIVER, 0, 0) };
+    uint8_t answers[5];
+    uint32_t answer;
+
+    mekvalgs_open(second, MEKVALGS_RING_LENGTH, 1, 1, keys, 2);
+    mekvalgs_play_all(second, MEKVALGS_RING_LENGTH, apart, 5, answers, 5);
+    answer = mekvalgs_join(ring, MEKVALGS_RING_LENGTH, second, MEKVALGS_RING_LENGTH, joined, MEKVALGS_RING_LENGTH);
+    printf("join: answer %" PRIu32 ", nodes %" PRIu32 "\n", answer, MEKVALGS_NODES(joined[MEKVALGS_AT_HEAD]));
+    print_groups("of the join");
+    mekvalgs_play_all(joined, MEKVALGS_RING_LENGTH, across, 3, answers, 3);
+    printf("contact from 1 to 4, delivered and answered: answers %" PRIu8 " %" PRIu8 " %" PRIu8 "\n", answers[0],
+           answers[1], answers[2]);
+    print_groups("after it");
+}
+
 int main(void)
 {
     const uint32_t keys[] = { 10, 20, 30 };
@@ -101,5 +130,6 @@ int main(void)
         printf(" %" PRIu8, route[i]);
     printf("\n");
     print_screen();
+    print_join();
     return 0;
 }

@@ -25,6 +25,8 @@ pub struct Plan {
     pub previews: u64,
     /// Screens at least, each time both and the part.
     pub screens: u64,
+    /// Joins, each accepted one played on.
+    pub joins: u64,
     pub mixes: Vec<Mix>,
     /// Scripts have from 1 to this number of nodes.
     pub nodes: usize,

@@ -4,7 +4,7 @@
 
 use crate::look;
 use crate::random::Random;
-use crate::ring::Ring;
+use crate::ring::{Ring, Sides};
 use crate::routes;
 use crate::screens::{Screens, Seen};
 use crate::LENGTH;
@@ -57,9 +57,19 @@ fn other_ring(random: &mut Random, words: &[u32], [candidates, stamps, spares, m
         (0..n).for_each(|x| draw_clock(random, &mut other, x));
     }
     if messages {
-        draw_messages(random, &mut other);
+        let any = random.below(1_025);
+        let count = random.pick(&[0, 1, 2, any % 40, any % 40, any, 1_024]);
+        draw_messages(random, &mut other, count);
     }
     other
+}
+
+/// A ring in which every running node holds a few others, with values of every sort.
+pub fn made_ring(random: &mut Random, sides: Sides, keys: &[u32], running: &[bool]) -> Vec<u32> {
+    let words = routes::scattered(random, sides, keys, running);
+    // Clocks above 1 first, then stamps up to them.
+    let words = other_ring(random, &words, [false, false, false, false, true]);
+    other_ring(random, &words, [true; 5])
 }
 
 /// None, or a node that is neither of the two.
@@ -76,11 +86,10 @@ fn draw_clock(random: &mut Random, words: &mut [u32], x: usize) {
     words[2 + 2 * x] = 5 << 28 | random.pick(&[least, any, any, LIMIT]);
 }
 
-/// Any number of messages, each of any type.
-fn draw_messages(random: &mut Random, words: &mut [u32]) {
+/// So many messages, each of any type; none at a node alone.
+pub fn draw_messages(random: &mut Random, words: &mut [u32], count: usize) {
     let n = look::nodes(words);
-    let any = random.below(1_025);
-    let count = if n == 1 { 0 } else { random.pick(&[0, 1, 2, any % 40, any % 40, any, 1_024]) };
+    let count = if n == 1 { 0 } else { count };
     words[0] = words[0] & !(2_047 << 11) | (count as u32) << 11;
     words[8_321..].fill(0);
     for message in words[8_321..].chunks_exact_mut(5).take(count) {
@@ -209,10 +218,7 @@ impl Made {
         let mut made = Made::default();
         for _ in 0..count {
             let (sides, keys, running) = routes::table(&mut random);
-            let words = routes::scattered(&mut random, sides, &keys, &running);
-            // Clocks above 1 first, then stamps up to them.
-            let words = other_ring(&mut random, &words, [false, false, false, false, true]);
-            let words = other_ring(&mut random, &words, [true; 5]);
+            let words = made_ring(&mut random, sides, &keys, &running);
             let number = random.word();
             for (place, ring) in rings.iter().enumerate() {
                 match hold(*ring, &words, number) {

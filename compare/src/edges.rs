@@ -43,7 +43,7 @@ fn opening(random: &mut Random) -> (Sides, Vec<u32>) {
     (sides, keys)
 }
 
-/// The answers of all calls; all words after them, the ring's, then those of a preview's second buffer; the screens.
+/// The answers of all calls; all words after them, the ring's, then those of a second buffer for a preview and a join; the screens.
 fn calls(ring: &dyn Ring, mut words: Vec<u32>, sides: Sides, keys: &[u32], word: u32) -> (Vec<u64>, Vec<u32>, Seen) {
     let mut answers = vec![ring.open(&mut words, sides, keys) as u64];
     answers.push(ring.play(&mut words, word) as u64);
@@ -63,6 +63,7 @@ fn calls(ring: &dyn Ring, mut words: Vec<u32>, sides: Sides, keys: &[u32], word:
     answers.extend(list.map(u64::from));
     let mut second = vec![!word; [LENGTH, LENGTH, LENGTH - 1, LENGTH + 1][word as usize & 3]];
     answers.push(ring.preview(&mut words, word, &mut second) as u64);
+    answers.push(ring.join(&words, &words, &mut second) as u64);
     let seen = Screens { lent: words.len(), old: word }.ask(ring, &words);
     answers.extend([seen.conductor_answer, seen.answer, seen.part.len() as u32].map(u64::from));
     words.extend(second);

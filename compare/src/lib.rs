@@ -11,6 +11,7 @@ pub mod draw;
 pub mod edges;
 pub mod events;
 pub mod filter;
+pub mod joins;
 #[cfg(feature = "library")]
 pub mod library;
 pub mod look;

@@ -9,6 +9,9 @@ extern "C" {
     ) -> u32;
     fn mekvalgs_play(words: *mut u32, len: u64, word: u32) -> u32;
     fn mekvalgs_preview(words: *const u32, len: u64, word: u32, preview: *mut u32, preview_len: u64) -> u32;
+    fn mekvalgs_join(
+        first: *const u32, first_len: u64, second: *const u32, second_len: u64, joined: *mut u32, joined_len: u64,
+    ) -> u32;
     fn mekvalgs_play_all(
         words: *mut u32, len: u64, script: *const u32, script_len: u64, answers: *mut u8, places: u64,
     ) -> u32;
@@ -63,6 +66,15 @@ impl Ring for Library {
         unsafe {
             mekvalgs_preview(
                 words.as_mut_ptr(), words.len() as u64, word, second.as_mut_ptr(), second.len() as u64,
+            )
+        }
+    }
+
+    fn join(&self, first: &[u32], second: &[u32], joined: &mut [u32]) -> u32 {
+        unsafe {
+            mekvalgs_join(
+                first.as_ptr(), first.len() as u64, second.as_ptr(), second.len() as u64, joined.as_mut_ptr(),
+                joined.len() as u64,
             )
         }
     }

@@ -4,14 +4,14 @@ use compare::agree::{self, Found, Plan};
 use compare::ring::Ring;
 use compare::script::Mix;
 use compare::routes::Made;
-use compare::{alike, edges, every_ring, fast_rings, self_test, speed, stage, vectors};
+use compare::{alike, edges, every_ring, fast_rings, joins, self_test, speed, stage, vectors};
 use std::path::Path;
 use std::process::ExitCode;
 use std::time::Instant;
 
 const USAGE: &str = "compare [all | agree | unbroken | self-test | speed | stack | stage | vectors]
     [seed=1] [events=5000000] [damaged=1000000] [routes=EVENTS/10] [previews=EVENTS/10]
-    [screens=EVENTS/10] [nodes=64] [threads=CORES] [mixes=gentle,chaos,garbage,replacement]
+    [screens=EVENTS/10] [joins=EVENTS/25] [nodes=64] [threads=CORES] [mixes=gentle,chaos,garbage,replacement]
     [vectors=FOLDER] [slip=NAME] [seeds=5]";
 
 struct Options {
@@ -35,9 +35,9 @@ impl Options {
 fn options() -> Option<Options> {
     let threads = std::thread::available_parallelism().map_or(1, |count| count.get() as u64);
     let (events, mixes) = (5_000_000, Mix::ALL.to_vec());
-    let (damaged, routes, previews, screens) = (1_000_000, 0, 0, 0);
-    let plan = Plan { seed: 1, events, damaged, routes, previews, screens, mixes, nodes: 64, threads };
-    let (mut routes, mut previews, mut screens) = (None, None, None);
+    let (damaged, routes, previews, screens, joins) = (1_000_000, 0, 0, 0, 0);
+    let plan = Plan { seed: 1, events, damaged, routes, previews, screens, joins, mixes, nodes: 64, threads };
+    let (mut routes, mut previews, mut screens, mut joins) = (None, None, None, None);
     let steady = vec![Mix::Gentle, Mix::Replacement];
     let mut options = Options { mode: "all".to_string(), plan, steady, vectors: None, slip: None, seeds: 5 };
     for word in std::env::args().skip(1) {
@@ -49,6 +49,7 @@ fn options() -> Option<Options> {
             Some(("routes", value)) => routes = Some(value.parse().ok()?),
             Some(("previews", value)) => previews = Some(value.parse().ok()?),
             Some(("screens", value)) => screens = Some(value.parse().ok()?),
+            Some(("joins", value)) => joins = Some(value.parse().ok()?),
             Some(("nodes", value)) => options.plan.nodes = value.parse().ok().filter(|n| (1..=64).contains(n))?,
             Some(("threads", value)) => options.plan.threads = value.parse().ok().filter(|&count| count > 0)?,
             Some(("mixes", value)) => {
@@ -64,6 +65,7 @@ fn options() -> Option<Options> {
     options.plan.routes = routes.unwrap_or(options.plan.events / 10);
     options.plan.previews = previews.unwrap_or(options.plan.events / 10);
     options.plan.screens = screens.unwrap_or(options.plan.events / 10);
+    options.plan.joins = joins.unwrap_or(options.plan.events / 25);
     Some(options)
 }
 
@@ -110,6 +112,7 @@ fn speed_table() -> bool {
     speed::routes(&fast_rings());
     speed::previews(&fast_rings());
     speed::screens(&fast_rings());
+    speed::joins(&fast_rings());
     true
 }
 
@@ -145,7 +148,7 @@ fn agree_all(plan: &Plan) -> bool {
     let start = Instant::now();
     let (tally, found) = agree::run(plan, &rings);
     println!("{tally}\n{:.0} seconds", start.elapsed().as_secs_f64());
-    let made = made_rings(plan, &rings) & alike_rings(plan, &rings);
+    let made = made_rings(plan, &rings) & alike_rings(plan, &rings) & joined_rings(plan, &rings);
     made & differences.is_empty() & numbers_agree & nothing(plan, &rings, found)
 }
 
@@ -181,11 +184,21 @@ fn alike_rings(plan: &Plan, rings: &[&dyn Ring]) -> bool {
     found.is_empty()
 }
 
+/// Joins of random rings, each accepted one played on.
+fn joined_rings(plan: &Plan, rings: &[&dyn Ring]) -> bool {
+    let start = Instant::now();
+    let joins::Made { tally, found } = joins::Made::run(plan.seed, plan.joins, plan.threads, rings);
+    println!("{tally}\n{} joins found wrong, {:.0} seconds", found.len(), start.elapsed().as_secs_f64());
+    found.iter().take(1).for_each(|line| println!("{line}"));
+    found.is_empty()
+}
+
 /// Demand 3 on the first implementation alone.
 fn unbroken(options: &Options) -> bool {
     let rings = &fast_rings()[..1];
     println!("\nUnbroken connection, {}", rings[0].name());
-    let plan = Plan { damaged: 0, routes: 0, previews: 0, screens: 0, mixes: options.steady.clone(), ..options.plan };
+    let none = Plan { damaged: 0, routes: 0, previews: 0, screens: 0, joins: 0, mixes: Vec::new(), ..options.plan };
+    let plan = Plan { mixes: options.steady.clone(), ..none };
     let (tally, found) = agree::run(&plan, rings);
     println!("{tally}");
     nothing(&plan, rings, found)

@@ -3,6 +3,8 @@
 //!
 //! A [`Slip`] makes it a wrong program, for the self-test of the harness.
 
+mod joins;
+
 use crate::ring::{Conductor, Ring, Routed, Sides, Technician};
 use crate::LENGTH;
 use std::collections::BTreeSet;
@@ -152,6 +154,50 @@ pub enum Slip {
     ScreenStampsTurned,
     /// The spare of (x, z) is at n x + z.
     ScreenSparesPacked,
+    /// A join's subject 64 rises, too.
+    JoinSubject64,
+    /// A join's views keep their numbers.
+    JoinViewStays,
+    /// A join's views rise within each word: bits that leave it are lost.
+    JoinViewCut,
+    /// In a join the second ring's messages come first.
+    JoinSecondFirst,
+    /// A join's spares keep their numbers.
+    JoinSpareStays,
+    /// A join's spare 64 rises, too.
+    JoinSpare64,
+    /// Refusal 15 before refusal 14.
+    JoinTablesFirst,
+    /// Refusal 16 before refusal 15.
+    JoinMessagesFirst,
+    /// Rings that differ in B alone are joined.
+    JoinSidesAhead,
+    /// Rings that share a key are joined.
+    JoinSharedKey,
+    /// 64 + 1 nodes are joined.
+    JoinNode65,
+    /// 1,025 messages are joined; the last is dropped.
+    JoinMessage1025,
+    /// In a join the first ring's running nodes have the second's as candidates.
+    JoinCandidate,
+    /// In a join the first ring's running nodes hold the second's.
+    JoinHeld,
+    /// In a join each clock becomes the latest.
+    JoinClocks,
+    /// A join's commit stamps rise with the numbers.
+    JoinCommits,
+    /// A join's messages' stamps rise with the numbers.
+    JoinStamps,
+    /// Refusal 6 for the third buffer's old words, too.
+    JoinThirdRead,
+    /// Refusal 6 of the first source before refusal 1.
+    JoinRingsFirst,
+    /// A join is content with a third buffer of any length.
+    JoinAnyThird,
+    /// A join leaves the third buffer's places of no node, pair and message as they are.
+    JoinUnusedKept,
+    /// A refused join copies its first source.
+    JoinRefusedWrites,
     /// Reads as a ring with a commit stamp one above the clock.
     CommitAboveClock,
     /// Reads as a ring with a node as its own spare.
@@ -169,7 +215,7 @@ pub enum Slip {
 }
 
 impl Slip {
-    pub const ALL: [Slip; 78] = [
+    pub const ALL: [Slip; 100] = [
         Slip::StampNotAbove,
         Slip::CommitZero,
         Slip::AskerAsSpare,
@@ -241,6 +287,28 @@ impl Slip {
         Slip::ScreenUnusedKept,
         Slip::ScreenStampsTurned,
         Slip::ScreenSparesPacked,
+        Slip::JoinSubject64,
+        Slip::JoinViewStays,
+        Slip::JoinViewCut,
+        Slip::JoinSecondFirst,
+        Slip::JoinSpareStays,
+        Slip::JoinSpare64,
+        Slip::JoinTablesFirst,
+        Slip::JoinMessagesFirst,
+        Slip::JoinSidesAhead,
+        Slip::JoinSharedKey,
+        Slip::JoinNode65,
+        Slip::JoinMessage1025,
+        Slip::JoinCandidate,
+        Slip::JoinHeld,
+        Slip::JoinClocks,
+        Slip::JoinCommits,
+        Slip::JoinStamps,
+        Slip::JoinThirdRead,
+        Slip::JoinRingsFirst,
+        Slip::JoinAnyThird,
+        Slip::JoinUnusedKept,
+        Slip::JoinRefusedWrites,
         Slip::CommitAboveClock,
         Slip::OwnSpare,
         Slip::ReceiverInView,
@@ -249,6 +317,11 @@ impl Slip {
         Slip::Diagonal,
         Slip::LastWord,
     ];
+
+    /// Those of joins.
+    pub fn of_join(self) -> bool {
+        format!("{self:?}").starts_with("Join")
+    }
 }
 
 pub struct Plain {
@@ -269,6 +342,7 @@ struct Pair {
     spare: Option<usize>,
 }
 
+#[derive(Clone)]
 struct Node {
     key: u32,
     running: bool,
@@ -1158,6 +1232,10 @@ impl Ring for Plain {
 
     fn preview(&self, words: &mut [u32], word: u32, second: &mut [u32]) -> u32 {
         self.try_preview(words, word, second).err().unwrap_or(0)
+    }
+
+    fn join(&self, first: &[u32], second: &[u32], joined: &mut [u32]) -> u32 {
+        self.join_rings(first, second, joined)
     }
 
     fn leafset_of(&self, words: &[u32], node: u32) -> (u32, u64) {

@@ -105,6 +105,9 @@ pub trait Ring: Sync {
     /// one that can be written, so that an implementation that does so is found.
     fn preview(&self, words: &mut [u32], word: u32, second: &mut [u32]) -> u32;
 
+    /// Writes the join of two rings over a third buffer: the first's nodes keep their numbers.
+    fn join(&self, first: &[u32], second: &[u32], joined: &mut [u32]) -> u32;
+
     /// Plays the words of a list, and writes the answer of each to its place, if there is one. Answers for the buffer
     /// alone: by 1 or 6 nothing is played. Where an implementation has no such call they are played one by one.
     fn play_all(&self, words: &mut [u32], list: &[u32], answers: &mut [u8]) -> u32 {

@@ -2,6 +2,7 @@
 
 use crate::agree::{self, Found, Plan};
 use crate::alike;
+use crate::joins;
 use crate::plain::{Plain, Slip};
 use crate::reference::Reference;
 use crate::ring::Ring;
@@ -25,11 +26,14 @@ pub fn run(plan: &Plan, only: Option<&str>) -> usize {
     let wanted = |slip: &Slip| only.is_none_or(|only| only == format!("{slip:?}"));
     let mixes = Mix::ALL.to_vec();
     let (events, each) = (3_000_000, 300_000);
-    let agreement = Plan { events, damaged: each, routes: each, previews: each, screens: each, mixes, ..*plan };
+    let (damaged, routes, previews, screens, joins) = (each, each, each, each, 0);
+    let agreement = Plan { events, damaged, routes, previews, screens, joins, mixes, ..*plan };
     let mixes = vec![Mix::Replacement];
     let (damaged, routes, previews, screens) = (0, 0, 0, 0);
-    let demand_3 = Plan { events: 10_000_000, damaged, routes, previews, screens, mixes, nodes: 10, ..*plan };
-    let by_difference = Slip::ALL.into_iter().filter(wanted).filter(|&slip| {
+    let demand_3 = Plan { events: 10_000_000, damaged, routes, previews, screens, joins, mixes, nodes: 10, ..*plan };
+    let by_join = Slip::ALL.into_iter().filter(|slip| slip.of_join()).filter(wanted);
+    let by_join = by_join.filter(|&slip| !joins_wrongly(plan, slip, only.is_some()));
+    let by_difference = Slip::ALL.into_iter().filter(|slip| !slip.of_join()).filter(wanted).filter(|&slip| {
         let wrong = Plain { slip: Some(slip) };
         !finds(&agreement, &[&Reference, &wrong], slip, "difference", only.is_some())
     });
@@ -43,7 +47,22 @@ pub fn run(plan: &Plan, only: Option<&str>) -> usize {
     });
     let by_end = ASTRAY.into_iter().filter(wanted).filter(|&slip| !goes_astray(plan, slip));
     let by_pair = TELLING.into_iter().filter(wanted).filter(|&slip| !tells(plan, slip));
-    by_difference.count() + by_demand_3.count() + by_preview.count() + by_end.count() + by_pair.count()
+    let by_difference = by_join.count() + by_difference.count();
+    by_difference + by_demand_3.count() + by_preview.count() + by_end.count() + by_pair.count()
+}
+
+fn joins_wrongly(plan: &Plan, slip: Slip, show: bool) -> bool {
+    let made = joins::Made::run(plan.seed, 20_000, plan.threads, &[&Reference, &Plain { slip: Some(slip) }]);
+    let Some(found) = made.found.first() else {
+        println!("{slip:?} join NOT FOUND in 20000 joins");
+        return false;
+    };
+    let name = format!("{slip:?}");
+    println!("{name:<20} {:<11} {}", "join", found.lines().next().unwrap_or_default());
+    if show {
+        println!("{found}");
+    }
+    true
 }
 
 fn tells(plan: &Plan, slip: Slip) -> bool {

@@ -7,6 +7,7 @@ use crate::ring::{Conductor, Ring, Sides, Technician};
 use crate::routes;
 use crate::LENGTH;
 use std::hint::black_box;
+use std::ops::Range;
 use std::time::Instant;
 
 const ROUNDS: usize = 301;
@@ -102,21 +103,27 @@ fn held(words: &[u32]) -> usize {
 
 /// 64 running nodes that hold each other, all with a spare or none, and `messages` of every type.
 fn full(messages: usize, spares: bool) -> Vec<u32> {
+    full_of(0..64, messages, spares)
+}
+
+/// So for the nodes of a part of the circle's 64 places.
+fn full_of(places: Range<u32>, messages: usize, spares: bool) -> Vec<u32> {
     let mut random = Random::new(1, messages as u64);
-    let keys: Vec<u32> = (0..64).map(|s| s << 18 | random.word() & 0x3_FFFF).collect();
+    let n = places.len();
+    let keys: Vec<u32> = places.map(|s| s << 18 | random.word() & 0x3_FFFF).collect();
     let mut words = vec![0; LENGTH];
     Reference.open(&mut words, Sides::from(8), &keys);
     words[0] |= (messages as u32) << 11;
     let not = |random: &mut Random, taken: &[usize]| loop {
-        let s = random.below(64);
+        let s = random.below(n);
         if !taken.contains(&s) {
             return s;
         }
     };
-    for x in 0..64 {
+    for x in 0..n {
         words[1 + 2 * x] |= 1 << 24;
         words[2 + 2 * x] |= 1_000;
-        for z in (0..64).filter(|&z| z != x) {
+        for z in (0..n).filter(|&z| z != x) {
             let at = 129 + 2 * (64 * x + z);
             words[at] |= 1 << 24 | (1 + random.below(1_000)) as u32;
             if spares {
@@ -126,7 +133,7 @@ fn full(messages: usize, spares: bool) -> Vec<u32> {
     }
     for k in 0..messages {
         let kind = 1 + random.below(12);
-        let sender = random.below(64);
+        let sender = random.below(n);
         let receiver = not(&mut random, &[sender]);
         let subject = if (8..12).contains(&kind) { not(&mut random, &[sender, receiver]) } else { 64 };
         let message = &mut words[8_321 + 5 * k..][..5];
@@ -320,6 +327,44 @@ fn screen_times(start: &[u32], rings: &[&dyn Ring]) -> Vec<[f64; 4]> {
         }
     }
     shortest
+}
+
+/// Joins to 64 nodes that hold those of their ring, beside two readings and one copy; the shortest of rounds in turns.
+pub fn joins(rings: &[&dyn Ring]) {
+    print!("{:<48}{:>12}", "nanoseconds a join, the shortest", "copy");
+    rings.iter().for_each(|ring| print!("{:>18}{:>12}{:>8}", format!("{} join", ring.name()), "readings", ""));
+    println!("  and over two readings and copy");
+    let sorts = [(32, 0, 0), (32, 512, 512), (1, 0, 0), (1, 0, 1_024)];
+    for (n, ours, theirs, spares) in sorts.into_iter().flat_map(|(n, m, k)| [(n, m, k, false), (n, m, k, true)]) {
+        let [first, second] = [full_of(0..n, ours, spares), full_of(n..64, theirs, spares)];
+        let (times, copy) = join_times(&first, &second, rings);
+        let count = spares_of(&first) + spares_of(&second);
+        print!("{:<48}{copy:>12.0}", format!("  n {n} + {}, m {ours} + {theirs}, {count} spares", 64 - n));
+        for [join, readings] in times {
+            print!("{join:>18.0}{readings:>12.0}{:>8.2}", join / (readings + copy));
+        }
+        println!();
+    }
+}
+
+/// Nanoseconds a join and a reading of both sources of each ring, and of a copy.
+fn join_times(first: &[u32], second: &[u32], rings: &[&dyn Ring]) -> (Vec<[f64; 2]>, f64) {
+    let mut shortest = vec![[f64::MAX; 2]; rings.len()];
+    let mut copy = f64::MAX;
+    let mut joined = vec![0; LENGTH];
+    for _ in 0..10 * ROUNDS {
+        for (ring, [join, readings]) in rings.iter().zip(&mut shortest) {
+            *join = join.min(each(&[0], |_| ring.join(black_box(first), black_box(second), &mut joined)));
+            let reading = |node| ring.leafset_of(black_box(first), node).0 + ring.leafset_of(black_box(second), node).0;
+            *readings = readings.min(each(&[64], reading));
+            copy = copy.min(each(&[0], |_| {
+                joined.copy_from_slice(black_box(first));
+                0
+            }));
+        }
+    }
+    assert!(rings.iter().all(|ring| ring.join(first, second, &mut joined) == 0));
+    (shortest, copy)
 }
 
 fn head(load: &Load) -> String {

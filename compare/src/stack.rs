@@ -46,6 +46,7 @@ fn measure() {
     ring.open(&mut words, sides, &keys);
     line("play", events.iter().map(|&word| depth(&mut || _ = ring.play(&mut words, word))).max().unwrap());
     line("preview", preview_depth(sides, &keys, &events));
+    line("join", join_depth());
     line("leafset", (0..64).map(|s| depth(&mut || _ = ring.leafset_of(&words, s))).max().unwrap());
     line("connected", (0..64).map(|s| depth(&mut || _ = ring.connected(&words, s, 63 - s))).max().unwrap());
     line("groups", depth(&mut || _ = ring.groups(&words)));
@@ -73,6 +74,17 @@ fn preview_depth(sides: Sides, keys: &[u32], events: &[u32]) -> usize {
         depth
     });
     depths.max().unwrap()
+}
+
+/// Two rings of 32 nodes, with no messages.
+fn join_depth() -> usize {
+    let keys: Vec<u32> = (0..64).collect();
+    let rings = [&keys[..32], &keys[32..]].map(|keys| routes::converged(Sides::from(2), keys, &[true; 32]));
+    let mut joined = vec![0; LENGTH];
+    let mut answer = 1;
+    let depth = depth(&mut || answer = library::Library.join(&rings[0], &rings[1], &mut joined));
+    assert!(answer == 0, "accepted");
+    depth
 }
 
 /// The route with the most hops: 64 nodes in a row, each of which holds the next, from the first to the last.

@@ -19,6 +19,6 @@ fn main() -> std::io::Result<()> {
 
 /// The wrong programs whose lines are the right ones.
 fn unnoticed(book: &Book) -> Vec<Slip> {
-    let is_right = |slip: &Slip| calls_test::run(&Plain { slip: Some(*slip) }, &book.input) == book.output;
+    let is_right = |slip: &Slip| !calls_test::differs(&Plain { slip: Some(*slip) }, &book.input, &book.output);
     Slip::ALL.into_iter().filter(is_right).collect()
 }

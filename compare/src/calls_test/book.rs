@@ -45,6 +45,10 @@ impl Book {
         &self.plain.words[..LENGTH]
     }
 
+    pub fn second(&self) -> &[u32] {
+        &self.plain.second[..LENGTH]
+    }
+
     pub fn places(&self) -> &[u8] {
         &self.plain.places
     }
@@ -254,6 +258,52 @@ impl Book {
     /// A preview that the implementations alone judge.
     pub fn preview_any(&mut self, word: u32) {
         self.preview(word, LENGTH, self.judged(word));
+    }
+
+    pub fn fill_third(&mut self, from: u32, to: u32, value: u32) {
+        self.run(Command::FILL_THIRD, [from, to, value, 0]);
+    }
+
+    /// The second buffer becomes the buffer.
+    pub fn keep(&mut self) {
+        self.run(Command::KEEP, [0; 4]);
+    }
+
+    /// The buffer becomes the third one.
+    pub fn take(&mut self) {
+        self.run(Command::TAKE, [0; 4]);
+    }
+
+    /// A join of the buffer and the second one, which is lent so many words of the second and the third. The sources
+    /// stay; refused, so does the third.
+    pub fn join(&mut self, lengths: [usize; 2], answer: u32) {
+        self.join_by(Command::JOIN, lengths, answer);
+    }
+
+    /// A join of the buffer and itself, which every ring refuses.
+    pub fn join_itself(&mut self, length: usize, answer: u32) {
+        self.join_by(Command::JOIN_ITSELF, [0, length], answer);
+    }
+
+    fn join_by(&mut self, number: u32, [second, third]: [usize; 2], answer: u32) {
+        let (kept, old) = (self.plain.second.clone(), self.plain.third.clone());
+        let line = self.call(number, [second as u32, third as u32, 0, 0], answer);
+        let section = self.tally.section;
+        assert!(line.changed == 0 && self.plain.second == kept, "{section}: a source was written");
+        assert!(answer == 0 || self.plain.third == old, "{section}: a refused join wrote");
+        assert!(self.plain.third[LENGTH] == old[LENGTH], "{section}: a join wrote past the ring");
+    }
+
+    /// An accepted join of the two. Its groups are those of both.
+    pub fn joined(&mut self) -> &[u32] {
+        self.join([LENGTH; 2], 0);
+        let sizes = [self.words(), &self.plain.second].map(|words| (look::nodes(words), look::messages(words)));
+        count(&mut self.tally.joined, (sizes[0].0, sizes[1].0));
+        count(&mut self.tally.joined_messages, (sizes[0].1, sizes[1].1));
+        let rings = [self.words(), &self.plain.second[..LENGTH], &self.plain.third[..LENGTH]];
+        let groups = rings.map(|words| Plain { slip: None }.groups(words));
+        assert_eq!(groups[2], (0, groups[0].1 + groups[1].1), "{}: groups of a join", self.tally.section);
+        &self.plain.third[..LENGTH]
     }
 
     pub fn fill_screen(&mut self, stamp: u32, spare: u32) {

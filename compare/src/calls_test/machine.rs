@@ -35,6 +35,11 @@ impl Command {
     pub const TECHNICIAN: u32 = 15;
     pub const MESSAGES: u32 = 16;
     pub const FILL_SCREEN: u32 = 17;
+    pub const KEEP: u32 = 18;
+    pub const TAKE: u32 = 19;
+    pub const FILL_THIRD: u32 = 20;
+    pub const JOIN: u32 = 21;
+    pub const JOIN_ITSELF: u32 = 22;
 
     pub fn bytes(self) -> Vec<u8> {
         [self.number, self.a, self.b, self.c, self.d, self.lent].iter().flat_map(|word| word.to_le_bytes()).collect()
@@ -64,13 +69,15 @@ impl fmt::Display for Line {
 }
 
 /// A buffer of one word more than a ring, a list with keys and after them a script, places for the answers of its words
-/// or for the nodes of a route, a second buffer for previews, as long as the first, and what the screens show.
+/// or for the nodes of a route, a second buffer for previews and joins and a third one for joins, as long as the first,
+/// and what the screens show.
 pub struct Machine<'a> {
     ring: &'a dyn Ring,
     pub words: Vec<u32>,
     pub list: Vec<u32>,
     pub places: Vec<u8>,
     pub second: Vec<u32>,
+    pub third: Vec<u32>,
     pub conductor: Conductor,
     pub technician: Box<Technician>,
     /// The part, as the last call for it gave it.
@@ -92,6 +99,7 @@ impl<'a> Machine<'a> {
         Machine {
             ring,
             second: words.clone(),
+            third: words.clone(),
             words,
             list: vec![0; 1_200],
             places: vec![0; 1_040],
@@ -107,6 +115,9 @@ impl<'a> Machine<'a> {
             Command::FILL_WORDS => self.words[a as usize..b as usize].fill(c),
             Command::FILL_LIST => self.list[a as usize..b as usize].fill(c),
             Command::FILL_SECOND => self.second[a as usize..b as usize].fill(c),
+            Command::FILL_THIRD => self.third[a as usize..b as usize].fill(c),
+            Command::KEEP => self.second.copy_from_slice(&self.words),
+            Command::TAKE => self.words.copy_from_slice(&self.third),
             Command::FILL_SCREEN => {
                 self.technician.stamps.fill(a);
                 self.technician.spares.fill(b as u8);
@@ -144,6 +155,7 @@ impl<'a> Machine<'a> {
             Command::CONDUCTOR => self.conductor(command),
             Command::TECHNICIAN => self.technician(command),
             Command::MESSAGES => self.messages(command),
+            Command::JOIN | Command::JOIN_ITSELF => self.join(command),
             _ => self.preview(command),
         }
     }
@@ -186,6 +198,16 @@ impl<'a> Machine<'a> {
         let second = &mut self.second[..command.b as usize];
         let answer = self.ring.preview(words, command.a, second);
         (answer, digest(self.second.iter().copied()))
+    }
+
+    /// A join, with some words of the second buffer, or of the first once more, and some of the third: the value is the
+    /// digest of the whole second and the whole third.
+    fn join(&mut self, command: Command) -> (u32, u64) {
+        let first = &self.words[..command.lent as usize];
+        let itself = command.number == Command::JOIN_ITSELF;
+        let second = if itself { first } else { &self.second[..command.a as usize] };
+        let answer = self.ring.join(first, second, &mut self.third[..command.b as usize]);
+        (answer, digest(self.second.iter().chain(&self.third).copied()))
     }
 
     /// The value is the digest of all that the screen shows.
@@ -233,9 +255,9 @@ fn digest(words: impl Iterator<Item = u32>) -> u64 {
     words.fold(0, |digest, word| (31 * digest + word as u64) % (1 << 32))
 }
 
-/// The lines of an implementation for the commands in these bytes.
-pub fn run(ring: &dyn Ring, input: &[u8]) -> String {
+/// Whether an implementation gives other lines for the commands in these bytes.
+pub fn differs(ring: &dyn Ring, input: &[u8], output: &str) -> bool {
     let mut machine = Machine::new(ring);
     let lines = input.chunks_exact(24).filter_map(|bytes| machine.run(Command::from_bytes(bytes)));
-    lines.map(|line| line.to_string()).collect()
+    !lines.map(|line| line.to_string()).eq(output.split_inclusive('\n'))
 }

@@ -4,6 +4,7 @@ mod book;
 mod damaged;
 mod echoes;
 mod event_word;
+mod joins;
 mod lists;
 mod machine;
 mod openings;
@@ -17,7 +18,7 @@ mod steps;
 mod tally;
 
 pub use book::Book;
-pub use machine::run;
+pub use machine::differs;
 
 /// Every case.
 pub fn all() -> Book {
@@ -34,5 +35,6 @@ pub fn all() -> Book {
     routes::write(&mut book);
     previews::write(&mut book);
     screens::write(&mut book);
+    joins::write(&mut book);
     book
 }

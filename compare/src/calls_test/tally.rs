@@ -30,6 +30,9 @@ pub struct Tally {
     pub hops: BTreeMap<u64, usize>,
     /// Accepted screens, by n and m.
     pub shown: BTreeMap<(u32, usize), usize>,
+    /// Accepted joins, by the two numbers of nodes, and by the two numbers of messages.
+    pub joined: BTreeMap<(usize, usize), usize>,
+    pub joined_messages: BTreeMap<(usize, usize), usize>,
     /// Words damaged.
     pub damages: usize,
 }
@@ -50,7 +53,7 @@ pub fn kind(word: u32) -> u32 {
 }
 
 /// The answers that each call can give.
-const CALLS: [(&str, u32, &[u32]); 14] = [
+const CALLS: [(&str, u32, &[u32]); 16] = [
     ("open", Command::OPEN, &[0, 1, 2, 3]),
     ("play", Command::PLAY, &[0, 1, 4, 5, 6, 7, 8, 9, 10, 11]),
     ("leafset", Command::LEAFSET, &[0, 1, 6, 7, 8]),
@@ -65,6 +68,8 @@ const CALLS: [(&str, u32, &[u32]); 14] = [
     ("conductor", Command::CONDUCTOR, &[0, 1, 6]),
     ("technician", Command::TECHNICIAN, &[0, 1, 6]),
     ("messages", Command::MESSAGES, &[0]),
+    ("join", Command::JOIN, &[0, 1, 6, 14, 15, 16]),
+    ("joined with itself", Command::JOIN_ITSELF, &[1, 6, 15]),
 ];
 
 /// The answers that playing or previewing a word of each event kind can give.
@@ -88,9 +93,13 @@ const LISTED: [u32; 8] = [0, 4, 5, 7, 8, 9, 10, 11];
 /// The fewest and the most nodes, without messages and with a full pool.
 const LIMITS: [(u32, usize); 3] = [(1, 0), (64, 0), (64, 1_024)];
 
+/// Joins with 64 nodes, and with 1,024 messages.
+const JOINED: [(usize, usize); 3] = [(1, 63), (63, 1), (32, 32)];
+const JOINED_MESSAGES: [(usize, usize); 3] = [(512, 512), (1_024, 0), (0, 1_024)];
+
 impl Tally {
     /// Every answer that can come has come, and no other; every type was delivered and echoed, every timer accepted,
-    /// and rings at their limits shown.
+    /// rings at their limits shown, and joined.
     pub fn is_full(&self) -> bool {
         let every_event = |counts: &BTreeMap<(u32, u32), usize>| {
             counts.keys().filter(|(kind, _)| *kind >= 9).copied().eq(each(&EVENTS))
@@ -104,6 +113,8 @@ impl Tally {
             && self.echoed.keys().copied().eq(1..=13)
             && self.timers.keys().copied().eq(TIMERS)
             && LIMITS.iter().all(|limit| self.shown.contains_key(limit))
+            && JOINED.iter().all(|sizes| self.joined.contains_key(sizes))
+            && JOINED_MESSAGES.iter().all(|sizes| self.joined_messages.contains_key(sizes))
     }
 }
 
@@ -124,7 +135,8 @@ impl fmt::Display for Tally {
         writeln!(f, "answers of replayed words: {:?}", self.replayed)?;
         writeln!(f, "answers of words in lists: {:?}", self.listed)?;
         writeln!(f, "accepted routes, by hops: {:?}", self.hops)?;
-        write!(f, "accepted screens, by n and m: {:?}", self.shown)
+        writeln!(f, "accepted screens, by n and m: {:?}", self.shown)?;
+        write!(f, "accepted joins, by n: {:?}, by m: {:?}", self.joined, self.joined_messages)
     }
 }
 

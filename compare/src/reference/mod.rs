@@ -2,6 +2,7 @@
 //! Written from the document's text alone.
 
 mod events;
+mod joins;
 mod lanes;
 mod layout;
 mod messages;
@@ -34,6 +35,10 @@ impl Ring for Reference {
 
     fn preview(&self, words: &mut [u32], word: u32, second: &mut [u32]) -> u32 {
         answer(preview(words, word, second))
+    }
+
+    fn join(&self, first: &[u32], second: &[u32], joined: &mut [u32]) -> u32 {
+        answer(joins::join(first, second, joined))
     }
 
     fn leafset_of(&self, words: &[u32], node: u32) -> (u32, u64) {

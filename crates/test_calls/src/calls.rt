@@ -3,6 +3,7 @@ use super::ask::ask;
 use super::command::Command;
 use super::events::node;
 use super::events::outcome;
+use super::joins;
 use super::line::Outcome;
 use super::memory;
 use super::screens;
@@ -14,6 +15,7 @@ pub fn call(
     list: &[u32],
     places: &mut [u8],
     second: &mut [u32],
+    third: &mut [u32],
     stamps: &mut [u32; 4096],
     spares: &mut [u8; 4096],
 ) -> Outcome {
@@ -26,6 +28,8 @@ pub fn call(
         Command::PLAY_ALL => played_all(words, command, list, places),
         Command::ROUTE => routed(words, command, places),
         Command::CONDUCTOR..=Command::MESSAGES => screens::show(command, words, stamps, spares),
+        Command::JOIN => joins::join(words, command, second, third),
+        Command::JOIN_ITSELF => joins::join_itself(words, command, second, third),
         _ => previewed(words, command, second),
     }
 }

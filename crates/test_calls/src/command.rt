@@ -63,6 +63,21 @@ impl Command {
     // Every stamp of the screens becomes a, every spare b.
     pub const FILL_SCREEN: u32 = 17;
 
+    // The second buffer becomes the buffer.
+    pub const KEEP: u32 = 18;
+
+    // The buffer becomes the third one.
+    pub const TAKE: u32 = 19;
+
+    // Words a up to b of the third buffer become c.
+    pub const FILL_THIRD: u32 = 20;
+
+    // Joins the buffer and the first a words of the second one, in the first b words of the third.
+    pub const JOIN: u32 = 21;
+
+    // Joins the buffer and itself, in the first b words of the third.
+    pub const JOIN_ITSELF: u32 = 22;
+
     // Every other number previews the word a, with the first b words of the second buffer.
 }
 

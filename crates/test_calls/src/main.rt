@@ -4,6 +4,7 @@ mod ask;
 mod calls;
 mod command;
 mod events;
+mod joins;
 mod line;
 mod memory;
 mod screens;
@@ -27,6 +28,7 @@ fn call(
     list: &[u32],
     places: &mut [u8],
     second: &mut [u32],
+    third: &mut [u32],
     stamps: &mut [u32; 4096],
     spares: &mut [u8; 4096],
 )
@@ -41,6 +43,7 @@ fn call(
         list,
         places,
         second,
+        third,
         stamps,
         spares,
     );
@@ -53,18 +56,22 @@ fn run(
     list: &mut [u32],
     places: &mut [u8],
     second: &mut [u32],
+    third: &mut [u32],
     stamps: &mut [u32; 4096],
     spares: &mut [u8; 4096],
 )
-    requires length { ⌜ length (now words) ≡ 13442 ⌝ }
+    requires lengths { ⌜ (length (now words) ≡ 13442) × (length (now second) ≡ 13442) × (length (now third) ≡ 13442) ⌝ }
 {
     let number = command.number;
     match number {
         Command::FILL_WORDS => memory::fill(words, command.a, command.b, command.c),
         Command::FILL_LIST => memory::fill(list, command.a, command.b, command.c),
         Command::FILL_SECOND => memory::fill(second, command.a, command.b, command.c),
+        Command::FILL_THIRD => memory::fill(third, command.a, command.b, command.c),
+        Command::KEEP => ring_ranges::copy(words, second),
+        Command::TAKE => ring_ranges::copy(third, words),
         Command::FILL_SCREEN => memory::fill_all(stamps, spares, command.a, command.b),
-        _ => call(command, words, list, places, second, stamps, spares),
+        _ => call(command, words, list, places, second, third, stamps, spares),
     }
 }
 
@@ -73,27 +80,30 @@ fn run_all(
     list: &mut [u32],
     places: &mut [u8],
     second: &mut [u32],
+    third: &mut [u32],
     stamps: &mut [u32; 4096],
     spares: &mut [u8; 4096],
 )
-    requires length { ⌜ length (now words) ≡ 13442 ⌝ }
+    requires lengths { ⌜ (length (now words) ≡ 13442) × (length (now second) ≡ 13442) × (length (now third) ≡ 13442) ⌝ }
 {
     for _ in 0..MOST {
         let next = command::read();
         let Next::Command(command) = next else {
             return;
         };
-        run(command, words, list, places, second, stamps, spares);
+        run(command, words, list, places, second, third, stamps, spares);
     }
 }
 
 // The list has keys, and after them a script; or a script alone. The places take the answers of its words, or the
-// nodes of a route. The second buffer is for previews; stamps and spares are the technician's.
+// nodes of a route. The second buffer is for previews and, with the third, for joins; stamps and
+// spares are the technician's.
 fn main() {
     let mut words = [0u32; WORDS];
     let mut list = [0u32; 1200];
     let mut places = [0u8; 1040];
     let mut second = [0u32; WORDS];
+    let mut third = [0u32; WORDS];
     let mut stamps = [0u32; 4096];
     let mut spares = [0u8; 4096];
     run_all(
@@ -101,6 +111,7 @@ fn main() {
         &mut list,
         &mut places,
         &mut second,
+        &mut third,
         &mut stamps,
         &mut spares,
     );
