@@ -48,7 +48,10 @@ enum mekvalgs_answer {
     MEKVALGS_CLOCK_SPENT = 10,         /* the clock is 16,777,215 and must rise */
     MEKVALGS_POOL_FULL = 11,           /* more than 1,024 messages would be left */
     MEKVALGS_KEY_OUT_OF_RANGE = 12,    /* route: the key is above 16,777,215 */
-    MEKVALGS_LIST_TOO_SHORT = 13       /* route: the list has fewer than 64 places */
+    MEKVALGS_LIST_TOO_SHORT = 13,      /* route: the list has fewer than 64 places */
+    MEKVALGS_SIDES_DIFFER = 14,        /* join: the two rings differ in A or B */
+    MEKVALGS_TABLES_CLASH = 15,        /* join: more than 64 nodes, or a key that both have */
+    MEKVALGS_TOO_MANY_MESSAGES = 16    /* join: more than 1,024 messages */
 };
 
 /* The kinds of event words. */
@@ -97,6 +100,16 @@ uint32_t mekvalgs_play(uint32_t *words, uint64_t length, uint32_t word);
  * from it; where refused, it stays whole. */
 uint32_t mekvalgs_preview(const uint32_t *words, uint64_t length, uint32_t word, uint32_t *preview,
                           uint64_t preview_length);
+
+/* Joins two rings into one: joined becomes the words of the ring that has the nodes and messages of both, and nothing
+ * of the two is written. The first's nodes keep their numbers; the second's rise by the first's n, as senders,
+ * receivers, subjects, spares and in views too. Of the other ring nobody is held, and nobody is a candidate. The
+ * first's messages come first. first and second may be one and the same buffer; joined overlaps neither, and what it
+ * holds before does not matter.
+ * Answers 0, 1 (any of the three buffers), 6 (either ring), 14, 15, 16. Where accepted, joined reads as a ring
+ * afterwards; where refused, it stays whole. */
+uint32_t mekvalgs_join(const uint32_t *first, uint64_t first_length, const uint32_t *second, uint64_t second_length,
+                       uint32_t *joined, uint64_t joined_length);
 
 /* Plays the script's words on the ring one by one, as mekvalgs_play does, but reads the words as a ring once only.
  * Answers 0, 1, 6. The answer to each word is written to its place in answers; answers past the places are dropped, and
