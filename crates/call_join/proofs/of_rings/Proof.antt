@@ -21,12 +21,15 @@ returns c =
 
 nodes-requires : tie.Need-nodes-requires
 nodes-requires c κs =
-    let start = c .before .before .before .before .before .before .before .before .before in
+    let read = c .before .before .before .before in
+    let start = read .before .before .before .before .before in
     long _ (start .pre .0)
 
 nodes-requires-2 : tie.Need-nodes-requires-2
 nodes-requires-2 c κs =
-    let start = c .before .before .before .before .before .before .before .before .before .before in
+    let sides = c .before in
+    let read = sides .before .before .before .before in
+    let start = read .before .before .before .before .before in
     long _ (start .pre .1)
 
 returns-2 : tie.Need-returns-2
@@ -39,7 +42,9 @@ returns-2 c =
 
 shares-key-requires : tie.Need-shares-key-requires
 shares-key-requires c κs =
-    let start = c .before .before .before .before .before .before .before .before .before .before .before .before in
+    let sides = c .before .before .before in
+    let read = sides .before .before .before .before in
+    let start = read .before .before .before .before .before in
     let p = start .pre in
     ((long _ (p .0), few _ (p .0)), (long _ (p .1), few _ (p .1)))
 
@@ -54,12 +59,18 @@ returns-3 c =
 
 messages-requires : tie.Need-messages-requires
 messages-requires c κs =
-    let start = c .before .before .before .before .before .before .before .before .before .before .before .before .before .before in
+    let nodes = c .before .before in
+    let sides = nodes .before .before .before in
+    let read = sides .before .before .before .before in
+    let start = read .before .before .before .before .before in
     long _ (start .pre .0)
 
 messages-requires-2 : tie.Need-messages-requires-2
 messages-requires-2 c κs =
-    let start = c .before .before .before .before .before .before .before .before .before .before .before .before .before .before .before in
+    let nodes = c .before .before .before in
+    let sides = nodes .before .before .before in
+    let read = sides .before .before .before .before in
+    let start = read .before .before .before .before .before in
     long _ (start .pre .1)
 
 returns-4 : tie.Need-returns-4

@@ -15,7 +15,8 @@ returns c =
 
 reads-as-ring-requires : tie.Need-reads-as-ring-requires
 reads-as-ring-requires c κs =
-    let start = c .before .before .before .before .before .before .before in
+    let as-long = c .before .before .before in
+    let start = as-long .before .before .before .before in
     first-long (start .args .first .now) (start .args .second .now) (start .args .joined .now)
     (c .before .before .before .as-long .ensures) (c .before .before .as-long2 .ensures) (c .before .as-long3 .ensures) (not-false _ (c .if1 .left))
 
@@ -30,7 +31,8 @@ returns-2 c =
 reads-as-ring-requires-2 : tie.Need-reads-as-ring-requires-2
 reads-as-ring-requires-2 c κs =
     let lengths = c .before .before in
-    let start = lengths .before .before .before .before .before .before .before in
+    let as-long = lengths .before .before .before in
+    let start = as-long .before .before .before .before in
     second-long (start .args .first .now) (start .args .second .now) (start .args .joined .now)
     (lengths .before .before .before .as-long .ensures) (lengths .before .before .as-long2 .ensures) (lengths .before .as-long3 .ensures)
     (not-false _ (lengths .if1 .left))

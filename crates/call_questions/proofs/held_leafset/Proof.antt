@@ -44,9 +44,10 @@ leafset-requires c κs =
 
 returns : tie.Need-returns
 returns c =
-    let start = c .before .before .before .before .before .before .before in
+    let at-keys = c .before .before .before .before in
+    let start = at-keys .before .before .before in
     held-leafset (start .args .words .now) (start .pre .0) (start .args .x .0)
-    (c .before .before .before .before .keys .ensures .1 .0) (c .before .before .load .ensures)
+    (at-keys .keys .ensures .1 .0) (c .before .before .load .ensures)
     (c .before .before .before .sides .ensures) (c .leafset .ensures)
 
 pub held-leafset-spec : {M : Type 1} → statement M

@@ -46,41 +46,47 @@ load-requires c κs =
 
 leafset-requires : tie.Need-leafset-requires Inv-loop μ-loop
 leafset-requires c κs =
-    let start = c .before .before .before .before .before .before .before in
+    let at-loop = c .before .before in
+    let start = at-loop .before .before .before .before .before in
     let p = start .pre in
     let ws : List ℕ = start .args .words .now in (
-      held-in-table ws (p .0) (c .before .before .loop .x) (p .1 .0) (c .load .ensures) (omega (arith, ap length (p .1 .0))),
+      held-in-table ws (p .0) (at-loop .loop .x) (p .1 .0) (c .load .ensures) (omega (arith, ap length (p .1 .0))),
       rw (p .1 .1) (table-sides-room ws),
     )
 
 mul-leafsets : tie.Need-mul-leafsets Inv-loop μ-loop
 mul-leafsets c =
-    let p = c .before .before .before .before .before .before .before .before .pre in
+    let at-loop = c .before .before .before in
+    let p = at-loop .before .before .before .before .before .pre in
     let h = few _ (p .0) in
     let n = ap length (p .1 .0) in
     search needs
 
 array-write-leafsets : tie.Need-array-write-leafsets Inv-loop μ-loop
 array-write-leafsets c =
-    let p = c .before .before .before .before .before .before .before .before .pre in
+    let at-loop = c .before .before .before in
+    let p = at-loop .before .before .before .before .before .pre in
     omega (arith, few _ (p .0), ap length (p .1 .0))
 
 mul-candidates : tie.Need-mul-candidates Inv-loop μ-loop
 mul-candidates c =
-    let p = c .before .before .before .before .before .before .before .before .pre in
+    let at-loop = c .before .before .before in
+    let p = at-loop .before .before .before .before .before .pre in
     let h = few _ (p .0) in
     let n = ap length (p .1 .0) in
     search needs
 
 array-write-candidates : tie.Need-array-write-candidates Inv-loop μ-loop
 array-write-candidates c =
-    let p = c .before .before .before .before .before .before .before .before .pre in
+    let at-loop = c .before .before .before in
+    let p = at-loop .before .before .before .before .before .pre in
     omega (arith, few _ (p .0), ap length (p .1 .0))
 
 put-row-requires : tie.Need-put-row-requires Inv-loop μ-loop
 put-row-requires c κs =
-    let p = c .before .before .before .before .before .before .before .before .before .before .pre in
-    let l = c .before .before .before .before .before .loop in (
+    let at-loop = c .before .before .before .before .before in
+    let p = at-loop .before .before .before .before .before .pre in
+    let l = at-loop .loop in (
       omega (arith, l .inv .3 .long),
       omega (arith, l .inv .4 .long),
       omega (arith, few _ (p .0), ap length (p .1 .0)),
@@ -89,17 +95,20 @@ put-row-requires c κs =
 
 loop-again : tie.Need-loop-again Inv-loop μ-loop
 loop-again c =
-    let l = c .before .before .before .before .before .before .before .before .before .before .loop in
+    let at-row = c .before .before .before .before in
+    let at-leafset = at-row .before .before .before in
+    let at-load = at-leafset .before in
+    let at-loop = at-load .before .before in
+    let l = at-loop .loop in
     let x : ℕ = l .x in
-    let start = c .before .before .before .before .before .before .before .before .before .before .before .before .before .before .before in
+    let start = at-loop .before .before .before .before .before in
     let p = start .pre in
     let ws : List ℕ = start .args .words .now in
     let in-array : x < 64 = omega (arith, few _ (p .0), ap length (p .1 .0)) in
-    let at-leafset = c .before .before .before .before .before .before .before in
     let leafset = at-leafset .leafset .ensures in
-    let loaded = at-leafset .before .load .ensures in
+    let loaded = at-load .load .ensures in
     let row : 64 * (x + 1) ≡ 64 * x + 64 = omega arith in
-    let put = c .before .before .before .before .put-row .ensures in (
+    let put = at-row .put-row .ensures in (
       search needs,
       patched-more _ _ _ _ _ _ _ (l .inv .1) (omega arith) in-array
           (leafset-shown ws (p .0) x (held-leafset ws (p .0) x (p .1 .0) loaded (p .1 .1) leafset)) refl,

@@ -34,8 +34,9 @@ slice-aggregate-put-rows c =
 
 put-rows-requires : tie.Need-put-rows-requires
 put-rows-requires c κs =
-    let p = c .before .before .before .before .before .before .before .before .before .pre in
-    (p .0, (c .before .before .before .before .keys .ensures .1 .0, c .before .before .before .sides .ensures, p .1 .0, p .1 .1))
+    let at-keys = c .before .before .before .before in
+    let p = at-keys .before .before .before .before .before .pre in
+    (p .0, (at-keys .keys .ensures .1 .0, c .before .before .before .sides .ensures, p .1 .0, p .1 .1))
 
 clear-requires : tie.Need-clear-requires
 clear-requires c κs =
@@ -47,28 +48,37 @@ clear-requires c κs =
 
 with-leafsets-requires : tie.Need-with-leafsets-requires
 with-leafsets-requires c κs =
-    let at-rows = c .before .before .before .before .before .before .before .before .before .before .before .before .before in
+    let at-clear = c .before .before .before .before .before .before in
+    let at-stamps = at-clear .before .before .before .before .before .before in
+    let at-rows = at-stamps .before in
     let at-keys = at-rows .before .before .before .before .before in
     let n = at-keys .before .nodes .ensures .0 in
     (at-keys .before .before .before .before .before .pre .0, (n, at-keys .keys .ensures .1 .1, at-rows .put-rows .ensures .0 .0))
 
 same-length : tie.Need-same-length
 same-length c =
-    let at-clear = c .before .before .before .before .before .before .before in
-    let at-rows = at-clear .before .before .before .before .before .before .before in
+    let at-sets = c .before .before in
+    let at-clear = at-sets .before .before .before .before .before in
+    let at-stamps = at-clear .before .before .before .before .before .before in
+    let at-rows = at-stamps .before in
     at-clear .clear .ensures .0 .long ∙ at-rows .put-rows .ensures .1 .0 .long
 
 same-length-2 : tie.Need-same-length-2
 same-length-2 c =
-    let at-clear = c .before .before .before .before .before .before .before in
-    let at-rows = at-clear .before .before .before .before .before .before .before in
+    let at-sets = c .before .before in
+    let at-clear = at-sets .before .before .before .before .before in
+    let at-stamps = at-clear .before .before .before .before .before .before in
+    let at-rows = at-stamps .before in
     at-clear .clear .ensures .1 .long ∙ at-rows .put-rows .ensures .1 .1 .long
 
 returns : tie.Need-returns
 unfolding technicianScreen shownStamps shownSpares
 returns c =
-    let cleared = c .before .before .before .before .before .before .before .clear .ensures in
-    let at-rows = c .before .before .before .before .before .before .before .before .before .before .before .before .before .before in
+    let at-sets = c .before .before in
+    let at-clear = at-sets .before .before .before .before .before in
+    let cleared = at-clear .clear .ensures in
+    let at-stamps = at-clear .before .before .before .before .before .before in
+    let at-rows = at-stamps .before in
     let rows = at-rows .put-rows .ensures in
     let at-nodes = at-rows .before .before .before .before .before .before in
     let n = at-nodes .nodes .ensures .0 in

@@ -5,8 +5,10 @@ use Rattle.mekvalgs.proofs.mekvalgs_conductor.Tie as tie
 
 returns : tie.Need-returns
 returns c =
-    let shown = c .before .before .before .before .before .before .before .before .before .conductor .ensures in
-    (c .number .ensures ∙ shown .0, c .before .put-screen .ensures ∙ shown .1)
+    let at-screen = c .before in
+    let lent = at-screen .before .before .before .before .before .before in
+    let shown = lent .before .before .conductor .ensures in
+    (c .number .ensures ∙ shown .0, at-screen .put-screen .ensures ∙ shown .1)
 
 pub mekvalgs-conductor-spec : {M : Type 1} → statement M
 mekvalgs-conductor-spec =

@@ -8,7 +8,8 @@ use Rattle.mekvalgs.proofs.mekvalgs_technician.Tie as tie
 returns : tie.Need-returns
 returns c =
     let at-screen = c .before .before in
-    let technician = at-screen .before .before .before .before .before .before .before .before .before .technician in
+    let lent = at-screen .before .before .before .before .before .before in
+    let technician = lent .before .before .before .technician in
     let shown = technician .ensures .1 in
     let screen : ConductorScreen → TechnicianScreen = λ s. record { conductor = s; candidates = technician .result .screen .candidates } in
     (c .number .ensures ∙ technician .ensures .0, (ap screen (at-screen .put-screen .ensures) ∙ shown .0, shown .1, shown .2))
