@@ -8,12 +8,12 @@ use mathlib.Core.Bool.{true, false, not, _&&_}
 use mathlib.Core.List.{List, [], _∷_}
 use lib.ListN.{length, getD, length-append}
 use lib.Dec.{ltb, eqb}
-use borrow.Author.Tests.{eq-eqb, eqb-false, le-ltb}
+use borrow.Author.Tests.{eq-eqb, eqb-true, eqb-false, ltb-false, le-ltb}
 use Rattle.model.specs.Choice.{if_then_else_}
 use Rattle.model.specs.Key.{clockwise}
 use Rattle.model.specs.Sets.{Set, without, members, lowest, some}
-use Rattle.model.specs.Leafset.{Table, size, key, nearer, leafset, nearest, closest, successor}
-use Rattle.model.proofs.Laws.{clash, and-left, and-right, and-in, or-case, not-out, decide, is-false, if-law, some-none, count-none}
+use Rattle.model.specs.Leafset.{Table, size, key, nearer, firstMet, leafset, nearest, closest, successor}
+use Rattle.model.proofs.Laws.{clash, and-left, and-right, and-in, or-case, not-out, decide, is-false, if-law, some-none, count-none, count-some}
 use Rattle.model.specs.WellFormed.{Spare, none, spare, Each, nil, cons}
 use Rattle.model.proofs.Lists.{each-append, each-at}
 
@@ -147,14 +147,39 @@ module _ (t : Table) where
       (λ k. clash (and-right (S z) (ltb (d a (key t z)) (d a (key t (l .best)))) k)
       (le-ltb (d a (key t z)) (d a (key t (l .best))) (l .no-less z (record { below = h; within = and-left (S z) _ k })))))
 
+  -- y is the member of S that is met first from the key a, by the distance d
+  pub record Met (d : ℕ → ℕ → ℕ) (a : ℕ) (S : Set) (y : ℕ) : Type 0 where
+    pub member : Member (size t) S y
+    pub no-farther : (z : ℕ) → Member (size t) S z → d a (key t y) ≤ d a (key t z)
+
+  -- `firstMet` is, where there is any
+  pub first-met : (d : ℕ → ℕ → ℕ) (a : ℕ) (S : Set) → some (size t) S ≡ true → Met d a S (firstMet t d a S)
+  first-met d a S e =
+      record {
+        member = record { below = m .below; within = and-left (S y) (eqb (nearer t d a S y) 0) (m .within) };
+        no-farther = λ z o.
+            ltb-false (d a (key t z)) (d a (key t y))
+            (is-false (ltb (d a (key t z)) (d a (key t y)))
+            (λ k.
+            let h : 0 < nearer t d a S y = count-some (size t) (λ v. S v && ltb (d a (key t v)) (d a (key t y))) z (o .below) (and-in (o .within) k) in
+            absurd (omega (arith, eqb-true (nearer t d a S y) 0 (and-right (S y) (eqb (nearer t d a S y) 0) (m .within))))));
+      }
+    where
+      y : ℕ
+      y = firstMet t d a S
+
+      l : Least (size t) S (λ z. d a (key t z))
+      l = least (size t) S (λ z. d a (key t z)) e
+
+      m : Member (size t) (λ z. S z && eqb (nearer t d a S z) 0) y
+      m =
+          lowest-in (size t) (λ z. S z && eqb (nearer t d a S z) 0) (l .best)
+          (record {
+            below = l .member .below;
+            within = and-in (l .member .within) (eq-eqb (nearer t d a S (l .best)) 0 (none-nearer d a S l));
+          })
+
   -- a node that holds somebody has a successor, and holds it
   pub successor-held : (x : ℕ) (held : Set) → some (size t) held ≡ true → held (successor t x held) ≡ true
   unfolding successor
-  successor-held x held e =
-      let d : ℕ → ℕ = λ z. clockwise (key t x) (key t z) in
-      let l : Least (size t) held d = least (size t) held d e in
-      let c : nearer t clockwise (key t x) held (l .best) ≡ 0 = none-nearer clockwise (key t x) held l in
-      and-left (held (successor t x held)) _
-      (lowest-in (size t) (λ y. held y && eqb (nearer t clockwise (key t x) held y) 0) (l .best)
-      (record { below = l .member .below; within = and-in (l .member .within) (eq-eqb (nearer t clockwise (key t x) held (l .best)) 0 c) })
-      .within)
+  successor-held x held e = first-met clockwise (key t x) held e .member .within

@@ -255,6 +255,10 @@ module _ (S R : Set) where
             omega (arith, count-more n (λ i l. f i (omega arith)) b (omega arith) s t, one-mono (S n) (R n) (f n (le-refl (suc n))))
       ]
 
+-- a member is counted
+pub count-some : (n : ℕ) (S : Set) (i : ℕ) → i < n → S i ≡ true → 0 < count n S
+count-some n S i h t = let k = count-more (λ z. false) S n (λ z l e. clash e refl) i h refl t in omega arith
+
 -- ---- tables of values
 
 from-cong : {A : Type 0} (f g : ℕ → A) (i k : ℕ) → ((j : ℕ) → i ≤ j → j < i + k → f j ≡ g j) → tabulateFrom i k f ≡ tabulateFrom i k g

@@ -30,7 +30,9 @@ pub mod Base
 pub mod PointsFit
 pub mod Amended
 pub mod JoinRows
+pub mod ReachRows
 pub mod Routes
+pub mod Reaches
 pub mod Previews
 pub mod Echoes
 pub mod ScreenRows

@@ -11,6 +11,7 @@ use Rattle.model.specs.Play.{stateRefusals}
 use Rattle.model.specs.Buffer.{ringRefusals, ringAnswer, openRefusals, openAnswer, playRefusals, bufferAnswer}
 use Rattle.model.specs.Questions.{leafsetRefusals, leafsetAnswer, connectionRefusals, connectionAnswer}
 use Rattle.model.specs.Route.{routeRefusals, routeAnswer}
+use Rattle.model.specs.Reach.{reachRefusals, reachAnswer}
 use Rattle.model.specs.Preview.{previewRefusals, previewAnswer}
 use Rattle.model.specs.Join.{joinRefusals, joinAnswer}
 use Rattle.model.specs.Bench.{scriptRefusals, scriptAnswer}
@@ -63,6 +64,10 @@ lowest-at-ring ws = lowest-given 0 (ringRefusals ws) refl
 pub lowest-at-routing : (ws : List ℕ) (start key : ℕ) (list : List ℕ) → LowestOf (routeRefusals ws start key list) (routeAnswer ws start key list)
 unfolding routeAnswer
 lowest-at-routing ws start key list = lowest-given 0 (routeRefusals ws start key list) refl
+
+pub lowest-at-reaching : (ws : List ℕ) (start key : ℕ) → LowestOf (reachRefusals ws start key) (reachAnswer ws start key)
+unfolding reachAnswer
+lowest-at-reaching ws start key = lowest-given 0 (reachRefusals ws start key) refl
 
 pub lowest-at-joining : (first second third : List ℕ) → LowestOf (joinRefusals first second third) (joinAnswer first second third)
 unfolding joinAnswer

@@ -348,7 +348,7 @@ module _ (r : Ring) (key : ℕ) where
 -- ---- neighbours on the ring
 
 -- going on by u from c leads to c′, perhaps over the top
-abbrev Leads : ℕ → ℕ → ℕ → Type 0
+abbrev pub Leads : ℕ → ℕ → ℕ → Type 0
 Leads c u c′ = (c + u ≡ c′) ⊎ (c + u ≡ c′ + 16777216)
 
 leads : (a b : ℕ) → a < 16777216 → b < 16777216 → Leads a (clockwise a b) b
@@ -359,7 +359,7 @@ leads a b ha hb =
     ]
 
 -- seen from a, clockwise distances add up
-leads-from : (a b e : ℕ) → a < 16777216 → b < 16777216 → e < 16777216 → Leads (clockwise a e) (clockwise e b) (clockwise a b)
+pub leads-from : (a b e : ℕ) → a < 16777216 → b < 16777216 → e < 16777216 → Leads (clockwise a e) (clockwise e b) (clockwise a b)
 leads-from a b e ha hb he =
     go (clockwise a e) (clockwise e b) (clockwise a b) (clockwise-lt a e) (clockwise-lt e b) (clockwise-lt a b)
     (leads a e ha he) (leads e b he hb) (leads a b ha hb)
@@ -490,7 +490,7 @@ module _ (t : Table) (x : ℕ) (S : Set) where
       and-in (l .member .within)
       (or-right (few || isNear t (t .sides .ahead) clockwise (key t x) left (l .best)) (first-near (t .sides .behind) counterClockwise h l))
 
-away : (b c : ℕ) → b < 16777216 → c < 16777216 → (b ≡ c → ⊥) → 0 < clockwise b c
+pub away : (b c : ℕ) → b < 16777216 → c < 16777216 → (b ≡ c → ⊥) → 0 < clockwise b c
 away b c hb hc d = omega arith
 
 module _ (r : Ring) (g : WellFormed r) (v : Converged r) (a : ℕ) (ha : a < 16777216) where

@@ -2,12 +2,14 @@
 use mathlib.Core.Path.{_≡_, sym, ap, _∙_}
 use mathlib.Core.Logic.{_↔_, _⊎_}
 use Prim.Native.Nat.{ℕ, suc, _+_, _-_, _*_, _≤_, _<_}
+use native.Mathlib.Omega.{arith}
 use mathlib.Core.Bool.{Bool, true, false, _&&_}
 use mathlib.Core.List.{List, [], _∷_}
-use lib.Dec.{ltb}
+use lib.Dec.{ltb, eqb}
 use borrow.Author.Tests.{eq-eqb, ne-eqb}
 use lib.ListN.{length, getD}
 use Rattle.model.specs.Choice.{if_then_else_}
+use Rattle.model.specs.Key.{clockwise}
 use Rattle.model.specs.Sets.{Set, without, count, toBits, noneNode}
 use Rattle.model.specs.Leafset.{Table, size, key, leafset, beats, nearest}
 use Rattle.model.specs.Ring.{Own, Message, Ring, initial, holds, isRunning, messageAt}
@@ -21,6 +23,7 @@ use Rattle.model.specs.Play.{after, playAnswer, playWord, playAll}
 use Rattle.model.specs.Buffer.{openBuffer, playBuffer, playBufferAll}
 use Rattle.model.specs.Questions.{leafsetOf}
 use Rattle.model.specs.Route.{nextOf, goesOn, route, Converged, routeAnswer, routeBuffer}
+use Rattle.model.specs.Reach.{spans, here, oneMore, owner, next, reach, toLast, reachAnswer, reachOf}
 use Rattle.model.specs.Preview.{previewBuffer, Call, PreviewsChangeNothing}
 use Rattle.model.specs.Screens.{conductorOf, messagesOf, Alike}
 use Rattle.model.specs.Connection.{Connected, connected, groups, CountsGroups}
@@ -44,6 +47,9 @@ use Rattle.model.proofs.Connection as connection
 use Rattle.model.proofs.Groups as grouped
 use Rattle.model.proofs.Routes.{Hop, GivenRoute}
 use Rattle.model.proofs.Routes as routes
+use Rattle.model.proofs.Choices.{Met}
+use Rattle.model.proofs.Reaches.{Present}
+use Rattle.model.proofs.Reaches as reaches
 use Rattle.model.proofs.Previews as previewed
 use Rattle.model.proofs.Echoes.{EchoLeaves, AlikeButFull}
 use Rattle.model.proofs.Echoes as echoes
@@ -55,7 +61,8 @@ use Rattle.model.proofs.ConnectivityPreserved as preserved
 use Rattle.model.proofs.Unreached as unreached
 -- "The lowest number that applies is given, and none otherwise", at each call: their statements are in Lowest
 pub use Rattle.model.proofs.Lowest.{lowest-at-writing, lowest-at-reading, lowest-at-opening, lowest-at-playing, lowest-at-previewing}
-pub use Rattle.model.proofs.Lowest.{lowest-at-leafset, lowest-at-connection, lowest-at-ring, lowest-at-routing, lowest-at-joining, lowest-at-script}
+pub use Rattle.model.proofs.Lowest.{lowest-at-leafset, lowest-at-connection, lowest-at-ring, lowest-at-routing, lowest-at-reaching}
+pub use Rattle.model.proofs.Lowest.{lowest-at-joining, lowest-at-script}
 
 -- ---- event words
 
@@ -207,6 +214,59 @@ route-once r a x i j h k e = routes.route-once r a x i j h k e
 pub route-ends-nearest : (r : Ring) → WellFormed r → Converged r → (a : ℕ) → a < 16777216 → (x : ℕ) → isRunning r x ≡ true
     → getD (route r a x) (length (route r a x) - 1) noneNode ≡ nearest (r .table) a (isRunning r)
 route-ends-nearest r g c a h x e = routes.route-ends-nearest r g c a h x e
+
+-- ---- reaches
+
+-- "A refused reach answers 0 hops and stand 64."
+pub refused-reach : (ws : List ℕ) (start a : ℕ) → isAccepted (reachAnswer ws start a) ≡ false
+    → reachOf ws start a ≡ record { answer = reachAnswer ws start a; end = noneNode; hops = 0 }
+unfolding reachOf
+refused-reach ws start a e = rw e
+
+-- an accepted one answers where the reach ends, and its hops: "counted in its answer"
+pub reach-answers : (ws : List ℕ) (start a : ℕ) → reachAnswer ws start a ≡ 0
+    → reachOf ws start a ≡ record { answer = 0; end = reach (decode ws) a start .end; hops = reach (decode ws) a start .hops }
+reach-answers ws start a ok = reaches.given-reach ws start a ok
+
+-- "A reach .. always ends at the owner."
+pub accepted-reach : (ws : List ℕ) (start a : ℕ) → reachAnswer ws start a ≡ 0 → reachOf ws start a .end ≡ owner (decode ws) a
+accepted-reach ws start a ok = reaches.given-end ws start a ok
+
+-- "A reach makes at most 25 hops"
+pub reach-hops : (ws : List ℕ) (start a : ℕ) → reachAnswer ws start a ≡ 0 → reachOf ws start a .hops ≤ 25
+reach-hops ws start a ok = omega (arith, reaches.given-hops ws start a ok)
+
+-- and never as many
+pub reach-hops-24 : (ws : List ℕ) (start a : ℕ) → reachAnswer ws start a ≡ 0 → reachOf ws start a .hops ≤ 24
+reach-hops-24 ws start a ok = reaches.given-hops ws start a ok
+
+-- the table's rule: it starts with 1, and each span is twice the one before
+pub first-span : getD spans 0 0 ≡ 1
+first-span = reaches.first-span
+
+pub spans-double : (i : ℕ) → i < 23 → getD spans (i + 1) 0 ≡ 2 * getD spans i 0
+spans-double i h = reaches.doubles i h
+
+-- the owner of a key runs, and no running node is met before it
+pub owner-is : (r : Ring) → WellFormed r → (a : ℕ) → a ≤ 16777215 → (x : ℕ) → isRunning r x ≡ true
+    → Met (r .table) clockwise a (isRunning r) (owner r a)
+owner-is r g a h x e = reaches.owner-met r g a h x e
+
+-- "A reach stops at the owner. Otherwise it goes" on, and the rest is the reach from the next node
+pub reach-from : (r : Ring) → WellFormed r → (a : ℕ) → a ≤ 16777215 → (x : ℕ) → isRunning r x ≡ true
+    → reach r a x ≡ (if eqb x (owner r a) then here x else oneMore (reach r a (next r a x)))
+reach-from r g a h x e = reaches.reach-from r g a h x e
+
+-- each hop but the last more than halves the way to the last running node before the key
+pub reach-halves : (r : Ring) → WellFormed r → (a : ℕ) → a ≤ 16777215 → (x : ℕ) → Present r a x
+    → (next r a x ≡ owner r a) ⊎ (2 * toLast r a (next r a x) < toLast r a x)
+reach-halves r g a h x p = reaches.reach-halves r g a h x p
+
+-- and goes over the greatest span that is not above that way, to the first running node from there on
+pub reach-hop : (r : Ring) → WellFormed r → (a : ℕ) → a ≤ 16777215 → (x : ℕ) → Present r a x
+    → (i : ℕ) → i < 24 → getD spans i 0 ≤ toLast r a x → toLast r a x < 2 * getD spans i 0
+    → reaches.Hop r a x (getD spans i 0)
+reach-hop r g a h x p i l from below = reaches.hop r g a h x p i l from below
 
 -- ---- previews
 

@@ -29,6 +29,10 @@ module _ (t : Table) where
   abbrev pub isNear : ℕ → (ℕ → ℕ → ℕ) → ℕ → Set → ℕ → Bool
   isNear many d a S y = ltb (nearer d a S y) many
 
+  -- the member of S that is met first from the key a by the distance d, one at a included; 64 where S has none
+  abbrev pub firstMet : (ℕ → ℕ → ℕ) → ℕ → Set → ℕ
+  firstMet d a S = lowest (size t) (λ y. S y && eqb (nearer d a S y) 0)
+
   -- "take x out of S"; "everything if fewer than A + B are left, else the A nearest clockwise and the B nearest the other way"
   unfoldable pub leafset : ℕ → Set → Set
   leafset x S y =
@@ -57,7 +61,7 @@ module _ (t : Table) where
 
   -- "a stand's successor is its held stand nearest clockwise"; 64 for one that holds nobody
   unfoldable pub successor : ℕ → Set → ℕ
-  successor x held = lowest (size t) (λ y. held y && eqb (nearer clockwise (key t x) held y) 0)
+  successor x held = firstMet clockwise (key t x) held
 
   -- "it passes zero when the stand's clockwise distance to key 0 is below that to the successor;
   -- one that holds nobody doesn't pass zero"

@@ -18,6 +18,7 @@ pub mod ConnectivityPreserved
 pub mod Bench
 pub mod Structs
 pub mod Route
+pub mod Reach
 pub mod Preview
 pub mod Screens
 pub mod Join
