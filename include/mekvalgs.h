@@ -47,7 +47,7 @@ enum mekvalgs_answer {
     MEKVALGS_ALREADY_RUNNING = 9,      /* on, for a running node */
     MEKVALGS_CLOCK_SPENT = 10,         /* the clock is 16,777,215 and must rise */
     MEKVALGS_POOL_FULL = 11,           /* more than 1,024 messages would be left */
-    MEKVALGS_KEY_OUT_OF_RANGE = 12,    /* route: the key is above 16,777,215 */
+    MEKVALGS_KEY_OUT_OF_RANGE = 12,    /* route, reach: the key is above 16,777,215 */
     MEKVALGS_LIST_TOO_SHORT = 13,      /* route: the list has fewer than 64 places */
     MEKVALGS_SIDES_DIFFER = 14,        /* join: the two rings differ in A or B */
     MEKVALGS_TABLES_CLASH = 15,        /* join: more than 64 nodes, or a key that both have */
@@ -140,6 +140,15 @@ uint32_t mekvalgs_groups(const uint32_t *words, uint64_t length, uint32_t *group
  * MEKVALGS_NONE, hops is 0, and route stays whole. */
 uint32_t mekvalgs_route(const uint32_t *words, uint64_t length, uint32_t start, uint32_t key, uint8_t *route,
                         uint64_t places, uint32_t *end, uint32_t *hops);
+
+/* The reach from node start to the owner of the key, the running node first met clockwise from it, one at the key
+ * included; it ends there. A node has 24 fingers: the running nodes first met clockwise from its key plus 1, plus 2,
+ * plus 4 and so on up to plus 8,388,608, whether it holds them or not. From each node the reach goes on to its farthest
+ * finger strictly between that node and the key, going clockwise, and if there is none, to the finger of span 1. end is
+ * the owner, hops how often the reach goes on: at most 24 times, and not at all where start is the owner.
+ * Answers 0, 1, 6, 7, 8, 12. Where refused, end is MEKVALGS_NONE and hops is 0. */
+uint32_t mekvalgs_reach(const uint32_t *words, uint64_t length, uint32_t start, uint32_t key, uint32_t *end,
+                        uint32_t *hops);
 
 /* What a conductor sees: A, B and n; which nodes run, bit s for node s; the key of each node, and the leafset of each
  * running node in its held set. Clocks are not shown, nor is anything else: two rings alike in A, B, keys, running

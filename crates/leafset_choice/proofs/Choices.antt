@@ -16,7 +16,7 @@ use Rattle.leafset_nearest.specs.Span.{spanTo, Found}
 use Rattle.leafset_nearest.specs.declared.Way.the-variants.{Clockwise}
 use Rattle.leafset_nearest.proofs.Spans.{beyond, span<}
 use Rattle.leafset_nearest.proofs.Pick.{picked, found-least}
-use Rattle.leafset_nearest.proofs.Firsts.{found-count}
+use Rattle.leafset_nearest.proofs.Firsts.{met-found}
 
 module _ (sides : Sides) (keys : List ℕ) where
   abbrev t : Table
@@ -25,7 +25,7 @@ module _ (sides : Sides) (keys : List ℕ) where
   pub successor-found : (x : ℕ) (S : Set) → ((y : ℕ) → S y ≡ true → y < length keys) → {b : ℕ}
       → Found S (spanTo Clockwise (getD keys x 0) keys) b → b ≡ successor t x S
   unfolding successor
-  successor-found x S low f = found-count (length keys) S low (spanTo Clockwise (getD keys x 0) keys) f
+  successor-found x S low f = met-found t Clockwise (getD keys x 0) S low f
 
   -- the successor of a node that holds somebody
   pub successor-low : (x : ℕ) (S : Set) → ((y : ℕ) → S y ≡ true → y < length keys) → (y : ℕ) → S y ≡ true → successor t x S < length keys

@@ -6,10 +6,11 @@ use native.Mathlib.Omega.{arith}
 use lib.Dec.{eqb, ltb}
 use borrow.Author.Tests.{eq-eqb, eqb-true, lt-ltb, ltb-true}
 use Rattle.model.specs.Sets.{Set, count, some, lowest}
-use Rattle.model.specs.Leafset.{Table, size, nearest}
+use Rattle.model.specs.Leafset.{Table, size, firstMet, nearest}
 use Rattle.model.proofs.Laws.{clash, is-false, and-in, and-left, and-right, not-in, not-out, some-in, some-out, count-none, count-more}
 use Rattle.sets.proofs.Members.{lowest-is, lowest-none}
-use Rattle.leafset_nearest.specs.Span.{spanTo, Found, nobody, found}
+use Rattle.leafset_nearest.specs.Span.{spanOf, spanTo, Found, nobody, found}
+use Rattle.leafset_nearest.specs.declared.Way.{Way}
 use Rattle.leafset_nearest.specs.declared.Way.the-variants.{Either}
 use Rattle.leafset_nearest.proofs.Spans.{beats-rank}
 
@@ -40,7 +41,7 @@ module _ (n : ℕ) (S : Set) (low : (y : ℕ) → S y ≡ true → y < n) (m : �
   before-in y z e h = and-in e (lt-ltb (m z) (m y) h)
 
   -- none comes before: none is counted
-  pub found-count : {b : ℕ} → Found S m b → b ≡ lowest n (λ y. S y && eqb (count n (before y)) 0)
+  found-count : {b : ℕ} → Found S m b → b ≡ lowest n (λ y. S y && eqb (count n (before y)) 0)
   found-count =
       lowest-found (λ y. S y && eqb (count n (before y)) 0) (λ y q. and-left (S y) (eqb (count n (before y)) 0) q)
       (λ y e f. and-in e (eq-eqb (count n (before y)) 0 (count-none n (before y) (λ z h. before-none y f z))))
@@ -50,11 +51,16 @@ module _ (n : ℕ) (S : Set) (low : (y : ℕ) → S y ≡ true → y < n) (m : �
       some-counted y z e h = omega (arith, count-more (λ i. false) (before y) n (λ i l r. clash r refl) z (low z e) refl (before-in y z e h))
 
   -- none comes before: there is none that does
-  pub found-none : {b : ℕ} → Found S m b → b ≡ lowest n (λ y. S y && not (some n (before y)))
+  found-none : {b : ℕ} → Found S m b → b ≡ lowest n (λ y. S y && not (some n (before y)))
   found-none =
       lowest-found (λ y. S y && not (some n (before y))) (λ y q. and-left (S y) (not (some n (before y))) q)
       (λ y e f. and-in e (not-in (is-false (some n (before y)) (λ s. let p = some-out n (before y) s in clash (p .2) (before-none y f (p .0))))))
       (λ y z e h q. clash (some-in n (before y) z (low z e) (before-in y z e h)) (not-out (some n (before y)) (and-right (S y) (not (some n (before y))) q)))
+
+-- by one way round: the model's first met
+pub met-found : (t : Table) (way : Way) (a : ℕ) (S : Set) → ((y : ℕ) → S y ≡ true → y < size t) → {b : ℕ}
+    → Found S (spanTo way a (t .keys)) b → b ≡ firstMet t (spanOf way) a S
+met-found t way a S low f = found-count (size t) S low (spanTo way a (t .keys)) f
 
 -- by distance, of two equally near the clockwise one: the model's nearest
 pub nearest-found : (t : Table) (a : ℕ) (S : Set) → ((y : ℕ) → S y ≡ true → y < size t) → {b : ℕ}

@@ -15,9 +15,10 @@ use Rattle.model.specs.Play.{noNode}
 use Rattle.model.specs.Sets.{noneNode}
 use Rattle.model.specs.Questions.{leafsetRefusals, leafsetAnswer, leafsetOf, connectionAnswer, connectionOf}
 use Rattle.model.specs.Route.{keyOutOfRange, listTooShort, routeAnswer, routeBuffer}
+use Rattle.model.specs.Reach.{reachAnswer, reachOf}
 use Rattle.model.proofs.Laws.{decide, is-false}
 use Rattle.model.proofs.Answers.{accepted-is, here, later, stays}
-use Rattle.model.proofs.Theorems.{refused-routing}
+use Rattle.model.proofs.Theorems.{refused-routing, refused-reach}
 use Rattle.answers.proofs.Valid.{few}
 use Rattle.answers.proofs.Refusals.{no-ring, out-of-table}
 use Rattle.call_refusals.proofs.Passed
@@ -91,3 +92,18 @@ module _ (ws : List ℕ) where
   route-cut x key list =
       cut (λ x. routeBuffer ws x key list) x
       (λ h. route-far 64 key list (le-refl 64) ∙ rw (leafset-same x h) (sym (route-far x key list h)))
+
+  -- and a reach
+  reach-refused : (x key : ℕ) → isAccepted (leafsetAnswer ws x) ≡ false → reachOf ws x key ≡ record { answer = leafsetAnswer ws x; end = noneNode; hops = 0 }
+  unfolding reachAnswer leafsetAnswer
+  reach-refused x key n =
+      let same : reachAnswer ws x key ≡ leafsetAnswer ws x = stays (leafsetRefusals ws x) (keyOutOfRange key ∷ []) n in
+      refused-reach ws x key (ap isAccepted same ∙ n) ∙ rw same
+
+  reach-far : (x key : ℕ) → 64 ≤ x → reachOf ws x key ≡ record { answer = leafsetAnswer ws x; end = noneNode; hops = 0 }
+  reach-far x key h = reach-refused x key (ap isAccepted (sym (Passed.node-twice ws x)) ∙ far-refused x x (inl h))
+
+  pub reach-cut : (x key : ℕ) → reachOf ws (nodeOf x) key ≡ reachOf ws x key
+  reach-cut x key =
+      cut (λ x. reachOf ws x key) x
+      (λ h. reach-far 64 key (le-refl 64) ∙ rw (leafset-same x h) (sym (reach-far x key h)))

@@ -10,6 +10,7 @@ ghost use Rattle.model.specs.Words.{decode};
 ghost use Rattle.model.specs.Preview.{previewBuffer};
 ghost use Rattle.model.specs.Join.{joinBuffer};
 ghost use Rattle.model.specs.Route.{routeBuffer};
+ghost use Rattle.model.specs.Reach.{reachOf};
 ghost use Rattle.model.specs.Screens.{conductorOf, technicianOf, stampsOf, sparesOf, messagesOf};
 ghost use Rattle.model.specs.Connection.{Connected};
 ghost use Rattle.model.specs.Events.{wordAnswer};
@@ -154,6 +155,26 @@ pub extern "C" fn mekvalgs_route(
     *end = last.0 as u32;
     *hops = routed.hops;
     let answer = routed.answer;
+    answers::number(answer)
+}
+
+// The reach from a running node to the owner of the key.
+#[no_mangle]
+pub extern "C" fn mekvalgs_reach(
+    words: &[u32],
+    start: u32,
+    key: u32,
+    end: &mut u32,
+    hops: &mut u32,
+) -> u32
+    ensures reached { λ r. ⌜ record { answer = r; end = now (end .exit); hops = now (hops .exit) }
+        ≡ reachOf (now (words .entry)) start key ⌝ }
+{
+    let reached = call_reach::reach(words, node(start), key);
+    let last = reached.end;
+    *end = last.0 as u32;
+    *hops = reached.hops;
+    let answer = reached.answer;
     answers::number(answer)
 }
 

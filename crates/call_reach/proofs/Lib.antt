@@ -1,0 +1,4 @@
+pub mod Passes
+pub mod Turns
+pub mod Refused
+pub mod Reaching
