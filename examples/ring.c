@@ -5,8 +5,9 @@
  *     target/ring
  *
  * A preview of the first event; for each event its answer and the messages in flight; then each node with those that it
- * holds, read from the words, who is linked, which of them keeps key 16, and what the conductor sees. Then a second ring,
- * the join of the two, and a contact across, delivered and answered, that makes one group. It prints what ring.out has.
+ * holds, read from the words, who is linked, which of them is nearest to key 16 and which owns it, and what the
+ * conductor sees. Then a second ring, the join of the two, and a contact across, delivered and answered, that makes one
+ * group. It prints what ring.out has.
  */
 #include <inttypes.h>
 #include <stdio.h>
@@ -129,6 +130,8 @@ int main(void)
     for (uint32_t i = 0; answer == MEKVALGS_ACCEPTED && i <= hops; i++)
         printf(" %" PRIu8, route[i]);
     printf("\n");
+    answer = mekvalgs_reach(ring, MEKVALGS_RING_LENGTH, 0, 16, &end, &hops);
+    printf("reach from 0 to key 16: answer %" PRIu32 ", ends at %" PRIu32 ", hops %" PRIu32 "\n", answer, end, hops);
     print_screen();
     print_join();
     return 0;

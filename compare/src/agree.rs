@@ -6,6 +6,7 @@ use crate::damage::damage;
 use crate::look;
 use crate::previews::{self, Preview};
 use crate::random::Random;
+use crate::reaches::{self, Reach};
 use crate::ring::Ring;
 use crate::routes::{self, Route};
 use crate::screens::{self, Screens};
@@ -21,6 +22,8 @@ pub struct Plan {
     pub damaged: u64,
     /// Routes at least.
     pub routes: u64,
+    /// Reaches at least.
+    pub reaches: u64,
     /// Previews at least.
     pub previews: u64,
     /// Screens at least, each time both and the part.
@@ -54,6 +57,9 @@ pub struct Tally {
     pub routes: routes::Tally,
     pub damaged_routes: routes::Tally,
     /// Likewise.
+    pub reaches: reaches::Tally,
+    pub damaged_reaches: reaches::Tally,
+    /// Likewise.
     pub previews: previews::Tally,
     pub damaged_previews: previews::Tally,
     /// Accepted events that were held to a preview just before them.
@@ -79,6 +85,8 @@ impl Tally {
         self.echoed.iter_mut().zip(other.echoed).for_each(|(sum, count)| *sum += count);
         self.routes.add(&other.routes);
         self.damaged_routes.add(&other.damaged_routes);
+        self.reaches.add(&other.reaches);
+        self.damaged_reaches.add(&other.damaged_reaches);
         self.previews.add(&other.previews);
         self.damaged_previews.add(&other.damaged_previews);
         self.foreseen += other.foreseen;
@@ -99,6 +107,7 @@ impl fmt::Display for Tally {
         writeln!(f, "delivered, types 1 to 13: {:?}", &delivered[1..])?;
         writeln!(f, "echoed, types 1 to 13: {:?}", &self.echoed[1..])?;
         writeln!(f, "{}\non damaged buffers: {}", self.routes, self.damaged_routes)?;
+        writeln!(f, "{}\non damaged buffers: {}", self.reaches, self.damaged_reaches)?;
         writeln!(f, "{}\non damaged buffers: {}", self.previews, self.damaged_previews)?;
         writeln!(f, "  {} accepted events came as a preview just before them had shown", self.foreseen)?;
         writeln!(f, "{}\non damaged buffers: {}\n{}", self.screens, self.damaged_screens, self.alike)?;
@@ -142,6 +151,7 @@ fn run_thread(plan: &Plan, rings: &[&dyn Ring], first: u64, stop: &AtomicBool) -
         let share = |count: u64| count.div_ceil(plan.threads);
         tally.events >= plan.events / plan.threads
             && tally.routes.count() >= share(plan.routes)
+            && tally.reaches.count() >= share(plan.reaches)
             && tally.previews.count() >= share(plan.previews)
             && tally.screens.count() >= share(plan.screens)
     };
@@ -164,9 +174,10 @@ struct Play<'a> {
     script: Script,
     random: Random,
     case: Case,
-    /// Damaged buffers, routes, previews and screens for each 1,000 events.
+    /// Damaged buffers, routes, reaches, previews and screens for each 1,000 events.
     damage_rate: u64,
     route_rate: u64,
+    reach_rate: u64,
     preview_rate: u64,
     screen_rate: u64,
 }
@@ -183,6 +194,7 @@ impl<'a> Play<'a> {
             case: Case { sides, keys, steps: Vec::new() },
             damage_rate: rate(plan.damaged),
             route_rate: rate(plan.routes),
+            reach_rate: rate(plan.reaches),
             preview_rate: rate(plan.previews),
             screen_rate: rate(plan.screens),
         }
@@ -218,6 +230,9 @@ impl<'a> Play<'a> {
             }
             for _ in 0..self.times(self.route_rate) {
                 self.route(&mut tally.routes)?;
+            }
+            for _ in 0..self.times(self.reach_rate) {
+                self.reach(&mut tally.reaches)?;
             }
             for _ in 0..self.times(self.screen_rate) {
                 self.screens(&mut tally.screens)?;
@@ -277,6 +292,15 @@ impl<'a> Play<'a> {
         let (routed, list) = self.runner.route(route)?;
         self.case.steps.pop();
         tally.note(self.runner.words(), route.key, routed, &list);
+        Ok(())
+    }
+
+    /// A reach, on the case for as long as it is asked for.
+    fn reach(&mut self, tally: &mut reaches::Tally) -> Result<(), Fault> {
+        let reach = Reach::any(&mut self.random, self.runner.words(), self.case.keys.len());
+        self.case.steps.push(Step::Reach(reach));
+        tally.note(self.runner.reach(reach)?);
+        self.case.steps.pop();
         Ok(())
     }
 
@@ -342,6 +366,9 @@ impl<'a> Play<'a> {
         }
         if self.route_rate > 0 && self.random.percent(20) {
             self.route(&mut tally.damaged_routes)?;
+        }
+        if self.reach_rate > 0 && self.random.percent(20) {
+            self.reach(&mut tally.damaged_reaches)?;
         }
         if self.screen_rate > 0 && self.random.percent(20) {
             self.screens(&mut tally.damaged_screens)?;

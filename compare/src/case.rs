@@ -3,6 +3,7 @@
 use crate::alike::{self, Changed};
 use crate::look;
 use crate::previews::Preview;
+use crate::reaches::Reach;
 use crate::ring::{Ring, Routed, Sides};
 use crate::routes::Route;
 use crate::screens::{Screens, Seen};
@@ -21,6 +22,7 @@ pub enum Step {
     Connected(u32, u32),
     Groups,
     Route(Route),
+    Reach(Reach),
     Screens(Screens),
     /// The screens beside those of a ring that is alike for the conductor, by a number.
     Alike(u32),
@@ -55,7 +57,7 @@ fn digest(bytes: &[u8]) -> u64 {
     bytes.iter().fold(0, |digest: u64, &byte| (digest ^ byte as u64).wrapping_mul(0x100_0000_01B3))
 }
 
-/// A digest of all that a route gives, with end and hops in its lowest two bytes.
+/// A digest of all that a route or a reach gives, with end and hops in its lowest two bytes.
 fn value(routed: Routed, list: &[u8]) -> u64 {
     let (end, hops) = (routed.end.to_le_bytes(), routed.hops.to_le_bytes());
     digest(&[list, &end, &hops].concat()) << 16 | (end[0] as u64) << 8 | hops[0] as u64
@@ -80,6 +82,7 @@ impl fmt::Display for Step {
             Step::Connected(a, b) => write!(f, "connected({a},{b})"),
             Step::Groups => write!(f, "groups()"),
             Step::Route(route) => write!(f, "{route}"),
+            Step::Reach(reach) => write!(f, "{reach}"),
             Step::Screens(screens) => write!(f, "{screens}"),
             Step::Alike(number) => write!(f, "alike({number:X})"),
         }
@@ -105,8 +108,8 @@ impl fmt::Display for Case {
     }
 }
 
-/// The answer of a call, with the value that comes beside it: 0 for a play, a digest for a list and for a route, for a
-/// preview how many words of its second buffer differ from the first implementation's.
+/// The answer of a call, with the value that comes beside it: 0 for a play, a digest for a list, a route and a reach,
+/// for a preview how many words of its second buffer differ from the first implementation's.
 type Outcome = (u32, u64);
 
 /// The places where words differ, with both words.
@@ -138,6 +141,8 @@ pub enum Fault {
     Screens { names: [&'static str; 2], differing: Vec<&'static str> },
     /// Rings that are alike for the conductor don't show what they have to.
     Unlike { line: String },
+    /// A reach ends elsewhere than at the owner, or after too many hops.
+    Astray { line: String },
     /// Demand 3 is broken: two nodes that were connected no longer are.
     Parted { name: &'static str, nodes: (usize, usize) },
 }
@@ -168,7 +173,7 @@ impl fmt::Display for Fault {
             Fault::Screens { names: [one, other], differing } => {
                 write!(f, "  {one} and {other} differ on the screens: {}", differing.join(", "))
             }
-            Fault::Unlike { line } => write!(f, "  {line}"),
+            Fault::Unlike { line } | Fault::Astray { line } => write!(f, "  {line}"),
             Fault::Parted { name, nodes: (a, b) } => {
                 write!(f, "  {name}: nodes {a} and {b} were connected with no acknowledgement in flight, and are parted")
             }
@@ -262,6 +267,7 @@ impl<'a> Runner<'a> {
                 (answer, number as u64)
             })?,
             Step::Route(route) => (self.route(route)?.0.answer, 0),
+            Step::Reach(reach) => (self.reach(reach)?.answer, 0),
             Step::Screens(screens) => (self.screens(screens)?.answer, 0),
             Step::Alike(number) => {
                 self.alike(number)?;
@@ -315,6 +321,20 @@ impl<'a> Runner<'a> {
             outcome
         })?;
         Ok(given.swap_remove(0))
+    }
+
+    /// A reach on every implementation: what the first one gives.
+    pub fn reach(&mut self, reach: Reach) -> Result<Routed, Fault> {
+        let mut given = Vec::new();
+        self.call(|ring, words| {
+            let reached = reach.ask(ring, words);
+            given.push(reached);
+            (reached.answer, value(reached, &[]))
+        })?;
+        match reach.fault(self.words(), given[0]) {
+            Some(fault) => Err(Fault::Astray { line: format!("{}: {fault}", self.rings[0].name()) }),
+            None => Ok(given[0]),
+        }
     }
 
     /// Both screens and the part on every implementation: what the first one shows.

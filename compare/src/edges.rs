@@ -61,6 +61,8 @@ fn calls(ring: &dyn Ring, mut words: Vec<u32>, sides: Sides, keys: &[u32], word:
     let Routed { answer, end, hops } = ring.route(&words, word & 63, word & 0xFF_FFFF, &mut list[..places]);
     answers.extend([answer, end, hops].map(u64::from));
     answers.extend(list.map(u64::from));
+    let Routed { answer, end, hops } = ring.reach(&words, word & 63, word & 0xFF_FFFF);
+    answers.extend([answer, end, hops].map(u64::from));
     let mut second = vec![!word; [LENGTH, LENGTH, LENGTH - 1, LENGTH + 1][word as usize & 3]];
     answers.push(ring.preview(&mut words, word, &mut second) as u64);
     answers.push(ring.join(&words, &words, &mut second) as u64);

@@ -19,6 +19,7 @@ pub mod numbers;
 pub mod plain;
 pub mod previews;
 pub mod random;
+pub mod reaches;
 pub mod reference;
 pub mod ring;
 pub mod routes;

@@ -22,6 +22,9 @@ extern "C" {
         words: *const u32, len: u64, start: u32, key: u32, route: *mut u8, places: u64, end: *mut u32,
         hops: *mut u32,
     ) -> u32;
+    fn mekvalgs_reach(
+        words: *const u32, len: u64, start: u32, key: u32, end: *mut u32, hops: *mut u32,
+    ) -> u32;
     fn mekvalgs_replay(
         words: *mut u32, len: u64, clockwise: u32, counter_clockwise: u32, keys: *const u32, n: u64,
         script: *const u32, script_len: u64, answers: *mut u8, places: u64,
@@ -112,6 +115,14 @@ impl Ring for Library {
                 words.as_ptr(), words.len() as u64, start, key, list.as_mut_ptr(), list.len() as u64, &mut end,
                 &mut hops,
             )
+        };
+        Routed { answer, end, hops }
+    }
+
+    fn reach(&self, words: &[u32], start: u32, key: u32) -> Routed {
+        let (mut end, mut hops) = (u32::MAX, u32::MAX);
+        let answer = unsafe {
+            mekvalgs_reach(words.as_ptr(), words.len() as u64, start, key, &mut end, &mut hops)
         };
         Routed { answer, end, hops }
     }

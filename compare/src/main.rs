@@ -4,14 +4,15 @@ use compare::agree::{self, Found, Plan};
 use compare::ring::Ring;
 use compare::script::Mix;
 use compare::routes::Made;
-use compare::{alike, edges, every_ring, fast_rings, joins, self_test, speed, stage, vectors};
+use compare::{alike, edges, every_ring, fast_rings, joins, reaches, self_test, speed, stage, vectors};
 use std::path::Path;
 use std::process::ExitCode;
 use std::time::Instant;
 
 const USAGE: &str = "compare [all | agree | unbroken | self-test | speed | stack | stage | vectors]
-    [seed=1] [events=5000000] [damaged=1000000] [routes=EVENTS/10] [previews=EVENTS/10]
-    [screens=EVENTS/10] [joins=EVENTS/25] [nodes=64] [threads=CORES] [mixes=gentle,chaos,garbage,replacement]
+    [seed=1] [events=5000000] [damaged=1000000] [routes=EVENTS/10] [reaches=EVENTS/10]
+    [previews=EVENTS/10] [screens=EVENTS/10] [joins=EVENTS/25] [nodes=64] [threads=CORES]
+    [mixes=gentle,chaos,garbage,replacement]
     [vectors=FOLDER] [slip=NAME] [seeds=5]";
 
 struct Options {
@@ -35,9 +36,9 @@ impl Options {
 fn options() -> Option<Options> {
     let threads = std::thread::available_parallelism().map_or(1, |count| count.get() as u64);
     let (events, mixes) = (5_000_000, Mix::ALL.to_vec());
-    let (damaged, routes, previews, screens, joins) = (1_000_000, 0, 0, 0, 0);
-    let plan = Plan { seed: 1, events, damaged, routes, previews, screens, joins, mixes, nodes: 64, threads };
-    let (mut routes, mut previews, mut screens, mut joins) = (None, None, None, None);
+    let (damaged, routes, reaches, previews, screens, joins) = (1_000_000, 0, 0, 0, 0, 0);
+    let plan = Plan { seed: 1, events, damaged, routes, reaches, previews, screens, joins, mixes, nodes: 64, threads };
+    let (mut routes, mut reaches, mut previews, mut screens, mut joins) = (None, None, None, None, None);
     let steady = vec![Mix::Gentle, Mix::Replacement];
     let mut options = Options { mode: "all".to_string(), plan, steady, vectors: None, slip: None, seeds: 5 };
     for word in std::env::args().skip(1) {
@@ -47,6 +48,7 @@ fn options() -> Option<Options> {
             Some(("events", value)) => options.plan.events = value.parse().ok()?,
             Some(("damaged", value)) => options.plan.damaged = value.parse().ok()?,
             Some(("routes", value)) => routes = Some(value.parse().ok()?),
+            Some(("reaches", value)) => reaches = Some(value.parse().ok()?),
             Some(("previews", value)) => previews = Some(value.parse().ok()?),
             Some(("screens", value)) => screens = Some(value.parse().ok()?),
             Some(("joins", value)) => joins = Some(value.parse().ok()?),
@@ -63,6 +65,7 @@ fn options() -> Option<Options> {
         }
     }
     options.plan.routes = routes.unwrap_or(options.plan.events / 10);
+    options.plan.reaches = reaches.unwrap_or(options.plan.events / 10);
     options.plan.previews = previews.unwrap_or(options.plan.events / 10);
     options.plan.screens = screens.unwrap_or(options.plan.events / 10);
     options.plan.joins = joins.unwrap_or(options.plan.events / 25);
@@ -110,6 +113,7 @@ fn speed_table() -> bool {
     speed::report(&fast_rings());
     speed::lists(fast_rings()[0], &compare::reference::Reference);
     speed::routes(&fast_rings());
+    speed::reaches(&fast_rings());
     speed::previews(&fast_rings());
     speed::screens(&fast_rings());
     speed::joins(&fast_rings());
@@ -148,7 +152,8 @@ fn agree_all(plan: &Plan) -> bool {
     let start = Instant::now();
     let (tally, found) = agree::run(plan, &rings);
     println!("{tally}\n{:.0} seconds", start.elapsed().as_secs_f64());
-    let made = made_rings(plan, &rings) & alike_rings(plan, &rings) & joined_rings(plan, &rings);
+    let made = made_rings(plan, &rings) & reached_rings(plan, &rings);
+    let made = made & alike_rings(plan, &rings) & joined_rings(plan, &rings);
     made & differences.is_empty() & numbers_agree & nothing(plan, &rings, found)
 }
 
@@ -176,6 +181,14 @@ fn made_rings(plan: &Plan, rings: &[&dyn Ring]) -> bool {
     found.is_empty()
 }
 
+/// As many reaches as the plan's on rings made for them.
+fn reached_rings(plan: &Plan, rings: &[&dyn Ring]) -> bool {
+    let reaches::Made { tally, found } = reaches::Made::run(plan.seed, plan.reaches, plan.threads, rings);
+    println!("on made rings: {tally}\n{} reaches that differ or are wrong by themselves", found.len());
+    found.iter().take(3).for_each(|line| println!("  {line}"));
+    found.is_empty()
+}
+
 /// Pairs of made rings that are alike for the conductor, a tenth as many as the plan's screens.
 fn alike_rings(plan: &Plan, rings: &[&dyn Ring]) -> bool {
     let alike::Made { tally, found } = alike::Made::run(plan.seed, plan.screens / 10, plan.threads, rings);
@@ -197,8 +210,8 @@ fn joined_rings(plan: &Plan, rings: &[&dyn Ring]) -> bool {
 fn unbroken(options: &Options) -> bool {
     let rings = &fast_rings()[..1];
     println!("\nUnbroken connection, {}", rings[0].name());
-    let none = Plan { damaged: 0, routes: 0, previews: 0, screens: 0, joins: 0, mixes: Vec::new(), ..options.plan };
-    let plan = Plan { mixes: options.steady.clone(), ..none };
+    let mixes = options.steady.clone();
+    let plan = Plan { damaged: 0, routes: 0, reaches: 0, previews: 0, screens: 0, joins: 0, mixes, ..options.plan };
     let (tally, found) = agree::run(&plan, rings);
     println!("{tally}");
     nothing(&plan, rings, found)

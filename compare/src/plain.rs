@@ -4,6 +4,7 @@
 //! A [`Slip`] makes it a wrong program, for the self-test of the harness.
 
 mod joins;
+mod reaches;
 
 use crate::ring::{Conductor, Ring, Routed, Sides, Technician};
 use crate::LENGTH;
@@ -198,6 +199,34 @@ pub enum Slip {
     JoinUnusedKept,
     /// A refused join copies its first source.
     JoinRefusedWrites,
+    /// A finger skips the node at its very place.
+    ReachSkipsPlace,
+    /// A finger past key 16,777,215 is looked for from 0 on.
+    ReachFromZero,
+    /// Fingers are among the held nodes and the node itself.
+    ReachHeld,
+    /// Nodes that are off are met, too.
+    ReachMeetsOff,
+    /// Fingers up to the key, one at it included.
+    ReachAtKey,
+    /// A reach goes to the nearest finger before the key.
+    ReachNearest,
+    /// The span 4,096 is 4,095.
+    ReachSpanMiddle,
+    /// The span 8,388,608 is 8,388,609.
+    ReachSpanLast,
+    /// Without a finger before the key a reach goes to that of span 2.
+    ReachSpan2,
+    /// The owner of a key is strictly after it.
+    ReachOwnerAfter,
+    /// Hops are the nodes of the reach, one too many.
+    ReachHopsOne,
+    /// A refused reach answers node 0.
+    ReachRefused0,
+    /// Refusal 12 before refusal 8.
+    ReachKeyFirst,
+    /// A reach to key 16,777,216 is made.
+    ReachKeyAbove,
     /// Reads as a ring with a commit stamp one above the clock.
     CommitAboveClock,
     /// Reads as a ring with a node as its own spare.
@@ -215,7 +244,7 @@ pub enum Slip {
 }
 
 impl Slip {
-    pub const ALL: [Slip; 100] = [
+    pub const ALL: [Slip; 114] = [
         Slip::StampNotAbove,
         Slip::CommitZero,
         Slip::AskerAsSpare,
@@ -309,6 +338,20 @@ impl Slip {
         Slip::JoinAnyThird,
         Slip::JoinUnusedKept,
         Slip::JoinRefusedWrites,
+        Slip::ReachSkipsPlace,
+        Slip::ReachFromZero,
+        Slip::ReachHeld,
+        Slip::ReachMeetsOff,
+        Slip::ReachAtKey,
+        Slip::ReachNearest,
+        Slip::ReachSpanMiddle,
+        Slip::ReachSpanLast,
+        Slip::ReachSpan2,
+        Slip::ReachOwnerAfter,
+        Slip::ReachHopsOne,
+        Slip::ReachRefused0,
+        Slip::ReachKeyFirst,
+        Slip::ReachKeyAbove,
         Slip::CommitAboveClock,
         Slip::OwnSpare,
         Slip::ReceiverInView,
@@ -321,6 +364,11 @@ impl Slip {
     /// Those of joins.
     pub fn of_join(self) -> bool {
         format!("{self:?}").starts_with("Join")
+    }
+
+    /// Those of reaches.
+    pub fn of_reach(self) -> bool {
+        format!("{self:?}").starts_with("Reach")
     }
 }
 
@@ -1264,6 +1312,10 @@ impl Ring for Plain {
                 Routed::refused(refusal)
             }
         }
+    }
+
+    fn reach(&self, words: &[u32], start: u32, key: u32) -> Routed {
+        self.reach_owner(words, start, key)
     }
 
     fn conductor(&self, words: &[u32], screen: &mut Conductor) -> u32 {

@@ -41,7 +41,7 @@ impl From<(u32, u32)> for Sides {
     }
 }
 
-/// What a route gives beside the nodes in its list.
+/// What a route gives beside the nodes in its list, and what a reach gives.
 #[derive(Clone, Copy, Debug, PartialEq, Eq)]
 pub struct Routed {
     pub answer: u32,
@@ -50,7 +50,7 @@ pub struct Routed {
 }
 
 impl Routed {
-    /// "A refused route answers 0 hops and stand 64."
+    /// "A refused route answers 0 hops and stand 64", and so does a refused reach.
     pub fn refused(answer: u32) -> Routed {
         Routed { answer, end: 64, hops: 0 }
     }
@@ -131,6 +131,9 @@ pub trait Ring: Sync {
 
     /// The route from a node towards a key: its nodes, the start first and the end last, go to the list's first places.
     fn route(&self, words: &[u32], start: u32, key: u32, list: &mut [u8]) -> Routed;
+
+    /// The reach from a node to the owner of a key.
+    fn reach(&self, words: &[u32], start: u32, key: u32) -> Routed;
 
     /// The conductor's screen. Each place is written at every call, so that what was shown before doesn't matter.
     fn conductor(&self, words: &[u32], screen: &mut Conductor) -> u32;

@@ -41,7 +41,7 @@ impl fmt::Display for Route {
 }
 
 /// Mostly a node that runs; sometimes any, also one that the ring doesn't have.
-fn start(random: &mut Random, words: &[u32], n: usize) -> u32 {
+pub fn start(random: &mut Random, words: &[u32], n: usize) -> u32 {
     let any = random.below(n + 1);
     match random.below(100) {
         0..=2 => random.pick(&[n as u32, 64, 255, 256 + any as u32, u32::MAX]),
@@ -86,7 +86,7 @@ fn places(random: &mut Random, n: usize) -> usize {
 }
 
 /// "Clockwise distance from a to b is (b − a) modulo 16,777,216."
-fn clockwise(a: u32, b: u32) -> u32 {
+pub fn clockwise(a: u32, b: u32) -> u32 {
     (LIMIT + 1 + b - a) % (LIMIT + 1)
 }
 
@@ -286,7 +286,7 @@ impl Made {
 }
 
 /// The words of a made ring that say something, with their places.
-fn marked(words: &[u32]) -> String {
+pub fn marked(words: &[u32]) -> String {
     let says = |word: u32| word != 0 && word != 3 << 28 && word >> 28 != 4;
     let words = words.iter().enumerate().filter(|(_, &word)| says(word));
     words.map(|(at, word)| format!("@{at}={word:08X} ")).collect()

@@ -4,6 +4,7 @@ use crate::agree::{self, Found, Plan};
 use crate::alike;
 use crate::joins;
 use crate::plain::{Plain, Slip};
+use crate::reaches;
 use crate::reference::Reference;
 use crate::ring::Ring;
 use crate::routes::Made;
@@ -18,6 +19,12 @@ const MISLEADING: [Slip; 2] = [Slip::PreviewPlays, Slip::PreviewUnplayed];
 /// Wrong programs whose routes end elsewhere: found on converged rings alone, without another implementation.
 const ASTRAY: [Slip; 2] = [Slip::RouteTieOther, Slip::RouteDistanceOnly];
 
+/// Wrong programs whose reaches end elsewhere than at the owner, or after too many hops: found on made rings, likewise.
+const STRAYING: [Slip; 3] = [Slip::ReachMeetsOff, Slip::ReachOwnerAfter, Slip::ReachNearest];
+
+/// Wrong programs whose reaches differ on rings that few scripts lead to.
+const ON_MADE_RINGS: [Slip; 2] = [Slip::ReachSpanMiddle, Slip::ReachSpanLast];
+
 /// Wrong programs whose conductor sees too much: found by rings alike for the conductor alone.
 const TELLING: [Slip; 2] = [Slip::ScreenClock, Slip::ScreenCandidates];
 
@@ -26,14 +33,17 @@ pub fn run(plan: &Plan, only: Option<&str>) -> usize {
     let wanted = |slip: &Slip| only.is_none_or(|only| only == format!("{slip:?}"));
     let mixes = Mix::ALL.to_vec();
     let (events, each) = (3_000_000, 300_000);
-    let (damaged, routes, previews, screens, joins) = (each, each, each, each, 0);
-    let agreement = Plan { events, damaged, routes, previews, screens, joins, mixes, ..*plan };
-    let mixes = vec![Mix::Replacement];
-    let (damaged, routes, previews, screens) = (0, 0, 0, 0);
-    let demand_3 = Plan { events: 10_000_000, damaged, routes, previews, screens, joins, mixes, nodes: 10, ..*plan };
+    let (damaged, routes, reaches, previews, screens, joins) = (each, each, each, each, each, 0);
+    let agreement = Plan { events, damaged, routes, reaches, previews, screens, joins, mixes, ..*plan };
+    let (mixes, nodes, events) = (vec![Mix::Replacement], 10, 10_000_000);
+    let (damaged, routes, reaches, previews, screens) = (0, 0, 0, 0, 0);
+    let demand_3 = Plan { events, damaged, routes, reaches, previews, screens, joins, mixes, nodes, ..*plan };
     let by_join = Slip::ALL.into_iter().filter(|slip| slip.of_join()).filter(wanted);
     let by_join = by_join.filter(|&slip| !joins_wrongly(plan, slip, only.is_some()));
-    let by_difference = Slip::ALL.into_iter().filter(|slip| !slip.of_join()).filter(wanted).filter(|&slip| {
+    let by_reach = Slip::ALL.into_iter().filter(|slip| slip.of_reach()).filter(wanted);
+    let by_reach = by_reach.filter(|&slip| !reaches_wrongly(plan, slip, &[&Reference, &Plain { slip: Some(slip) }]));
+    let by_script = |slip: &Slip| !slip.of_join() && !ON_MADE_RINGS.contains(slip);
+    let by_difference = Slip::ALL.into_iter().filter(by_script).filter(wanted).filter(|&slip| {
         let wrong = Plain { slip: Some(slip) };
         !finds(&agreement, &[&Reference, &wrong], slip, "difference", only.is_some())
     });
@@ -46,9 +56,12 @@ pub fn run(plan: &Plan, only: Option<&str>) -> usize {
         !finds(&agreement, &[&wrong], slip, "preview", only.is_some())
     });
     let by_end = ASTRAY.into_iter().filter(wanted).filter(|&slip| !goes_astray(plan, slip));
+    let by_owner = STRAYING.into_iter().filter(wanted);
+    let by_owner = by_owner.filter(|&slip| !reaches_wrongly(plan, slip, &[&Plain { slip: Some(slip) }]));
     let by_pair = TELLING.into_iter().filter(wanted).filter(|&slip| !tells(plan, slip));
-    let by_difference = by_join.count() + by_difference.count();
-    by_difference + by_demand_3.count() + by_preview.count() + by_end.count() + by_pair.count()
+    let by_difference = by_join.count() + by_reach.count() + by_difference.count();
+    let alone = by_demand_3.count() + by_preview.count() + by_end.count() + by_owner.count() + by_pair.count();
+    by_difference + alone
 }
 
 fn joins_wrongly(plan: &Plan, slip: Slip, show: bool) -> bool {
@@ -63,6 +76,15 @@ fn joins_wrongly(plan: &Plan, slip: Slip, show: bool) -> bool {
         println!("{found}");
     }
     true
+}
+
+/// Beside another implementation, or alone.
+fn reaches_wrongly(plan: &Plan, slip: Slip, rings: &[&dyn Ring]) -> bool {
+    let made = reaches::Made::run(plan.seed, 20_000, plan.threads, rings);
+    let (name, way) = (format!("{slip:?}"), if rings.len() > 1 { "reach" } else { "owner" });
+    let first = made.found.first().and_then(|found| found.lines().next()).unwrap_or("NOT FOUND");
+    println!("{name:<20} {way:<11} {} of 20000 reaches on made rings: {first}", made.found.len());
+    !made.found.is_empty()
 }
 
 fn tells(plan: &Plan, slip: Slip) -> bool {

@@ -2,6 +2,7 @@
 
 use crate::look;
 use crate::random::Random;
+use crate::reaches;
 use crate::reference::Reference;
 use crate::ring::{Conductor, Ring, Sides, Technician};
 use crate::routes;
@@ -247,6 +248,46 @@ fn route_times(start: &[u32], key: u32, rings: &[&dyn Ring]) -> Vec<(f64, f64)> 
         }
     }
     times.into_iter().map(|(routes, plays)| (median(routes), median(plays))).collect()
+}
+
+/// Reaches of 24 hops, and halfway round 64 nodes spread evenly, beside routes of the same start and key and contacts
+/// on the same words: all nodes run and hold their leafset at A = B = 8.
+pub fn reaches(rings: &[&dyn Ring]) {
+    print!("{:<48}", "nanoseconds a reach, a route, an event");
+    for ring in rings {
+        print!("{:>18}{:>12}{:>12}{:>14}", format!("{} reach", ring.name()), "route", "play", "reach/route");
+    }
+    println!();
+    let even: Vec<u32> = (0..64).map(|s| s << 18).collect();
+    let steep = reaches::steep(0xFF_FFFF, 0, 0, 0);
+    let among: Vec<u32> = steep.iter().copied().chain((0..39).map(|s| s * 400_000 + 12_345)).collect();
+    for (keys, key) in [(&steep, 0xFF_FFFF), (&among, 0xFF_FFFF), (&even, even[32])] {
+        let n = keys.len();
+        let words = routes::converged(Sides::from(8), keys, &vec![true; n]);
+        let (hops, routed) = (rings[0].reach(&words, 0, key).hops, rings[0].route(&words, 0, key, &mut [0; 64]).hops);
+        print!("{:<48}", format!("  n {n}, {hops} hops, the route {routed}"));
+        for [reach, route, play] in reach_times(&words, key, rings) {
+            print!("{reach:>18.0}{route:>12.0}{play:>12.0}{:>14.2}", reach / route);
+        }
+        println!();
+    }
+}
+
+/// Nanoseconds a reach and a route from node 0, and nanoseconds a contact, of each ring, medians of rounds in turns.
+fn reach_times(start: &[u32], key: u32, rings: &[&dyn Ring]) -> Vec<[f64; 3]> {
+    let n = look::nodes(start) as u32;
+    let contacts: Vec<u32> = (0..EVENTS as u32).map(|x| 12 << 28 | (x + 1) % n << 6 | x % n).collect();
+    let mut times = vec![[const { Vec::new() }; 3]; rings.len()];
+    let (mut words, mut list) = (start.to_vec(), [0; 64]);
+    for _ in 0..ROUNDS {
+        for (ring, [reaches, routes, plays]) in rings.iter().zip(&mut times) {
+            words.copy_from_slice(start);
+            reaches.push(each(&[key; EVENTS], |key| ring.reach(black_box(&words), 0, key).hops));
+            routes.push(each(&[key; EVENTS], |key| ring.route(black_box(&words), 0, key, &mut list).hops));
+            plays.push(each(&contacts, |word| ring.play(&mut words, word)));
+        }
+    }
+    times.into_iter().map(|times| times.map(median)).collect()
 }
 
 /// Previews, plays of the same events on a copy of the same words, and one copy; the shortest of rounds in turns.

@@ -2,6 +2,7 @@
 
 use crate::library;
 use crate::random::Random;
+use crate::reaches;
 use crate::ring::{Conductor, Ring, Sides, Technician};
 use crate::routes;
 use crate::script::{Mix, Script};
@@ -51,6 +52,7 @@ fn measure() {
     line("connected", (0..64).map(|s| depth(&mut || _ = ring.connected(&words, s, 63 - s))).max().unwrap());
     line("groups", depth(&mut || _ = ring.groups(&words)));
     line("route", route_depth());
+    line("reach", reach_depth());
     let (mut conductor, mut technician) = (Conductor::EMPTY, Box::new(Technician::EMPTY));
     line("conductor", depth(&mut || _ = ring.conductor(&words, &mut conductor)));
     line("technician", depth(&mut || _ = ring.technician(&words, &mut technician)));
@@ -94,6 +96,16 @@ fn route_depth() -> usize {
     let mut list = [0; 64];
     let depth = depth(&mut || _ = library::Library.route(&words, 0, 63, &mut list));
     assert!(list[63] == 63, "63 hops");
+    depth
+}
+
+/// The reach with the most hops, among 64 nodes.
+fn reach_depth() -> usize {
+    let keys: Vec<u32> = reaches::steep(0xFF_FFFF, 0, 0, 0).into_iter().chain((1..40).map(|s| s * 1_000)).collect();
+    let words = routes::ring(Sides::from(1), &keys, &[true; 64], |_| Vec::new());
+    let mut hops = 0;
+    let depth = depth(&mut || hops = library::Library.reach(&words, 0, 0xFF_FFFF).hops);
+    assert!(hops == 24, "24 hops");
     depth
 }
 

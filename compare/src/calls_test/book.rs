@@ -7,7 +7,7 @@ use crate::events::{deliver, echo, on, timer};
 use crate::look;
 use crate::plain::Plain;
 use crate::reference::Reference;
-use crate::ring::{Conductor, Ring, Sides, Technician};
+use crate::ring::{Conductor, Ring, Routed, Sides, Technician};
 use crate::LENGTH;
 
 pub struct Book {
@@ -239,6 +239,28 @@ impl Book {
         let value = self.call(Command::ROUTE, [start, key, places as u32, 0], answer).value;
         assert_eq!(value % 10_000, 6_400, "{}: refused, {start} to {key}", self.tally.section);
         assert!(self.plain.places == before, "{}: refused, {start} to {key}", self.tally.section);
+    }
+
+    /// A reach that ends at a node after so many hops.
+    pub fn reach(&mut self, start: u32, key: u32, end: u32, hops: u32) {
+        let value = self.call(Command::REACH, [start, key, 0, 0], 0).value;
+        assert_eq!(value, (100 * end + hops) as u64, "{}: {start} to {key}", self.tally.section);
+        count(&mut self.tally.reached, hops);
+    }
+
+    /// A reach that the implementations alone judge.
+    pub fn reach_any(&mut self, start: u32, key: u32) {
+        let Routed { answer, end, hops } = Plain { slip: None }.reach(self.words(), start, key);
+        match answer {
+            0 => self.reach(start, key, end, hops),
+            answer => self.reach_refused(start, key, answer),
+        }
+    }
+
+    /// "A refused reach answers 0 hops and stand 64."
+    pub fn reach_refused(&mut self, start: u32, key: u32, answer: u32) {
+        let value = self.call(Command::REACH, [start, key, 0, 0], answer).value;
+        assert_eq!(value, 6_400, "{}: refused, {start} to {key}", self.tally.section);
     }
 
     /// A preview that is lent so many words of the second buffer, and leaves the ring as it is. Accepted, they become

@@ -40,6 +40,7 @@ impl Command {
     pub const FILL_THIRD: u32 = 20;
     pub const JOIN: u32 = 21;
     pub const JOIN_ITSELF: u32 = 22;
+    pub const REACH: u32 = 23;
 
     pub fn bytes(self) -> Vec<u8> {
         [self.number, self.a, self.b, self.c, self.d, self.lent].iter().flat_map(|word| word.to_le_bytes()).collect()
@@ -152,6 +153,7 @@ impl<'a> Machine<'a> {
             Command::REPLAY => self.replay(command),
             Command::PLAY_ALL => self.play_all(command),
             Command::ROUTE => self.route(command),
+            Command::REACH => self.reach(command),
             Command::CONDUCTOR => self.conductor(command),
             Command::TECHNICIAN => self.technician(command),
             Command::MESSAGES => self.messages(command),
@@ -190,6 +192,13 @@ impl<'a> Machine<'a> {
         let places = &mut self.places[..command.c as usize];
         let Routed { answer, end, hops } = self.ring.route(words, command.a, command.b, places);
         (answer, self.places_digest() * 10_000 + end as u64 * 100 + hops as u64)
+    }
+
+    /// A reach: the value has end and hops, two decimal digits each.
+    fn reach(&mut self, command: Command) -> (u32, u64) {
+        let words = &self.words[..command.lent as usize];
+        let Routed { answer, end, hops } = self.ring.reach(words, command.a, command.b);
+        (answer, end as u64 * 100 + hops as u64)
     }
 
     /// A preview, with some words of the second buffer: the value is the digest of all.

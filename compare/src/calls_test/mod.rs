@@ -10,6 +10,7 @@ mod machine;
 mod openings;
 mod pool;
 mod previews;
+mod reaches;
 mod refusals;
 mod replays;
 mod routes;
@@ -36,5 +37,6 @@ pub fn all() -> Book {
     previews::write(&mut book);
     screens::write(&mut book);
     joins::write(&mut book);
+    reaches::write(&mut book);
     book
 }

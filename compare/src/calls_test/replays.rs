@@ -67,13 +67,16 @@ fn every_answer(book: &mut Book) {
     (0..=script.len() as u32).for_each(|length| book.replay(1, &keys, length, 0));
 }
 
-/// Routes from each node to a few others' keys, and halfway to them.
+/// Routes and reaches from each node to a few others' keys, and halfway to them.
 fn routes(book: &mut Book, n: u32, keys: &[u32]) {
     for start in 0..n {
         for ahead in [1, n / 2, n - 1] {
             let (from, to) = (keys[start as usize], keys[((start + ahead) % n) as usize]);
-            book.route_any(start, to);
-            book.route_any(start, from.wrapping_add((to.wrapping_sub(from) & 0xFF_FFFF) / 2) & 0xFF_FFFF);
+            let halfway = from.wrapping_add((to.wrapping_sub(from) & 0xFF_FFFF) / 2) & 0xFF_FFFF;
+            for key in [to, halfway] {
+                book.route_any(start, key);
+                book.reach_any(start, key);
+            }
         }
     }
 }

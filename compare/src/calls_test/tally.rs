@@ -28,6 +28,8 @@ pub struct Tally {
     pub listed: BTreeMap<u32, usize>,
     /// Accepted routes, by hops.
     pub hops: BTreeMap<u64, usize>,
+    /// Accepted reaches, by hops.
+    pub reached: BTreeMap<u32, usize>,
     /// Accepted screens, by n and m.
     pub shown: BTreeMap<(u32, usize), usize>,
     /// Accepted joins, by the two numbers of nodes, and by the two numbers of messages.
@@ -53,7 +55,7 @@ pub fn kind(word: u32) -> u32 {
 }
 
 /// The answers that each call can give.
-const CALLS: [(&str, u32, &[u32]); 16] = [
+const CALLS: [(&str, u32, &[u32]); 17] = [
     ("open", Command::OPEN, &[0, 1, 2, 3]),
     ("play", Command::PLAY, &[0, 1, 4, 5, 6, 7, 8, 9, 10, 11]),
     ("leafset", Command::LEAFSET, &[0, 1, 6, 7, 8]),
@@ -70,6 +72,7 @@ const CALLS: [(&str, u32, &[u32]); 16] = [
     ("messages", Command::MESSAGES, &[0]),
     ("join", Command::JOIN, &[0, 1, 6, 14, 15, 16]),
     ("joined with itself", Command::JOIN_ITSELF, &[1, 6, 15]),
+    ("reach", Command::REACH, &[0, 1, 6, 7, 8, 12]),
 ];
 
 /// The answers that playing or previewing a word of each event kind can give.
@@ -99,7 +102,7 @@ const JOINED_MESSAGES: [(usize, usize); 3] = [(512, 512), (1_024, 0), (0, 1_024)
 
 impl Tally {
     /// Every answer that can come has come, and no other; every type was delivered and echoed, every timer accepted,
-    /// rings at their limits shown, and joined.
+    /// reaches of 0 to 24 hops made, rings at their limits shown, and joined.
     pub fn is_full(&self) -> bool {
         let every_event = |counts: &BTreeMap<(u32, u32), usize>| {
             counts.keys().filter(|(kind, _)| *kind >= 9).copied().eq(each(&EVENTS))
@@ -112,6 +115,7 @@ impl Tally {
             && self.delivered.keys().copied().eq(1..=13)
             && self.echoed.keys().copied().eq(1..=13)
             && self.timers.keys().copied().eq(TIMERS)
+            && self.reached.keys().copied().eq(0..=24)
             && LIMITS.iter().all(|limit| self.shown.contains_key(limit))
             && JOINED.iter().all(|sizes| self.joined.contains_key(sizes))
             && JOINED_MESSAGES.iter().all(|sizes| self.joined_messages.contains_key(sizes))
@@ -135,6 +139,7 @@ impl fmt::Display for Tally {
         writeln!(f, "answers of replayed words: {:?}", self.replayed)?;
         writeln!(f, "answers of words in lists: {:?}", self.listed)?;
         writeln!(f, "accepted routes, by hops: {:?}", self.hops)?;
+        writeln!(f, "accepted reaches, by hops: {:?}", self.reached)?;
         writeln!(f, "accepted screens, by n and m: {:?}", self.shown)?;
         write!(f, "accepted joins, by n: {:?}, by m: {:?}", self.joined, self.joined_messages)
     }

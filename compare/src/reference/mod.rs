@@ -8,6 +8,7 @@ mod layout;
 mod messages;
 mod place;
 mod questions;
+mod reaches;
 mod row;
 mod screens;
 mod sets;
@@ -55,6 +56,10 @@ impl Ring for Reference {
 
     fn route(&self, words: &[u32], start: u32, key: u32, list: &mut [u8]) -> Routed {
         questions::route(words, start, key, list).unwrap_or_else(Routed::refused)
+    }
+
+    fn reach(&self, words: &[u32], start: u32, key: u32) -> Routed {
+        reaches::reach(words, start, key).unwrap_or_else(Routed::refused)
     }
 
     fn conductor(&self, words: &[u32], screen: &mut Conductor) -> u32 {

@@ -13,7 +13,7 @@ pub fn ring(words: &[u32]) -> Result<(&Words, Header), u32> {
 }
 
 /// Refusal 7 or 8 for a question about these nodes.
-fn all_running(words: &Words, header: Header, nodes: &[u32]) -> Result<(), u32> {
+pub fn all_running(words: &Words, header: Header, nodes: &[u32]) -> Result<(), u32> {
     if nodes.iter().any(|&x| x as usize >= header.nodes) {
         return Err(7);
     }

@@ -27,6 +27,7 @@ pub fn call(
         Command::REPLAY => replayed(words, command, list, places),
         Command::PLAY_ALL => played_all(words, command, list, places),
         Command::ROUTE => routed(words, command, places),
+        Command::REACH => reached(words, command),
         Command::CONDUCTOR..=Command::MESSAGES => screens::show(command, words, stamps, spares),
         Command::JOIN => joins::join(words, command, second, third),
         Command::JOIN_ITSELF => joins::join_itself(words, command, second, third),
@@ -65,6 +66,13 @@ fn routed(words: &[u32], command: Command, places: &mut [u8]) -> Outcome {
     let answer = reply.answer;
     let digits = (reply.end.0 as u64) * 100 + reply.hops as u64;
     outcome(answer, memory::digest_bytes(places) * 10_000 + digits)
+}
+
+// The value has end and hops, two decimal digits each.
+fn reached(words: &[u32], command: Command) -> Outcome {
+    let reply = call_reach::reach(words, node(command.a), command.b);
+    let answer = reply.answer;
+    outcome(answer, (reply.end.0 as u64) * 100 + reply.hops as u64)
 }
 
 // The value is the digest of the whole second buffer, also of the words that are not lent.

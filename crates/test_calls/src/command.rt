@@ -78,6 +78,9 @@ impl Command {
     // Joins the buffer and itself, in the first b words of the third.
     pub const JOIN_ITSELF: u32 = 22;
 
+    // The reach from node a to the owner of key b.
+    pub const REACH: u32 = 23;
+
     // Every other number previews the word a, with the first b words of the second buffer.
 }
 
