@@ -2,16 +2,16 @@
 use mathlib.Core.Path.{_≡_, refl}
 use mathlib.Core.Bool.{true, false, not}
 use mathlib.Core.List.{List, [], _∷_, map}
-use Prim.Native.Nat.{ℕ, zero, suc, _*_, _^_}
+use Prim.Native.Nat.{ℕ, zero, suc, _+_, _*_, _%_, _^_}
 use lib.Dec.{eqb}
 use lib.ListN.{getD, take}
 use Rattle.model.specs.Choice.{if_then_else_}
 use Rattle.model.specs.Fields.{ofKind}
-use Rattle.model.specs.Sets.{noneNode, ofBits, count, some, members, tabulateFrom}
+use Rattle.model.specs.Sets.{noneNode, ofBits, all, count, some, members, tabulateFrom}
 use Rattle.model.specs.Leafset.{Table, leafset, nearest}
-use Rattle.model.specs.Ring.{Own, Message, Ring, fresh, initial, isRunning}
+use Rattle.model.specs.Ring.{Own, Message, Ring, fresh, initial, isRunning, sentBy}
 use Rattle.model.specs.Types.{pongAskInv, leave, usedByType}
-use Rattle.model.specs.Words.{headWord, sidesOf}
+use Rattle.model.specs.Words.{headWord, sidesOf, sendersFit}
 use Rattle.model.specs.Steps.{plain, viewing, hold, release, forget, leaving, contact, notice, timer0, timer}
 use Rattle.model.specs.Steps.{onPingContact, onPongContact, onPongAskInv, onPongReplace, onLeave, deliver}
 use Rattle.model.specs.Answers.{firstOf}
@@ -118,9 +118,9 @@ flown e = (r .node 0 .clock ∷ r .node 4 .clock ∷ []) ∷ map (λ m. m .type 
     r : Ring
     r = after (flying three) e
 
--- the answer to a word where 1,024 messages of a type fly from 2 to 0
+-- the answer to a word where 1,024 messages of a type fly to 0, as many from each of the others
 pub when-full : ℕ → ℕ → ℕ
-when-full k w = playAnswer (flying (map (λ i. plain k 2 0) (tabulateFrom 0 1024 (λ i. i)))) w
+when-full k w = playAnswer (flying (tabulateFrom 0 1024 (λ i. plain k (i % 4 + 1) 0))) w
 
 -- the acknowledgement of P10, which lets go of node 2, comes so many times: the clock of node 0, whom it holds, with which commits, and the types in flight
 pub bitten : ℕ → List (List ℕ)
@@ -221,7 +221,7 @@ pub amended : Amended
 unfolding count members five knowing told known noticed brought-back uneven left-by having sent kept release forget leaving notice
     timer0 timer onPongAskInv onLeave deliver after eventOf eventAnswer wordAnswer readEvent firstOf leafset headWord some nearest
     nextOf goesOn routeWithin route routed late at-point initial usedByType hold contact onPingContact onPongContact removeMessage
-    act playAnswer playWord playAll tabulateFrom reached connected flying three flown when-full bitten onPongReplace
+    act playAnswer playWord playAll tabulateFrom reached connected flying three flown when-full bitten onPongReplace sentBy all sendersFit
     example.holding example.five example.node0 example.off example.acknowledgement ring
 amended =
     record {

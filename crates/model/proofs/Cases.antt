@@ -10,7 +10,7 @@ use Rattle.model.specs.Play.{after, act, receive, removeMessage, refusal
 use Rattle.model.specs.declared.answer.Answer.{Answer}
 use Rattle.model.specs.declared.answer.Answer.the-variants.{Accepted, WrongLength, OpeningOutOfRange, BadKey, NotAnEvent, SameNode, NotARing}
 use Rattle.model.specs.declared.answer.Answer.the-variants.{OutOfTable, NodeOff, AlreadyRunning, ClockSpent, PoolFull, KeyOutOfRange, ListTooShort}
-use Rattle.model.specs.declared.answer.Answer.the-variants.{SidesDiffer, TablesClash, TooManyMessages}
+use Rattle.model.specs.declared.answer.Answer.the-variants.{SidesDiffer, TablesClash, TooManyMessages, SenderFull}
 use Rattle.model.specs.declared.event.Event.{Event}
 use Rattle.model.specs.declared.event.Event.the-variants.{On, Off, Notice, Contact, Timer, Deliver, Lose}
 use Rattle.model.proofs.Laws.{if-law}
@@ -25,7 +25,7 @@ refusals-refuse r (Deliver i echo) = cons refl (cons refl nil)
 refusals-refuse r (Lose i) = cons refl nil
 
 pub left-refuses : (r : Ring) → Each (λ q. isAccepted (q .number) ≡ false) (leftRefusals r)
-left-refuses r = cons refl nil
+left-refuses r = cons refl (cons refl nil)
 
 -- no event changes the table
 pub after-table : (r : Ring) (e : Event) → after r e .table ≡ r .table
@@ -45,7 +45,7 @@ after-table r (Lose i) = refl
 -- ---- answers
 
 -- an answer's number fits a byte
-pub number-low : (a : Answer) → numberOf a ≤ 16
+pub number-low : (a : Answer) → numberOf a ≤ 17
 number-low Accepted = lit≤ tt
 number-low WrongLength = lit≤ tt
 number-low OpeningOutOfRange = lit≤ tt
@@ -63,3 +63,4 @@ number-low ListTooShort = lit≤ tt
 number-low SidesDiffer = lit≤ tt
 number-low TablesClash = lit≤ tt
 number-low TooManyMessages = lit≤ tt
+number-low SenderFull = lit≤ tt

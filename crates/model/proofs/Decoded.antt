@@ -14,9 +14,13 @@ use Rattle.model.specs.Ring.{Own, Node, Message, blank, messageAt}
 use Rattle.model.specs.Fields.{bits}
 use Rattle.model.specs.WellFormed.{WellFormedTable, Spare, none, spare, WellFormedOwn, WellFormedNode, WellFormedMessage, WellFormed, Each}
 use Rattle.model.specs.Types.{usesView, usesSubject, namesSpare, usesStamp}
-use Rattle.model.specs.Words.{isPair, nodePlace, messagePlace, decodeTable, decodeOwn, decodeNode, decodeMessage, decode, between, sidesFit, inRange, keysDiffer, nodeOrNone, pairFits, nodeFits, subjectFits, messageTests, messageFits, ringFits, readsAsRing}
+use Rattle.model.specs.Words.{isPair, nodePlace, messagePlace, decodeTable, decodeOwn, decodeNode, decodeMessage, decode, between, sidesFit}
+use Rattle.model.specs.Words.{inRange, keysDiffer, nodeOrNone, pairFits, nodeFits, subjectFits, messageTests, messageFits, sendersFit, ringFits}
+use Rattle.model.specs.Words.{readsAsRing}
 use Rattle.model.proofs.Fits.{sides-out}
-use Rattle.model.proofs.Laws.{clash, and-left, and-right, or-case, or-left, or-right, implies-out, not-out, not-in, between-low, between-high, every-out, then-out, else-out, decide, is-false, if-law, all-out, length-tabulate, getD-tabulate}
+use Rattle.model.proofs.Laws.{clash, and-left, and-right, or-case, or-left, or-right, implies-out, not-out, not-in, between-low, between-high}
+use Rattle.model.proofs.Laws.{every-out, then-out, else-out, decide, is-false, if-law, all-out, length-tabulate, getD-tabulate}
+use Rattle.model.proofs.Senders.{senders-out}
 use Rattle.model.proofs.Lists.{first, rest, each-of}
 use Rattle.model.proofs.Fields.{bits<}
 use Rattle.model.proofs.Bits.{bit-below}
@@ -110,7 +114,7 @@ module _ (ws : List ℕ) (fits : ringFits (decode ws) ≡ true) where
 
   ring-parts : Each (λ b. b ≡ true)
       (inRange t ∷ keysDiffer t ∷ leb (length (decode ws .messages)) 1024 ∷ all (size t) (λ x. nodeFits t (decodeNode ws x) x)
-      ∷ all (length (decode ws .messages)) (λ k. messageFits t (messageAt (decode ws) k)) ∷ [])
+      ∷ all (length (decode ws .messages)) (λ k. messageFits t (messageAt (decode ws) k)) ∷ sendersFit (decode ws) ∷ [])
   unfolding ringFits decode
   ring-parts = every-out _ fits
 
@@ -247,6 +251,7 @@ module _ (ws : List ℕ) (fits : ringFits (decode ws) ≡ true) where
         node-well = decoded-node;
         messages-well = each-of blank (decode ws .messages) decoded-message;
         count-high = leb-true (length (decode ws .messages)) 1024 (first (rest (rest ring-parts)));
+        senders-few = senders-out (decode ws) (first (rest (rest (rest (rest (rest ring-parts))))));
       }
 
 -- words that read as a ring decode to a well-formed one

@@ -16,6 +16,7 @@ use Rattle.model.specs.Types.{usesView, usesSubject, namesSpare, usesSta
 use Rattle.model.specs.Words.{isPair, encode, decode, between, sidesFit, inRange, nodeOrNone, pairFits, nodeFits, subjectFits, viewFits, messageFits, ringFits, readsAsRing}
 use Rattle.model.specs.declared.values.Sides.{Sides}
 use Rattle.model.proofs.Laws.{and-left, and-right, and-in, or-left, or-right, implies-in, not-in, not-out, between-in, between-low, between-high, every-in, if-law, decide, all-in}
+use Rattle.model.proofs.Senders.{senders-in}
 use Rattle.model.proofs.Lists.{each-at}
 use Rattle.model.proofs.Words.{pair-low, pair-other, length-encode, format-in, reads-in}
 use Rattle.model.proofs.RoundTrip.{round-trip}
@@ -137,7 +138,7 @@ ring-fits r g =
     (cons
     (all-in (length (r .messages)) (λ k. messageFits (r .table) (messageAt r k))
     (λ k h. message-fits (r .table) (g .table-well) (messageAt r k) (each-at (g .messages-well) blank k h)))
-    nil)))))
+    (cons (senders-in r (g .senders-few)) nil))))))
 
 -- the words of a well-formed ring read as a ring
 pub encoded-reads : (r : Ring) → WellFormed r → readsAsRing (encode r) ≡ true

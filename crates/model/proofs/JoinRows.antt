@@ -5,12 +5,12 @@ use mathlib.Core.List.{List, [], _∷_, _++_, map}
 use Prim.Native.Nat.{ℕ}
 use lib.ListN.{getD, take, drop, replicate}
 use Rattle.model.specs.Sets.{noneNode, all, some, count, members, toBits, ofBits, tabulateFrom, tabulate}
-use Rattle.model.specs.Ring.{Own, Node, Ring, fresh, isRunning}
+use Rattle.model.specs.Ring.{Own, Node, Ring, fresh, isRunning, sentBy}
 use Rattle.model.specs.Types.{pingContact, pongAskInv, pongAskRepl, pingReplace, usedByType}
 use Rattle.model.specs.Steps.{stamped, naming, plain, viewing}
 use Rattle.model.specs.Answers.{firstOf}
 use Rattle.model.specs.Words.{headWord, wordAt, decodeTable, decode, inRange, keysDiffer}
-use Rattle.model.specs.Words.{pairFits, nodeFits, messageFits, ringFits, formatFits, readsAsRing}
+use Rattle.model.specs.Words.{pairFits, nodeFits, messageFits, sendersFit, ringFits, formatFits, readsAsRing}
 use Rattle.model.specs.Buffer.{wrongLength, notARing}
 use Rattle.model.specs.Connection.{reached, connected, groups}
 use Rattle.model.specs.Join.{raised, raisedSet, join, joiningRefusals, joinRefusals, joinAnswer, joinBuffer}
@@ -152,7 +152,7 @@ pub record JoinRows : Type 0 where
 
 pub join-rows : JoinRows
 unfolding own nodes two three five of-each in-flight sample keys-from tried sides-tried zeros join all some count members tabulateFrom toBits
-    usedByType firstOf headWord wordAt decodeTable decode inRange keysDiffer pairFits nodeFits messageFits ringFits formatFits readsAsRing
+    usedByType firstOf headWord wordAt decodeTable decode inRange keysDiffer pairFits nodeFits sentBy messageFits sendersFit ringFits formatFits readsAsRing
     reached connected groups joinAnswer joinBuffer
 join-rows =
     record {

@@ -5,7 +5,7 @@ use Prim.Native.Nat.{ℕ, _+_, _-_, _≤_, _<_}
 use native.Mathlib.Omega.{arith}
 use native.Mathlib.Decide.{decLt}
 use mathlib.Core.Bool.{true, false, not, _&&_, _||_}
-use mathlib.Core.List.{List, [], _∷_, _++_}
+use mathlib.Core.List.{List, [], _∷_, _++_, map}
 use lib.ListN.{length, getD, length-append, length-map, List·getD-append}
 use lib.Seq.{getD-append-add}
 use lib.Dec.{ltb, leb, eqb}
@@ -13,7 +13,7 @@ use borrow.Author.Tests.{lt-ltb, le-ltb, ltb-true, ltb-false, leb-true, eqb-true
 use Rattle.model.specs.Choice.{if_then_else_}
 use Rattle.model.specs.Sets.{Set}
 use Rattle.model.specs.Leafset.{size, key}
-use Rattle.model.specs.Ring.{Own, Node, Message, Ring}
+use Rattle.model.specs.Ring.{Own, Node, Message, Ring, sentBy}
 use Rattle.model.specs.WellFormed.{WellFormedSides, WellFormedTable, Other, Spare, none, spare}
 use Rattle.model.specs.WellFormed.{WellFormedOwn, WellFormedNode, WellFormedMessage, WellFormed, Each, nil, cons}
 use Rattle.model.specs.Answers.{firstOf, isAccepted}
@@ -23,7 +23,8 @@ use Rattle.model.specs.Join.{raised, raisedSet, raisedOwn, raisedNode, r
 use Rattle.model.specs.Join.{sharesKey, joiningRefusals, joinRefusals, joinAnswer, joinBuffer}
 use Rattle.model.specs.declared.values.Sides.{Sides}
 use Rattle.model.proofs.Laws.{clash, and-left, and-right, and-in, or-left, or-right, or-none-left, or-none-right}
-use Rattle.model.proofs.Laws.{not-in, not-out-false, decide, if-law, is-false, all-in, some-out, some-none}
+use Rattle.model.proofs.Laws.{not-in, not-out-false, decide, if-law, is-false, same-test, all-in, some-out, some-none}
+use Rattle.model.proofs.Senders.{sent-append, sent-none, sent-map}
 use Rattle.model.proofs.LeafsetSize.{same-key}
 use Rattle.model.proofs.Lists.{first, rest, each-append, each-imp, each-map}
 use Rattle.model.proofs.Answers.{none-applies, no-more, passes}
@@ -233,6 +234,32 @@ module _ (r s : Ring) where
           keys-differ = joined-differ;
         }
 
+    -- "its senders come from one ring each"
+    joined-few : (x : ℕ) → x < n + k → sentBy x (r .messages ++ map (raisedMessage n) (s .messages)) ≤ 256
+    joined-few x hx =
+        let both = sent-append x (r .messages) (map (raisedMessage n) (s .messages)) in
+        by-ring x
+        (λ l. omega (
+          arith,
+          both,
+          g .senders-few x l,
+          sent-none x (each-map {Q = λ m. m .sender ≡ x → ⊥} (raisedMessage n)
+              (λ m w e. omega (arith, raised-is n k (may .size-fits) (m .sender) (w .sender-low))) (h .messages-well)),
+        ))
+        (λ l. omega (
+          arith,
+          both,
+          h .senders-few (x - n) (omega arith),
+          sent-none x (each-imp {Q = λ m. m .sender ≡ x → ⊥} (λ m w e. omega (arith, w .sender-low)) (g .messages-well)),
+          sent-map (raisedMessage n) (x - n) x
+              (each-imp (λ m w.
+              let rose = raised-is n k (may .size-fits) (m .sender) (w .sender-low) in
+              same-test (eqb (raised n (m .sender)) x) (eqb (m .sender) (x - n))
+              (λ e. eq-eqb (m .sender) (x - n) (omega (arith, rose, eqb-true (raised n (m .sender)) x e)))
+              (λ e. eq-eqb (raised n (m .sender)) x (omega (arith, rose, eqb-true (m .sender) (x - n) e))))
+              (h .messages-well)),
+        ))
+
     -- the join of well-formed rings that may be joined is well-formed
     pub joined-well : WellFormed (join r s)
     unfolding join
@@ -248,6 +275,7 @@ module _ (r s : Ring) where
               (each-imp (λ m. wider-message m (omega arith)) (g .messages-well))
               (each-map (raisedMessage n) (raised-message n k (may .size-fits)) (h .messages-well)));
           count-high = omega (arith, joined-count, may .messages-fit);
+          senders-few = λ x hx. joined-few x (omega (arith, joined-size));
         }
 
 -- ---- an accepted join

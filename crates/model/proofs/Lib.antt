@@ -1,5 +1,6 @@
 pub mod Laws
 pub mod Lists
+pub mod Senders
 pub mod Bits
 pub mod Fields
 pub mod Answers
@@ -31,10 +32,12 @@ pub mod PointsFit
 pub mod Amended
 pub mod JoinRows
 pub mod ReachRows
+pub mod SenderRows
 pub mod Routes
 pub mod Reaches
 pub mod Previews
 pub mod Echoes
+pub mod SenderBound
 pub mod ScreenRows
 pub mod Screens
 pub mod Unreached

@@ -15,6 +15,7 @@ use Rattle.model.specs.Questions.{leafsetOf}
 use Rattle.model.specs.WellFormed.{WellFormedTable, none, spare, WellFormedOwn, WellFormedNode, WellFormedMessage, WellFormed, nil, cons}
 use Rattle.model.proofs.Laws.{clash, if-law, put-each, all-out}
 use Rattle.model.proofs.Bits.{bit-below}
+use Rattle.model.proofs.Senders.{sent-le}
 use Rattle.model.proofs.WellFormedSteps.{cleared-well, commit-well, spare-well}
 use Rattle.model.proofs.Questions.{leafset-asked}
 use Rattle.model.proofs.ExampleRing.{holding, five, node0, off, acknowledgement, ring}
@@ -98,6 +99,7 @@ module _ (S commit : ℕ) (low : S < 2 ^ 5) (me : ofBits S 0 ≡ false) (two : o
         node-well = put-each (WellFormedNode 5) (λ x. off) 0 (node0 S commit) node0-well (λ x d. off-well x);
         messages-well = cons message-well nil;
         count-high = omega arith;
+        senders-few = λ x h. omega (arith, sent-le x (ring S commit .messages));
       }
 
 pub record PointsFit : Type 0 where

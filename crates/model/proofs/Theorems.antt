@@ -12,14 +12,14 @@ use Rattle.model.specs.Choice.{if_then_else_}
 use Rattle.model.specs.Key.{clockwise}
 use Rattle.model.specs.Sets.{Set, without, count, toBits, noneNode}
 use Rattle.model.specs.Leafset.{Table, size, key, leafset, beats, nearest}
-use Rattle.model.specs.Ring.{Own, Message, Ring, initial, holds, isRunning, messageAt}
+use Rattle.model.specs.Ring.{Own, Message, Ring, initial, holds, isRunning, messageAt, sentBy}
 use Rattle.model.specs.Types.{types}
 use Rattle.model.specs.Steps.{stepByType}
-use Rattle.model.specs.WellFormed.{WellFormedTable, WellFormed}
-use Rattle.model.specs.Words.{ringLength, encode, decode, readsAsRing}
+use Rattle.model.specs.WellFormed.{WellFormedTable, WellFormed, Each}
+use Rattle.model.specs.Words.{ringLength, encode, decode, sendersFit, readsAsRing}
 use Rattle.model.specs.Answers.{isAccepted}
-use Rattle.model.specs.Events.{wordOf, eventAnswer, writeEvent, readEvent, readingOf}
-use Rattle.model.specs.Play.{after, playAnswer, playWord, playAll}
+use Rattle.model.specs.Events.{wordOf, eventAnswer, sameNode, writeEvent, readEvent, readingOf}
+use Rattle.model.specs.Play.{after, actor, refusals, playAnswer, playWord, playAll}
 use Rattle.model.specs.Buffer.{openBuffer, playBuffer, playBufferAll}
 use Rattle.model.specs.Questions.{leafsetOf}
 use Rattle.model.specs.Route.{nextOf, goesOn, route, Converged, routeAnswer, routeBuffer}
@@ -30,7 +30,7 @@ use Rattle.model.specs.Connection.{Connected, connected, groups, CountsG
 use Rattle.model.specs.Join.{join, joinBuffer, Joinable, FromOneRing, firstPart, secondPart}
 use Rattle.model.specs.ConnectivityPreserved.{Reached, opened, joined, Unbroken, ConnectivityPreserved}
 use Rattle.model.specs.declared.event.Event.{Event}
-use Rattle.model.specs.declared.event.Event.the-variants.{Deliver}
+use Rattle.model.specs.declared.event.Event.the-variants.{Deliver, Lose}
 use Rattle.model.specs.declared.event.Reading.the-variants.{Read}
 use Rattle.model.proofs.Events as events
 use Rattle.model.proofs.LeafsetSize.{TwoSides}
@@ -55,6 +55,9 @@ use Rattle.model.proofs.Echoes.{EchoLeaves, AlikeButFull}
 use Rattle.model.proofs.Echoes as echoes
 use Rattle.model.proofs.Screens as screens
 use Rattle.model.proofs.Joins as joins
+use Rattle.model.proofs.WellFormedPlay as play-well
+use Rattle.model.proofs.SenderBound.{namesPosition}
+use Rattle.model.proofs.SenderBound as bound
 use Rattle.model.proofs.JoinedGroups as joined-groups
 use Rattle.model.proofs.Parted as parted
 use Rattle.model.proofs.ConnectivityPreserved as preserved
@@ -308,12 +311,35 @@ pub echo-leaves : (r : Ring) (i : ℕ) → i < length (r .messages) → EchoLeav
 echo-leaves r i h = echoes.echo-leaves r i h
 
 -- "Refusal 11 counts the message that stays": no other answer tells an echo from a delivery
-pub echo-answers : (r : Ring) (i : ℕ) → i < 1024 → AlikeButFull (playAnswer r (wordOf (Deliver i true))) (playAnswer r (wordOf (Deliver i false)))
-echo-answers r i h = echoes.echo-answers r i h
+pub echo-answers : (r : Ring) → WellFormed r → (i : ℕ) → i < 1024
+    → AlikeButFull (playAnswer r (wordOf (Deliver i true))) (playAnswer r (wordOf (Deliver i false)))
+echo-answers r g i h = echoes.echo-answers r g i h
 
 -- an echo to a node that is off leaves the ring
 pub echo-to-off : (r : Ring) (i : ℕ) → isRunning r (messageAt r i .receiver) ≡ false → after r (Deliver i true) ≡ r
 echo-to-off r i off = echoes.echo-to-off r i off
+
+-- ---- the bound of a sender
+
+-- "No sender may have more than 256 messages travelling.": no event passes it, and "A join that would read otherwise can't arise"
+pub senders-bounded : (r : Ring) (words : List ℕ) → WellFormed r → (x : ℕ) → x < size (playAll r words .table) → sentBy x (playAll r words .messages) ≤ 256
+senders-bounded r words g = play-well.words-well r words g .senders-few
+
+pub join-bounded : (r s : Ring) → WellFormed r → WellFormed s → Joinable r s
+    → (x : ℕ) → x < size (join r s .table) → sentBy x (join r s .messages) ≤ 256
+join-bounded r s g h may = joins.joined-well r s g h may .senders-few
+
+-- "17, the acting or answering stand would have more than 256 travelling": where no refusal before 11 applies, whether 17 does is that node's count
+pub actor-passes : (r : Ring) (e : Event) → WellFormed r → sameNode e ≡ false → Each (λ q. q .applies ≡ false) (refusals r e)
+    → sendersFit (after r e) ≡ false → 256 < sentBy (actor r e) (after r e .messages)
+actor-passes r e g d p f = bound.actor-passes r e g d p f
+
+-- "Losing a message makes its place free for the sender": an event, other than a delivery, that would leave one too many of its node's is
+-- accepted once one of these is lost
+pub lost-frees : (r : Ring) (e : Event) → WellFormed r → eventAnswer e ≡ 0 → namesPosition e ≡ false
+    → (i : ℕ) → i < length (r .messages) → messageAt r i .sender ≡ actor r e
+    → playAnswer r (wordOf e) ≡ 17 → sentBy (actor r e) (after r e .messages) ≡ 257 → playAnswer (after r (Lose i)) (wordOf e) ≡ 0
+lost-frees r e g a p i h own is one-more = bound.lost-frees r e g a p i h own is one-more
 
 -- ---- screens
 

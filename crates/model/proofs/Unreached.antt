@@ -18,6 +18,7 @@ use Rattle.model.specs.Buffer.{openAnswer, playBufferAll}
 use Rattle.model.specs.Words.{encode, decode, ringFits, readsAsRing}
 use Rattle.model.specs.Connection.{Connected, connected}
 use Rattle.model.specs.ConnectivityPreserved.{NoAcknowledgement, LeaversOff, Harmless, readAt, Unbroken}
+use Rattle.model.proofs.Senders.{sent-le}
 use Rattle.model.proofs.Laws.{clash}
 use Rattle.model.proofs.Lists.{each-at}
 use Rattle.model.proofs.RoundTrip.{round-trip}
@@ -127,6 +128,7 @@ forged-well =
           (cons (request-well 0 1 (omega arith) (omega arith) (λ e. omega arith))
           (cons (request-well 1 0 (omega arith) (omega arith) (λ e. omega arith)) nil));
       count-high = omega arith;
+      senders-few = λ x h. omega (arith, sent-le x (asked 100 .messages));
     }
 
 -- ---- the point, and the words

@@ -145,50 +145,58 @@ release-held z y o d h = and-in h (not-in (ne-eqb y z d))
 
 -- ---- messages: a law for each row of the table of types
 
+-- a message that x sends
+pub record WellSent (n x : ℕ) (m : Message) : Type 0 where
+  pub well : WellFormedMessage n m
+  pub by-sender : m .sender ≡ x
+
 module _ (n k x y : ℕ) (known : isType k ≡ true) (hx : x < n) (hy : Other n x y) where
   message-well : (used : Uses) → usesOf k ≡ used → (z time : ℕ) (S : Set)
       → (used .subject ≡ false → z ≡ 64) → (used .subject ≡ true → used .spare ≡ false → z < n) → (used .spare ≡ true → Spare n y x z)
       → (used .stamp ≡ false → time ≡ 0) → time ≤ 16777215
       → ((v : ℕ) → S v ≡ true → used .view ≡ true) → ((v : ℕ) → S v ≡ true → Other n y v)
-      → WellFormedMessage n (record { type = k; sender = x; receiver = y; subject = z; stamp = time; view = S })
+      → WellSent n x (record { type = k; sender = x; receiver = y; subject = z; stamp = time; view = S })
   message-well used u z time S a b c d e f g =
       let subject : used .subject ≡ usesSubject k = ap (λ (v : Uses). v .subject) (sym u) in
       let is-spare : used .spare ≡ namesSpare k = ap (λ (v : Uses). v .spare) (sym u) in
       record {
-        type-known = known;
-        sender-low = hx;
-        receiver-low = hy .low;
-        ends-differ = λ i. hy .differs (sym i);
-        subject-none = λ i. a (subject ∙ i);
-        subject-low = λ i j. b (subject ∙ i) (is-spare ∙ j);
-        subject-spare = λ i. c (is-spare ∙ i);
-        stamp-none = λ i. d (ap (λ (v : Uses). v .stamp) (sym u) ∙ i);
-        stamp-high = e;
-        view-type = λ v i. ap (λ (v : Uses). v .view) u ∙ f v i;
-        view-other = g;
+        by-sender = refl;
+        well = record {
+          type-known = known;
+          sender-low = hx;
+          receiver-low = hy .low;
+          ends-differ = λ i. hy .differs (sym i);
+          subject-none = λ i. a (subject ∙ i);
+          subject-low = λ i j. b (subject ∙ i) (is-spare ∙ j);
+          subject-spare = λ i. c (is-spare ∙ i);
+          stamp-none = λ i. d (ap (λ (v : Uses). v .stamp) (sym u) ∙ i);
+          stamp-high = e;
+          view-type = λ v i. ap (λ (v : Uses). v .view) u ∙ f v i;
+          view-other = g;
+        };
       }
 
-  plain-well : usesOf k ≡ nothingUsed → WellFormedMessage n (plain k x y)
+  plain-well : usesOf k ≡ nothingUsed → WellSent n x (plain k x y)
   plain-well u =
       message-well nothingUsed u 64 0 empty (λ e. refl) (λ e d. clash e refl) (λ e. clash e refl) (λ e. refl) (omega arith)
       (λ v i. clash i refl) (λ v i. clash i refl)
 
-  viewing-well : (S : Set) → usesOf k ≡ viewUsed → ((z : ℕ) → S z ≡ true → Other n y z) → WellFormedMessage n (viewing k x y S)
+  viewing-well : (S : Set) → usesOf k ≡ viewUsed → ((z : ℕ) → S z ≡ true → Other n y z) → WellSent n x (viewing k x y S)
   viewing-well S u f =
       message-well viewUsed u 64 0 S (λ e. refl) (λ e d. clash e refl) (λ e. clash e refl) (λ e. refl) (omega arith)
       (λ v i. refl) f
 
-  naming-well : (z : ℕ) → usesOf k ≡ subjectUsed → z < n → WellFormedMessage n (naming k x y z)
+  naming-well : (z : ℕ) → usesOf k ≡ subjectUsed → z < n → WellSent n x (naming k x y z)
   naming-well z u h =
       message-well subjectUsed u z 0 empty (λ e. clash refl e) (λ e d. h) (λ e. clash e refl) (λ e. refl) (omega arith)
       (λ v i. clash i refl) (λ v i. clash i refl)
 
-  offering-well : (z : ℕ) → usesOf k ≡ spareUsed → Spare n y x z → WellFormedMessage n (naming k x y z)
+  offering-well : (z : ℕ) → usesOf k ≡ spareUsed → Spare n y x z → WellSent n x (naming k x y z)
   offering-well z u s =
       message-well spareUsed u z 0 empty (λ e. clash refl e) (λ e d. clash refl d) (λ e. s) (λ e. refl) (omega arith)
       (λ v i. clash i refl) (λ v i. clash i refl)
 
-  stamped-well : (z time : ℕ) → usesOf k ≡ subjectAndStampUsed → z < n → time ≤ 16777215 → WellFormedMessage n (stamped k x y z time)
+  stamped-well : (z time : ℕ) → usesOf k ≡ subjectAndStampUsed → z < n → time ≤ 16777215 → WellSent n x (stamped k x y z time)
   stamped-well z time u h l =
       message-well subjectAndStampUsed u z time empty (λ e. clash refl e) (λ e d. h) (λ e. clash e refl) (λ e. clash refl e) l
       (λ v i. clash i refl) (λ v i. clash i refl)
@@ -197,19 +205,19 @@ module _ (n k x y : ℕ) (known : isType k ≡ true) (hx : x < n) (hy : Other n 
 
 pub record WellFormedEffect (n x now : ℕ) (e : Effect) : Type 0 where
   pub own-well : WellFormedOwn n x now (e .own)
-  pub sent-well : Each (WellFormedMessage n) (e .sent)
+  pub sent-well : Each (WellSent n x) (e .sent)
 
 -- a message for each member
-each-sent : (n : ℕ) (S : Set) (make : ℕ → Message) → ((y : ℕ) → S y ≡ true → WellFormedMessage n (make y)) → Each (WellFormedMessage n) (map make (members n S))
+each-sent : (n : ℕ) {x : ℕ} (S : Set) (make : ℕ → Message) → ((y : ℕ) → S y ≡ true → WellSent n x (make y)) → Each (WellSent n x) (map make (members n S))
 each-sent n S make f = each-map make (λ y m. f y (m .within)) (members-are n S)
 
 -- a message that uses nothing, to each of the held
 held-sent : (n me now : ℕ) (o : Own) → me < n → WellFormedOwn n me now o → (k : ℕ) → isType k ≡ true → usesOf k ≡ nothingUsed
-    → Each (WellFormedMessage n) (map (plain k me) (members n (o .held)))
+    → Each (WellSent n me) (map (plain k me) (members n (o .held)))
 held-sent n me now o low g k p u = each-sent n (o .held) (plain k me) (λ y e. plain-well n k me y p low (g .held-other y e) u)
 
 pub leaving-well : (t : Table) (me now : ℕ) (o : Own) → me < size t → WellFormedOwn (size t) me now o
-    → Each (WellFormedMessage (size t)) (leaving t me now o .sent)
+    → Each (WellSent (size t) me) (leaving t me now o .sent)
 unfolding leaving usedByType
 leaving-well t me now o low g = held-sent (size t) me now o low g leave refl refl
 
@@ -311,7 +319,7 @@ module _ (t : Table) (gt : WellFormedTable t) (now : ℕ) (positive : 0 < now) (
     quiet-well = nothing-well (m .receiver) low g
 
     -- an answer to the sender that uses nothing
-    answer-well : (k : ℕ) → isType k ≡ true → usesOf k ≡ nothingUsed → Each (WellFormedMessage (size t)) (plain k me a ∷ [])
+    answer-well : (k : ℕ) → isType k ≡ true → usesOf k ≡ nothingUsed → Each (WellSent (size t) me) (plain k me a ∷ [])
     answer-well k p u = cons (plain-well (size t) k me a p low from u) nil
 
     on-ping-contact-well : Good (onPingContact t me now o m)

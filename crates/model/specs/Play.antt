@@ -5,9 +5,10 @@ use mathlib.Core.List.{List, [], _∷_, _++_}
 use lib.ListN.{length, take, drop}
 use lib.Dec.{ltb, eqb}
 use Rattle.model.specs.Choice.{if_then_else_}
-use Rattle.model.specs.Sets.{put}
+use Rattle.model.specs.Sets.{noneNode, put}
 use Rattle.model.specs.Leafset.{size}
 use Rattle.model.specs.Ring.{Own, Node, Message, Ring, cleared, isRunning, messageAt}
+use Rattle.model.specs.Words.{sendersFit}
 use Rattle.model.specs.Steps.{Effect, leaving, contact, notice, timer, deliver}
 use Rattle.model.specs.Answers.{Refusal, firstOf, isAccepted}
 use Rattle.model.specs.Events.{eventOf, wordRefusals}
@@ -70,6 +71,16 @@ after r (Timer x k) = act (x .0) (λ now o. timer (r .table) (x .0) now o k) r
 after r (Deliver i echo) = receive (messageAt r i) (arrived i echo r)
 after r (Lose i) = removeMessage i r
 
+-- "the acting or answering stand"; 64 where a message is lost
+abbrev pub actor : Ring → Event → ℕ
+actor r (On x) = x .0
+actor r (Off x polite) = x .0
+actor r (Notice x z) = x .0
+actor r (Contact x y) = x .0
+actor r (Timer x k) = x .0
+actor r (Deliver i echo) = messageAt r i .receiver
+actor r (Lose i) = noneNode
+
 -- ---- "Refusals from the state"
 
 module _ (r : Ring) where
@@ -102,9 +113,13 @@ module _ (r : Ring) where
   refusals (Deliver i echo) = noMessage i ∷ clockSpent (isRunning r (messageAt r i .receiver)) (messageAt r i .receiver) ∷ []
   refusals (Lose i) = noMessage i ∷ []
 
--- those of the ring that an event would leave: "11. More than 1,024 messages would be left."
+-- those of the ring that an event would leave: "11. More than 1,024 messages would be left."; "An event that would pass 256 for a
+-- sender is refused after 11", with 17
 abbrev pub leftRefusals : Ring → List Refusal
-leftRefusals r = record { number = 11; applies = ltb 1024 (length (r .messages)) } ∷ []
+leftRefusals r =
+    record { number = 11; applies = ltb 1024 (length (r .messages)) }
+    ∷ record { number = 17; applies = not (sendersFit r) }
+    ∷ []
 
 abbrev pub stateRefusals : Ring → Event → List Refusal
 stateRefusals r e = refusals r e ++ leftRefusals (after r e)

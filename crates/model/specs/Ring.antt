@@ -1,8 +1,10 @@
 -- The state: each node's own record, the messages in flight (document 01: travelling), and the initial ring.
-use Prim.Native.Nat.{ℕ}
+use Prim.Native.Nat.{ℕ, _+_}
 use mathlib.Core.Bool.{Bool, false}
-use mathlib.Core.List.{List, []}
+use mathlib.Core.List.{List, [], _∷_}
 use lib.ListN.{getD}
+use lib.Dec.{eqb}
+use Rattle.model.specs.Choice.{if_then_else_}
 use Rattle.model.specs.Sets.{Set, empty, noneNode}
 use Rattle.model.specs.Leafset.{Table}
 
@@ -50,6 +52,11 @@ initial t = record { table = t; node = λ x. fresh; messages = [] }
 -- the message at a position, "oldest 0"
 abbrev pub messageAt : Ring → ℕ → Message
 messageAt r i = getD (r .messages) i blank
+
+-- how many of the messages x has sent
+unfoldable pub sentBy : ℕ → List Message → ℕ
+sentBy x [] = 0
+sentBy x (m ∷ ms) = (if eqb (m .sender) x then 1 else 0) + sentBy x ms
 
 -- the nodes that x holds
 abbrev pub holds : Ring → ℕ → Set

@@ -6,7 +6,7 @@ use mathlib.Core.Bool.{true, false}
 use mathlib.Core.List.{List, [], _∷_}
 use lib.ListN.{length}
 use Rattle.model.specs.Leafset.{Table, size, key}
-use Rattle.model.specs.Ring.{Own, Node, Message, Ring}
+use Rattle.model.specs.Ring.{Own, Node, Message, Ring, sentBy}
 use Rattle.model.specs.Types.{usesView, usesSubject, namesSpare, usesStamp}
 use Rattle.model.specs.Words.{isType, keysDiffer}
 use Rattle.model.specs.declared.values.Sides.{Sides}
@@ -81,3 +81,4 @@ pub record WellFormed (r : Ring) : Type 0 where
   pub node-well : (x : ℕ) → WellFormedNode (size (r .table)) x (r .node x)
   pub messages-well : Each (WellFormedMessage (size (r .table))) (r .messages)
   pub count-high : length (r .messages) ≤ 1024
+  pub senders-few : (x : ℕ) → x < size (r .table) → sentBy x (r .messages) ≤ 256

@@ -7,7 +7,7 @@ use lib.Dec.{ltb, leb, eqb}
 use Rattle.model.specs.Choice.{if_then_else_, _⇒_, every}
 use Rattle.model.specs.Sets.{tabulate, all, toBits, ofBits, noneNode}
 use Rattle.model.specs.Leafset.{Table, size, key}
-use Rattle.model.specs.Ring.{Own, Node, Message, Ring, messageAt}
+use Rattle.model.specs.Ring.{Own, Node, Message, Ring, messageAt, sentBy}
 use Rattle.model.specs.Fields.{bits, bit, flag, ofKind}
 use Rattle.model.specs.Types.{types, usesView, usesSubject, namesSpare, usesStamp}
 use Rattle.model.specs.declared.values.Sides.{Sides}
@@ -226,6 +226,10 @@ messageTests t m =
 unfoldable pub messageFits : Table → Message → Bool
 messageFits t m = every (messageTests t m)
 
+-- "No sender may have more than 256 messages travelling."
+unfoldable pub sendersFit : Ring → Bool
+sendersFit r = all (size (r .table)) (λ x. leb (sentBy x (r .messages)) 256)
+
 -- The test sees what the words can say. It does not see nodes and pairs beyond the table, nor numbers too big for their bits:
 -- `decode` gives none of these. Of rings that come from elsewhere, `WellFormed` says it.
 unfoldable pub ringFits : Ring → Bool
@@ -236,6 +240,7 @@ ringFits r =
     ∷ leb (length (r .messages)) 1024
     ∷ all (size (r .table)) (λ x. nodeFits (r .table) (r .node x) x)
     ∷ all (length (r .messages)) (λ k. messageFits (r .table) (messageAt r k))
+    ∷ sendersFit r
     ∷ [])
 
 -- each word is the one that its named bits give: so its kind fits, "unnamed bits are 0", "A word belonging to no stand, pair or

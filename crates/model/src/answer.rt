@@ -18,4 +18,5 @@ pub enum Answer {
     SidesDiffer,
     TablesClash,
     TooManyMessages,
+    SenderFull,
 }
