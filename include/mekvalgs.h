@@ -51,7 +51,8 @@ enum mekvalgs_answer {
     MEKVALGS_LIST_TOO_SHORT = 13,      /* route: the list has fewer than 64 places */
     MEKVALGS_SIDES_DIFFER = 14,        /* join: the two rings differ in A or B */
     MEKVALGS_TABLES_CLASH = 15,        /* join: more than 64 nodes, or a key that both have */
-    MEKVALGS_TOO_MANY_MESSAGES = 16    /* join: more than 1,024 messages */
+    MEKVALGS_TOO_MANY_MESSAGES = 16,   /* join: more than 1,024 messages */
+    MEKVALGS_SENDER_FULL = 17          /* more than 256 messages of the acting or answering node would be left */
 };
 
 /* The kinds of event words. */
@@ -91,13 +92,13 @@ enum mekvalgs_type {
 uint32_t mekvalgs_open(uint32_t *words, uint64_t length, uint32_t clockwise, uint32_t counter_clockwise,
                        const uint32_t *keys, uint64_t n);
 
-/* Plays an event word on the ring. Answers 0, 1, 4 to 11. */
+/* Plays an event word on the ring. Answers 0, 1, 4 to 11, 17. */
 uint32_t mekvalgs_play(uint32_t *words, uint64_t length, uint32_t word);
 
 /* Shows what mekvalgs_play would answer and leave: preview becomes the words after it, and nothing of the ring is
  * written. The two buffers do not overlap; what preview holds before does not matter.
- * Answers 0, 1 (either buffer), 4 to 11. Where accepted, preview reads as a ring afterwards, so that calls can go on
- * from it; where refused, it stays whole. */
+ * Answers 0, 1 (either buffer), 4 to 11, 17. Where accepted, preview reads as a ring afterwards, so that calls can go
+ * on from it; where refused, it stays whole. */
 uint32_t mekvalgs_preview(const uint32_t *words, uint64_t length, uint32_t word, uint32_t *preview,
                           uint64_t preview_length);
 
@@ -254,8 +255,8 @@ uint32_t mekvalgs_write_event(uint32_t kind, uint32_t first, uint32_t second, ui
  * new messages and takes them out with lose. A message that comes for it is put at the end: its five words at
  * MEKVALGS_AT_MESSAGE(m), and 1 << 11 added to word 0, where m is below 1,024. Then it plays deliver at position m. An
  * event at a node reads and writes no other node's record: if the radio changes no message and nothing is refused with
- * 11, each stand's node has the words that it would have in one ring for all. But each promise is about one buffer.
- * None is made about several together, and a question about connection sees one alone.
+ * 11 or 17, each stand's node has the words that it would have in one ring for all. But each promise is about one
+ * buffer. None is made about several together, and a question about connection sees one alone.
  *
  * Of words that were written by hand just this holds. The next play or question reads them all. If they do not read as
  * a ring it answers 6, or a lower number that applies, and changes nothing, until they are mended or a ring is opened

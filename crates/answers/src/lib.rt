@@ -26,6 +26,7 @@ pub fn number(answer: Answer) -> u32
         Answer::SidesDiffer => 14,
         Answer::TablesClash => 15,
         Answer::TooManyMessages => 16,
+        Answer::SenderFull => 17,
     }
 }
 

@@ -4,7 +4,8 @@ use mathlib.Core.Bool.{Bool, true, false}
 use mathlib.Core.List.{List, [], _∷_}
 use Prim.Native.Nat.{ℕ}
 use Rattle.model.specs.Sets
-use Rattle.model.specs.Ring.{Message}
+use Rattle.model.specs.Ring.{Message, sentBy}
+use Rattle.model.specs.Words.{sendersFit}
 use Rattle.model.specs.Steps
 use Rattle.model.specs.Answers
 use Rattle.model.specs.Events
@@ -14,7 +15,10 @@ use Rattle.audit_account.proofs.ExampleRing.{ring, from-0, request, ack
 
 -- `unfolding computed` opens every definition, for what is shown by computing
 unfoldable computed : Unit {0}
-unfolding ring from-0 request acknowledgement left Sets.all Sets.some Sets.count Sets.members Sets.tabulateFrom Steps.hold Steps.contact Steps.notice Steps.forget Steps.release Steps.leaving Steps.onPingContact Steps.onPongContact Steps.onLeave Steps.deliver Answers.firstOf Events.eventOf Play.removeMessage Play.act Play.after Play.playAnswer Play.playWord Points.acknowledgements Points.lateLeaves Points.isPoint Points.isUncoveredWord
+unfolding ring from-0 request acknowledgement left Sets.all Sets.some Sets.count Sets.members Sets.tabulateFrom sentBy sendersFit Steps.hold
+    Steps.contact Steps.notice Steps.forget Steps.release Steps.leaving Steps.onPingContact Steps.onPongContact Steps.onLeave Steps.deliver
+    Answers.firstOf Events.eventOf Play.removeMessage Play.act Play.after Play.playAnswer Play.playWord Points.acknowledgements Points.lateLeaves
+    Points.isPoint Points.isUncoveredWord
 computed = tt
 
 unfoldable pub isPointWith : List Message → Bool

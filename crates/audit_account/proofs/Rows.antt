@@ -30,9 +30,9 @@ use Rattle.audit_account.proofs.ExampleRing.{ring, from-0, from-1, from
 unfoldable computed : Unit {0}
 unfolding ring from-0 from-1 from-1-all request acknowledgement left Decimal.decimalIn Decimal.decimal Decimal.spaced
     Describe.eventText Describe.rawText Describe.wordText Describe.hexBytes Sets.all Sets.some Sets.count Sets.members
-    Sets.tabulateFrom Ring.initial Words.headWord Words.keyWord Words.inRange Words.keysDiffer Bench.littleEndian
-    Bench.scriptTable Bench.scriptAnswer Steps.hold Steps.contact Steps.notice Steps.forget Steps.release
-    Steps.leaving Steps.onPingContact Steps.onPongContact Steps.onLeave Steps.deliver Answers.firstOf Events.eventOf
+    Sets.tabulateFrom Ring.initial Ring.sentBy Words.headWord Words.keyWord Words.inRange Words.keysDiffer
+    Words.sendersFit Bench.littleEndian Bench.scriptTable Bench.scriptAnswer Steps.hold Steps.contact Steps.notice
+    Steps.forget Steps.release Steps.leaving Steps.onPingContact Steps.onPongContact Steps.onLeave Steps.deliver Answers.firstOf Events.eventOf
     Play.removeMessage Play.act Play.after Play.playAnswer Play.playWord Connection.reached Connection.connected
     Connection.groups Points.acknowledgements Points.lateLeaves Points.isPoint Points.isUncoveredWord Partings.torn
     Partings.parts Partings.side Partings.isFirst Partings.sidesText Accounts.opened Accounts.noted Accounts.counted

@@ -124,7 +124,7 @@ played s w =
 
 -- ---- what is printed
 
--- an answer in words
+-- an answer in words; 12 to 16 are no event's
 abbrev pub answerTexts : List (List ℕ)
 answerTexts =
     ascii "accepted"
@@ -139,6 +139,12 @@ answerTexts =
     ∷ ascii "refused, 9: the node runs already"
     ∷ ascii "refused, 10: the clock is spent"
     ∷ ascii "refused, 11: more than 1,024 messages would be in flight"
+    ∷ []
+    ∷ []
+    ∷ []
+    ∷ []
+    ∷ []
+    ∷ ascii "refused, 17: a sender would have more than 256 in flight"
     ∷ []
 
 unfoldable pub answerText : ℕ → List ℕ

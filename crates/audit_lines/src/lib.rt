@@ -75,6 +75,13 @@ fn put_answer(out: &mut [u8], at: usize, answer: Answer) -> usize
         Answer::SidesDiffer => at,
         Answer::TablesClash => at,
         Answer::TooManyMessages => at,
+        Answer::SenderFull => {
+            put_bytes(
+                out,
+                at,
+                b"refused, 17: a sender would have more than 256 in flight",
+            )
+        }
     }
 }
 

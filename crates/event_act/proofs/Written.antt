@@ -4,14 +4,11 @@ use mathlib.Core.Path.{_≡_, refl, sym, ap, subst, _∙_}
 use mathlib.Core.List.{List, _++_, append-assoc}
 use Prim.Native.Nat.{ℕ, _+_, _-_, _≤_, _<_}
 use native.Mathlib.Omega.{arith}
-use borrow.Author.Tests.{lt-ltb, le-ltb}
 use lib.ListN.{length, length-append, length-take, length-drop}
 use Rattle.model.specs.Ring.{Own, Node, Message, Ring}
-use Rattle.model.specs.Answers.{firstOf}
 use Rattle.model.specs.Words.{decode}
-use Rattle.model.specs.Play.{setMessages, removeMessage, leftRefusals}
+use Rattle.model.specs.Play.{setMessages, removeMessage}
 use Rattle.model.specs.Structs.{ownOf}
-use Rattle.model.specs.declared.node.NodeRecord.{NodeRecord}
 use Rattle.ring_head.specs.Parts.{Encodes}
 use Rattle.records.specs.Effects.{sendsOf}
 use Rattle.event_act.specs.Changes.{takenLow, takenOut, nodeChanged, changed, Writable}
@@ -45,6 +42,22 @@ node-messages Stays x time o ρ = refl
 node-messages Starts x time o ρ = refl
 node-messages Stops x time o ρ = refl
 node-messages Acts x time o ρ = refl
+
+-- neither touches the table
+taken-table : (t : Taken) (ρ : Ring) → takenOut t ρ .table ≡ ρ .table
+unfolding removeMessage
+taken-table Nothing ρ = refl
+taken-table (Taking k) ρ = refl
+
+node-table : (b : Becomes) (x time : ℕ) (o : Own) (ρ : Ring) → nodeChanged b x time o ρ .table ≡ ρ .table
+node-table Stays x time o ρ = refl
+node-table Starts x time o ρ = refl
+node-table Stops x time o ρ = refl
+node-table Acts x time o ρ = refl
+
+pub changed-table : (c : Change) (ρ : Ring) → changed c ρ .table ≡ ρ .table
+changed-table c ρ =
+    node-table (c .becomes) (c .node .0) (c .time .0) (ownOf (c .effect .own)) (takenOut (c .taken) ρ) ∙ taken-table (c .taken) ρ
 
 module _ (ws : List ℕ) (c : Change) (w : Writable ws c) where
   abbrev out : Ring
@@ -88,22 +101,3 @@ module _ (ws : List ℕ) (c : Change) (w : Writable ws c) where
 
   pub whole : setMessages ((node .messages ++ first) ++ second) node ≡ changed c (decode ws)
   whole = ap (λ (ms : List Message). setMessages ms node) (append-assoc (node .messages) first second ∙ ap (λ (ms : List Message). ms ++ (first ++ second)) kept)
-
--- ---- deciding: how many messages a change leaves, as the code counts them
-
-pub left-count : (c : Change) (ρ : Ring) {out first second : ℕ} → out ≡ length (takenOut (c .taken) ρ .messages)
-    → ((me time : ℕ) (own : NodeRecord) → first ≡ length (sendsOf me time own (c .effect .first)))
-    → ((me time : ℕ) (own : NodeRecord) → second ≡ length (sendsOf me time own (c .effect .second)))
-    → length (changed c ρ .messages) ≡ out + (first + second)
-left-count c ρ o f s =
-    let a = f (c .node .0) (c .time .0) (c .effect .own) in
-    let b = s (c .node .0) (c .time .0) (c .effect .own) in
-    simp length-append (omega (arith, o, a, b))
-
-pub too-many : (ρ : Ring) → 1024 < length (ρ .messages) → firstOf (leftRefusals ρ) ≡ 11
-unfolding firstOf
-too-many ρ h = rw (lt-ltb 1024 (length (ρ .messages)) h)
-
-pub not-too-many : (ρ : Ring) → length (ρ .messages) ≤ 1024 → firstOf (leftRefusals ρ) ≡ 0
-unfolding firstOf
-not-too-many ρ h = rw (le-ltb 1024 (length (ρ .messages)) h)

@@ -1,11 +1,12 @@
 -- What a change does to a ring, and what a decision is.
 use mathlib.Core.Path.{_≡_}
-use mathlib.Core.Bool.{true}
+use mathlib.Core.Bool.{Bool, true, false}
 use mathlib.Core.List.{List, [], _++_}
 use Prim.Native.Nat.{ℕ, _+_, _^_, _<_, _≤_}
 use lib.ListN.{length}
 use Rattle.model.specs.Leafset.{size}
-use Rattle.model.specs.Ring.{Own, Ring}
+use Rattle.model.specs.Ring.{Own, Message as InFlight, Ring, messageAt, sentBy}
+use Rattle.model.specs.WellFormed.{Each}
 use Rattle.model.specs.Answers.{firstOf, numberOf}
 use Rattle.model.specs.Words.{decodeTable, decode, readsAsRing}
 use Rattle.model.specs.Play.{setMessages, removeMessage, started, stopped, after, leftRefusals, stateRefusals}
@@ -31,17 +32,41 @@ abbrev pub takenOut : Taken → Ring → Ring
 takenOut Nothing ρ = ρ
 takenOut (Message k) ρ = removeMessage k ρ
 
+-- the message that is taken out is none of x's
+abbrev pub takenOther : Ring → Taken → ℕ → Type 0
+takenOther ρ Nothing x = Unit
+takenOther ρ (Message k) x = messageAt ρ k .sender ≡ x → ⊥
+
 abbrev pub nodeChanged : Becomes → ℕ → ℕ → Own → Ring → Ring
 nodeChanged Stays x time o ρ = ρ
 nodeChanged Starts x time o ρ = update x started ρ
 nodeChanged Stops x time o ρ = update x stopped ρ
 nodeChanged Acts x time o ρ = update x (stepped time o) ρ
 
--- the ring that a change leaves
+-- what a change sends, and the ring that it leaves
+abbrev pub sentOf : Change → List InFlight
+sentOf c = effectOf (c .node .0) (c .time .0) (c .effect) .sent
+
 abbrev pub changed : Change → Ring → Ring
 changed c ρ =
-    setMessages (takenOut (c .taken) ρ .messages ++ effectOf (c .node .0) (c .time .0) (c .effect) .sent)
+    setMessages (takenOut (c .taken) ρ .messages ++ sentOf c)
     (nodeChanged (c .becomes) (c .node .0) (c .time .0) (ownOf (c .effect .own)) (takenOut (c .taken) ρ))
+
+-- a change of words that read as a ring of m messages, as far as messages are counted: what it sends its node sends, and takes none of its
+-- own out before that
+pub record Counts (ws : List ℕ) (m : ℕ) (c : Change) : Type 0 where
+  pub reads : readsAsRing ws ≡ true
+  pub count : m ≡ length (decode ws .messages)
+  pub taken-low : takenLow m (c .taken)
+  pub member : c .node .0 < size (decodeTable ws)
+  pub by-node : Each (λ s. s .sender ≡ c .node .0) (sentOf c)
+  pub taken-other : 0 < length (sentOf c) → takenOther (decode ws) (c .taken) (c .node .0)
+
+-- whether x would have too many of `all` messages, those that it sent of ms and `sent` more: where none is sent, and where all are few, it
+-- need not be known
+pub record Full (ms : List InFlight) (x sent all : ℕ) (full : Bool) : Type 0 where
+  pub over : full ≡ true → 256 < sentBy x ms + sent
+  pub within : full ≡ false → 0 < sent → 256 < all → sentBy x ms + sent ≤ 256
 
 -- a change of words that read as a ring, but for the number of messages that it leaves
 pub record Changes (ws : List ℕ) (c : Change) : Type 0 where
@@ -58,7 +83,7 @@ pub record Writable (ws : List ℕ) (c : Change) : Type 0 where
   pub fits : Changes ws c
   pub few : length (changed c (decode ws) .messages) ≤ 1024
 
--- d is the change c of the ring ρ, unless too many messages would be left
+-- d is the change c of the ring ρ, unless too many messages would be left, of all or of a sender
 pub record Decided (ρ : Ring) (c : Change) (d : Decision) : Type 0 where
   pub answer : numberOf (d .answer) ≡ firstOf (leftRefusals (changed c ρ))
   pub change : numberOf (d .answer) ≡ 0 → d .change ≡ c

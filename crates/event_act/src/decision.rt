@@ -1,10 +1,13 @@
 // What an event would do, decided before anything is written.
+ghost use mathlib.Core.Bool.{true};
 ghost use mathlib.Core.Path.{_≡_};
-ghost use Prim.Native.Nat.{_≤_};
+ghost use Prim.Native.Nat.{_≤_, _<_};
 ghost use lib.ListN.{length};
+ghost use Rattle.model.specs.Leafset.{size};
 ghost use Rattle.model.specs.Ring.{Ring};
+ghost use Rattle.model.specs.Words.{decodeTable, decode, readsAsRing};
 ghost use Rattle.event_act.specs.declared.decision.Becomes.the-variants.{Acts};
-ghost use Rattle.event_act.specs.Changes.{takenLow, takenOut, Decided, Silent};
+ghost use Rattle.event_act.specs.Changes.{takenLow, takenOut, Counts, Full, Decided, Silent};
 use model::answer::Answer;
 use model::values::NodeNumber;
 use model::values::Stamp;
@@ -70,19 +73,44 @@ fn left(m: usize, taken: Taken) -> usize
     }
 }
 
-// The change, on a ring of m messages, unless too many would be left: 11.
-pub fn decided(m: usize, change: Change) -> Decision
-    requires bounds { ⌜ m ≤ 1024 ⌝ }
-    requires taken { ⌜ takenLow m (change .taken) ⌝ }
-    ensures decided { λ r. ⌜ ((ρ : Ring) → length (ρ .messages) ≡ m → Decided ρ change r) ⌝ }
+// Whether node x, which sends `sent` messages beside the m, would have too many of the `all` that there are then. They
+// are counted only where that can be.
+fn sender_full(words: &[u32], m: usize, x: NodeNumber, sent: usize, all: usize) -> bool
+    requires ring { ⌜ (readsAsRing (now words) ≡ true) × (m ≡ length (decode (now words) .messages)) ⌝ }
+    requires bounds { ⌜ sent ≤ 128 ⌝ }
+    ensures full { λ r. ⌜ Full (decode (now (words .entry)) .messages) (x .0) sent all r ⌝ }
+{
+    if sent == 0 {
+        return false;
+    }
+    if all <= limit::SENDER {
+        return false;
+    }
+    limit::SENDER < ring_messages::sent_by(words, m, x) + sent
+}
+
+// The change, on words of m messages, unless too many would be left, of all or of the node: 11 and 17.
+pub fn decided(words: &[u32], m: usize, change: Change) -> Decision
+    requires counts { ⌜ Counts (now words) m change ⌝ }
+    ensures decided { λ r. ⌜ Decided (decode (now (words .entry))) change r ⌝ }
 {
     let effect = change.effect;
     let first = effect.first;
     let second = effect.second;
     let taken = change.taken;
     let sent = records::effect::count(first) + records::effect::count(second);
-    if limit::MESSAGES < left(m, taken) + sent {
-        return Decision::refused(Answer::PoolFull);
+    let all = left(m, taken) + sent;
+    if limit::MESSAGES < all {
+        return Decision {
+            answer: Answer::PoolFull,
+            change,
+        };
+    }
+    if sender_full(words, m, change.node, sent, all) {
+        return Decision {
+            answer: Answer::SenderFull,
+            change,
+        };
     }
     Decision {
         answer: Answer::Accepted,
@@ -91,13 +119,21 @@ pub fn decided(m: usize, change: Change) -> Decision
 }
 
 // Node x acts at `time` with the effect of its step.
-pub fn acting(m: usize, taken: Taken, x: NodeNumber, time: Stamp, effect: EffectRecord) -> Decision
-    requires bounds { ⌜ m ≤ 1024 ⌝ }
-    requires taken { ⌜ takenLow m taken ⌝ }
-    ensures decided { λ r. ⌜ ((ρ : Ring) → length (ρ .messages) ≡ m → Decided ρ
-        (record { taken = taken; node = x; becomes = Acts; time = time; effect = effect }) r) ⌝ }
+pub fn acting(
+    words: &[u32],
+    m: usize,
+    taken: Taken,
+    x: NodeNumber,
+    time: Stamp,
+    effect: EffectRecord,
+) -> Decision
+    requires counts { ⌜ Counts (now words) m
+        (record { taken = taken; node = x; becomes = Acts; time = time; effect = effect }) ⌝ }
+    ensures decided { λ r. ⌜ Decided (decode (now (words .entry)))
+        (record { taken = taken; node = x; becomes = Acts; time = time; effect = effect }) r ⌝ }
 {
     decided(
+        words,
         m,
         Change {
             taken,
@@ -110,13 +146,21 @@ pub fn acting(m: usize, taken: Taken, x: NodeNumber, time: Stamp, effect: Effect
 }
 
 // The node x becomes what it is to be and sends nothing, after a message is taken out or none.
-pub fn silent(m: usize, taken: Taken, x: NodeNumber, becomes: Becomes, time: Stamp) -> Decision
-    requires bounds { ⌜ m ≤ 1024 ⌝ }
-    requires taken { ⌜ takenLow m taken ⌝ }
-    ensures decided { λ r. ⌜ ((ρ : Ring) → length (ρ .messages) ≡ m → Silent ρ taken x becomes time r) ⌝ }
+pub fn silent(
+    words: &[u32],
+    m: usize,
+    taken: Taken,
+    x: NodeNumber,
+    becomes: Becomes,
+    time: Stamp,
+) -> Decision
+    requires ring { ⌜ (readsAsRing (now words) ≡ true) × (m ≡ length (decode (now words) .messages)) ⌝ }
+    requires change { ⌜ takenLow m taken × (x .0 < size (decodeTable (now words))) ⌝ }
+    ensures decided { λ r. ⌜ Silent (decode (now (words .entry))) taken x becomes time r ⌝ }
 {
     let effect = EffectRecord::quiet(own::empty());
     decided(
+        words,
         m,
         Change {
             taken,

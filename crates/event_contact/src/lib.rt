@@ -33,7 +33,7 @@ pub fn contact(words: &[u32], x: NodeNumber, y: NodeNumber) -> Decision
     }
     let a = event_act::load(words, x);
     let effect = step_contact::contact(x, a.own, y);
-    decision::acting(a.m, Taken::Nothing, x, a.time, effect)
+    decision::acting(words, a.m, Taken::Nothing, x, a.time, effect)
 }
 
 pub fn notice(words: &[u32], x: NodeNumber, z: NodeNumber) -> Decision
@@ -46,5 +46,5 @@ pub fn notice(words: &[u32], x: NodeNumber, z: NodeNumber) -> Decision
     }
     let a = event_act::load(words, x);
     let effect = step_contact::notice(a.own, z);
-    decision::acting(a.m, Taken::Nothing, x, a.time, effect)
+    decision::acting(words, a.m, Taken::Nothing, x, a.time, effect)
 }

@@ -22,7 +22,7 @@ use Rattle.answers.proofs.Valid.{few, message-well}
 use Rattle.model.proofs.Answers.{next, no-more}
 use Rattle.answers.proofs.Refusals.{in-table, on as runs, a-message}
 use Rattle.event_act.specs.Acting.{mayAct}
-use Rattle.event_act.specs.Changes.{takenLow, takenOut}
+use Rattle.event_act.specs.Changes.{takenLow, takenOther, takenOut}
 use Rattle.event_act.specs.declared.decision.Taken.{Taken}
 use Rattle.event_message.specs.Arrivals.{takenBy}
 
@@ -45,6 +45,9 @@ module _ {ws : List ℕ} {k : ℕ} {q : MessageRecord} (loaded : LoadedMessage w
   module _ (reads : readsAsRing ws ≡ true) where
     pub loaded-well : WellFormedMessage (size (decodeTable ws)) (messageOf q)
     loaded-well = subst (WellFormedMessage (size (decodeTable ws))) (sym is-message) (message-well ws reads k low)
+
+    pub other-sender : messageAt (decode ws) k .sender ≡ q .receiver .0 → ⊥
+    other-sender e = loaded-well .ends-differ (ap (λ (m : Message). m .sender) is-message ∙ e)
 
     pub loaded-delivered : {n : ℕ} → n ≡ size (decodeTable ws) → Delivered n q
     loaded-delivered e = rw e (delivered q (few ws reads) loaded-well)
@@ -76,6 +79,13 @@ module _ (k : ℕ) (echo : Bool) {t : Taken} (e : t ≡ takenBy k echo) where
       by-echo : (b : Bool) → takenLow m (takenBy k b)
       by-echo true = tt
       by-echo false = h
+
+  pub taken-other : (ρ : Ring) {x : ℕ} → (messageAt ρ k .sender ≡ x → ⊥) → takenOther ρ t x
+  taken-other ρ {x} d = subst (λ (q : Taken). takenOther ρ q x) (sym e) (by-echo echo)
+    where
+      by-echo : (b : Bool) → takenOther ρ (takenBy k b) x
+      by-echo true = tt
+      by-echo false = d
 
   arrives : (ρ : Ring) → takenOut t ρ ≡ arrived k echo ρ
   arrives ρ = ap (λ (q : Taken). takenOut q ρ) e ∙ by-echo echo

@@ -33,7 +33,7 @@ pub fn deliver(words: &[u32], position: u16, echo: bool) -> Decision
     let message = ring_messages::load(words, k);
     let y = message.receiver;
     if !ring_nodes::is_running(words, y) {
-        return decision::silent(m, taken(k, echo), y, Becomes::Stays, Stamp(0));
+        return decision::silent(words, m, taken(k, echo), y, Becomes::Stays, Stamp(0));
     }
     let answer = event_act::may_act(words, y);
     if answers::is_refusal(answer) {
@@ -41,7 +41,7 @@ pub fn deliver(words: &[u32], position: u16, echo: bool) -> Decision
     }
     let actor = event_act::load(words, y);
     let effect = step(words, actor, message);
-    decision::acting(m, taken(k, echo), y, actor.time, effect)
+    decision::acting(words, m, taken(k, echo), y, actor.time, effect)
 }
 
 // The message at k is taken out, unless it is echoed.
@@ -85,6 +85,7 @@ pub fn lose(words: &[u32], position: u16) -> Decision
         return Decision::refused(Answer::OutOfTable);
     }
     decision::silent(
+        words,
         m,
         Taken::Message(k),
         NodeNumber(0),

@@ -29,7 +29,14 @@ pub fn on(words: &[u32], x: NodeNumber) -> Decision
         return Decision::refused(Answer::ClockSpent);
     }
     let m = ring_head::messages(words);
-    decision::silent(m, Taken::Nothing, x, Becomes::Starts, Stamp(clock + 1))
+    decision::silent(
+        words,
+        m,
+        Taken::Nothing,
+        x,
+        Becomes::Starts,
+        Stamp(clock + 1),
+    )
 }
 
 // Polite, it first sends type 13 to each held node.
@@ -46,11 +53,12 @@ pub fn off(words: &[u32], x: NodeNumber, polite: bool) -> Decision
     }
     let m = ring_head::messages(words);
     if !polite {
-        return decision::silent(m, Taken::Nothing, x, Becomes::Stops, Stamp(0));
+        return decision::silent(words, m, Taken::Nothing, x, Becomes::Stops, Stamp(0));
     }
     let own = ring_pairs::load(words, n, x);
     let effect = step_leave::leaving(own);
     decision::decided(
+        words,
         m,
         Change {
             taken: Taken::Nothing,

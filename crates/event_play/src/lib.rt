@@ -11,7 +11,7 @@ use model::answer::Answer;
 use model::event::Event;
 use model::event::Reading;
 
-// What the event would do: 7 to 11, or the change that it makes.
+// What the event would do: 7 to 11 and 17, or the change that it makes.
 pub fn decide(words: &[u32], e: Event) -> Decision
     requires ring { ⌜ readsAsRing (now words) ≡ true ⌝ }
     ensures decides { λ r. ⌜ Decides (now (words .entry)) e r ⌝ }

@@ -26,7 +26,7 @@ pub fn timer(words: &[u32], x: NodeNumber, k: u8) -> Decision
     }
     let actor = event_act::load(words, x);
     let effect = step(words, x, k, actor);
-    decision::acting(actor.m, Taken::Nothing, x, actor.time, effect)
+    decision::acting(words, actor.m, Taken::Nothing, x, actor.time, effect)
 }
 
 // The step of timer k, by the node x.

@@ -1,12 +1,12 @@
-// The messages in flight: loaded, removed, appended; one to each node of a set.
+// The messages in flight: loaded, counted, removed, appended; one to each node of a set.
 ghost use mathlib.Core.Path.{_≡_};
 ghost use mathlib.Core.List.{[], _∷_, _++_, map};
 ghost use mathlib.Core.Bool.{true};
 ghost use Prim.Native.Nat.{_+_, _*_, _^_, _<_, ℕ, _-_, _≤_};
 ghost use lib.ListN.{length, getD, set};
 ghost use Rattle.model.specs.Fields.{bits};
-ghost use Rattle.model.specs.Words.{ringLength, sidesOf, headWord, viewWord};
-ghost use Rattle.model.specs.Ring.{Ring};
+ghost use Rattle.model.specs.Words.{ringLength, sidesOf, headWord, viewWord, decode};
+ghost use Rattle.model.specs.Ring.{Ring, sentBy};
 ghost use Rattle.model.specs.Play.{setMessages, removeMessage};
 ghost use Rattle.model.specs.Structs.{messageOf, RoomMessage, spareAt, RoomNode};
 ghost use Rattle.model.specs.Sets.{ofBits, count, members};
@@ -26,6 +26,7 @@ use word_ring::HeadWord;
 use word_ring::MessageWord;
 use word_ring::StampWord;
 use word_ring::ViewWord;
+use word_ring::mark;
 use word_ring::place;
 
 // Message m - 1 stands at this and 5 times m.
@@ -58,6 +59,20 @@ fn view_of(low: u32, middle: u32, high: u32) -> u64
     (ViewWord(low).part() as u64)
         + 0x100_0000 * (ViewWord(middle).part() as u64)
         + 0x1_0000_0000_0000 * ((ViewWord(high).part() % 0x1_0000) as u64)
+}
+
+// How many of the m messages x has sent.
+pub fn sent_by(words: &[u32], m: usize, x: NodeNumber) -> usize
+    requires words { ⌜ (length (now words) ≡ ringLength) × (m ≤ 1024) × (m ≡ length (decode (now words) .messages)) ⌝ }
+    ensures value { λ r. ⌜ r ≡ sentBy (x .0) (decode (now (words .entry)) .messages) ⌝ }
+    ensures bound { λ r. ⌜ r ≤ m ⌝ }
+{
+    let mut sent = 0;
+    for k in 0..m {
+        let sender = MessageWord(words[place::MESSAGES + 5 * k]).sender();
+        sent += mark(sender.0 == x.0) as usize;
+    }
+    sent
 }
 
 // Takes the message at position k out of the m messages.

@@ -19,6 +19,7 @@ use Rattle.model.specs.Ring.{Message}
 use Rattle.model.specs.Types.{pongAskRepl}
 use Rattle.model.specs.Words.{at, messageWord, messagePlace, decodeMessage, messageTests, messageFits, ringLength, isType, subjectFits, viewFits}
 use Rattle.model.proofs.Types.{types-use}
+use Rattle.valid_messages.specs.Senders.{sendersRead}
 use Rattle.valid_messages.specs.Messages.{messageReads, messagesRead}
 use Rattle.valid_nodes.specs.Nodes.{clear}
 use Rattle.valid_messages.specs.Rests.{kept, stampFits, restReads}
@@ -168,9 +169,10 @@ message-split ws t k =
     rest : List Bool
     rest = kept ws k 1 ∷ kept ws k 2 ∷ kept ws k 3 ∷ kept ws k 4 ∷ []
 
-pub messages-split : (ws : List ℕ) (t : Table) (m : ℕ) → messagesRead ws t m ≡ (all m (firstReads ws t) && all m (restReads ws t) && clear ws (messagePlace m) ringLength)
+pub messages-split : (ws : List ℕ) (t : Table) (m : ℕ) → messagesRead ws t m
+    ≡ (all m (firstReads ws t) && all m (restReads ws t) && clear ws (messagePlace m) ringLength && sendersRead ws t m)
 unfolding messagesRead clear
 messages-split ws t m =
-    ap₂ _&&_
+    ap (λ (b : Bool). every (b ∷ clear ws (messagePlace m) ringLength ∷ sendersRead ws t m ∷ []))
     (all-cong (messageReads ws t) (λ k. firstReads ws t k && restReads ws t k) m (λ k h. message-split ws t k) ∙ sym (all-both (firstReads ws t) (restReads ws t) m))
-    (and-true (clear ws (messagePlace m) ringLength))
+    ∙ sym (joined-every (all m (firstReads ws t) && all m (restReads ws t)) (clear ws (messagePlace m) ringLength ∷ sendersRead ws t m ∷ []))

@@ -1,3 +1,4 @@
+pub mod Senders
 pub mod Messages
 pub mod Parts
 pub mod Rests

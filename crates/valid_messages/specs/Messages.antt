@@ -9,6 +9,7 @@ use Rattle.model.specs.Sets.{all}
 use Rattle.model.specs.Leafset.{Table}
 use Rattle.model.specs.Words.{messagePlace, messageWords, decodeMessage, messageFits, ringLength}
 use Rattle.valid_nodes.specs.Nodes.{clear}
+use Rattle.valid_messages.specs.Senders.{sendersRead}
 
 -- the five words of message k are those of the message that they decode to, and it fits
 unfoldable pub messageReads : List ℕ → Table → ℕ → Bool
@@ -18,10 +19,11 @@ messageReads ws t k =
     ∷ messageFits t (decodeMessage ws k)
     ∷ [])
 
--- m messages, and nothing after them
+-- m messages, nothing after them, and not too many of one sender
 unfoldable pub messagesRead : List ℕ → Table → ℕ → Bool
 messagesRead ws t m =
     every
     (all m (messageReads ws t)
     ∷ clear ws (messagePlace m) ringLength
+    ∷ sendersRead ws t m
     ∷ [])

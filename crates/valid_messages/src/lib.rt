@@ -1,5 +1,6 @@
 // Whether the words of the messages read.
 pub mod rests;
+pub mod senders;
 
 ghost use mathlib.Core.Path.{_≡_};
 ghost use mathlib.Core.List.{List};
@@ -12,6 +13,7 @@ ghost use Rattle.model.specs.Words.{ringLength, at, messagePlace, subjectFits};
 ghost use Rattle.valid_messages.specs.Messages.{messagesRead};
 ghost use Rattle.valid_messages.specs.Parts.{firstReads, Halves};
 use rests::rests_read;
+use senders::senders_read;
 use valid_nodes::clear::clear;
 use word_ring::MessageWord;
 use word_ring::place;
@@ -125,7 +127,7 @@ fn firsts_read(words: &[u32], n: u32, m: usize) -> bool
     ok
 }
 
-// The m messages of the words read, with a table of n nodes, and nothing after them.
+// The m messages of the words read, with a table of n nodes, with nothing after them and not too many of one sender.
 pub fn messages_read(words: &[u32], n: u32, m: usize) -> bool
     requires words { ⌜ (length (now words) ≡ ringLength) × (1 ≤ n) × (n ≤ 64) × (m ≤ 1024) ⌝ }
     ensures value { λ r. ⌜ ((t : Table) → size t ≡ n → r ≡ messagesRead (now (words .entry)) t m) ⌝ }
@@ -133,4 +135,5 @@ pub fn messages_read(words: &[u32], n: u32, m: usize) -> bool
     firsts_read(words, n, m)
         & rests_read(words, n, m)
         & clear(words, place::MESSAGES + 5 * m, place::LENGTH)
+        & senders_read(words, n as usize, m)
 }

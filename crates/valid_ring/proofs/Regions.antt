@@ -1,5 +1,5 @@
 -- Words read as a ring exactly where each of their regions does.
-use mathlib.Core.Path.{_≡_, sym, ap, _∙_}
+use mathlib.Core.Path.{_≡_, refl, sym, ap, _∙_}
 use Prim.Native.Nat.{ℕ, zero, suc, _+_, _≤_, _<_}
 use native.Mathlib.Omega.{arith}
 use native.Mathlib.Nat.{add-zero}
@@ -15,10 +15,15 @@ use Rattle.model.specs.Leafset.{size, key}
 use Rattle.model.specs.Ring.{Message, messageAt, blank}
 use Rattle.model.specs.Fields.{bits, flag}
 use Rattle.model.specs.WellFormed.{Each, nil, cons}
-use Rattle.model.specs.Words.{sidesOf, sidesFit, at, headWord, keyWord, clockWord, pairWord, spareWord, nodePlace, pairPlace, messagePlace, between, inRange, keysDiffer, isPair, ofNode, ofPair, ofMessage, nodeWords, pairWords, messageWords, wordAt, ringLength, decodeTable, decodeOwn, decodeNode, decodeMessage, decode, pairFits, nodeFits, messageFits, ringFits, formatFits, readsAsRing}
-use Rattle.model.proofs.Laws.{between-low, between-high, and-left, and-right, and-in, implies-in, implies-out, not-in, not-out, decide, is-false, same-test, every-in, every-out, all-in, all-out, length-tabulate, getD-tabulate}
+use Rattle.model.specs.Words.{sidesOf, sidesFit, at, headWord, keyWord, clockWord, pairWord, spareWord, nodePlace, pairPlace, messagePlace, between}
+use Rattle.model.specs.Words.{inRange, keysDiffer, isPair, ofNode, ofPair, ofMessage, nodeWords, pairWords, messageWords, wordAt, ringLength}
+use Rattle.model.specs.Words.{decodeTable, decodeOwn, decodeNode, decodeMessage, decode, pairFits, nodeFits, messageFits, sendersFit, ringFits}
+use Rattle.model.specs.Words.{formatFits, readsAsRing}
+use Rattle.model.proofs.Laws.{between-low, between-high, and-left, and-right, and-in, implies-in, implies-out, not-in, not-out, decide, is-false}
+use Rattle.model.proofs.Laws.{same-test, every-in, every-out, all-in, all-out, length-tabulate, getD-tabulate}
 use Rattle.model.proofs.Lists.{first, rest}
 use Rattle.model.proofs.Words.{node-at, pair-at, message-at, every-place, pair-low, pair-other, ReadsAsRing, reads-in, reads-out}
+use Rattle.valid_messages.specs.Senders.{sendersRead}
 use Rattle.valid_messages.specs.Messages.{messageReads, messagesRead}
 use Rattle.valid_nodes.specs.Nodes.{clear, sizeOf, countOf, keyAt, clockAt, headReads, nodeReads, nodesRead}
 use Rattle.valid_pairs.specs.Pairs.{linkAt, spareAt, linkReads, spareReads, pairReads, rowReads, pairsRead}
@@ -39,6 +44,10 @@ module _ (ws : List ℕ) where
   count-is : length (decode ws .messages) ≡ countOf ws
   unfolding decode
   count-is = length-tabulate (decodeMessage ws) (countOf ws)
+
+  senders-are : sendersRead ws (decodeTable ws) (countOf ws) ≡ sendersFit (decode ws)
+  unfolding decode sendersRead sendersFit
+  senders-are = refl
 
   message-is : (k : ℕ) → k < countOf ws → messageAt (decode ws) k ≡ decodeMessage ws k
   unfolding decode
@@ -131,6 +140,7 @@ module _ (ws : List ℕ) where
         ∷ leb (length (decode ws .messages)) 1024
         ∷ all (size (decodeTable ws)) (λ x. nodeFits (decodeTable ws) (decodeNode ws x) x)
         ∷ all (length (decode ws .messages)) (λ k. messageFits (decodeTable ws) (messageAt (decode ws) k))
+        ∷ sendersFit (decode ws)
         ∷ [])
     unfolding ringFits decode
     tests = every-out _ (r .fits)
@@ -245,7 +255,10 @@ module _ (ws : List ℕ) where
     unfolding messagesRead messageReads clear
     messages-read =
         every-in (cons (all-in (countOf ws) (messageReads ws (decodeTable ws)) message)
-        (cons (unused (messagePlace (countOf ws)) ringLength (omega arith) (omega arith) (λ s j hs hj h l. absurd (omega arith)) (λ y z j hy hz hj h l _ _. absurd (omega arith)) (λ k j hk hj h l. omega arith)) nil))
+        (cons
+        (unused (messagePlace (countOf ws)) ringLength (omega arith) (omega arith)
+        (λ s j hs hj h l. absurd (omega arith)) (λ y z j hy hz hj h l _ _. absurd (omega arith)) (λ k j hk hj h l. omega arith))
+        (cons (senders-are ∙ first (rest (rest (rest (rest (rest tests)))))) nil)))
       where
         message : (k : ℕ) → k < countOf ws → messageReads ws (decodeTable ws) k ≡ true
         message k h =
@@ -281,7 +294,11 @@ module _ (ws : List ℕ) where
     unfolding rowReads
     in-row x h = every-out _ (all-out (sizeOf ws) (rowReads ws (sizeOf ws)) (first in-pairs) x h)
 
-    in-messages : Each (λ b. b ≡ true) (all (countOf ws) (messageReads ws (decodeTable ws)) ∷ clear ws (messagePlace (countOf ws)) ringLength ∷ [])
+    in-messages : Each (λ b. b ≡ true)
+        (all (countOf ws) (messageReads ws (decodeTable ws))
+        ∷ clear ws (messagePlace (countOf ws)) ringLength
+        ∷ sendersRead ws (decodeTable ws) (countOf ws)
+        ∷ [])
     unfolding messagesRead clear
     in-messages = every-out _ (first (rest (rest (rest (rest regions)))))
 
@@ -428,7 +445,8 @@ module _ (ws : List ℕ) where
         (cons few
         (cons (all-in (size (decodeTable ws)) (λ x. nodeFits (decodeTable ws) (decodeNode ws x) x) (λ x h. node-fits x (rw (size-is ws) at h)))
         (cons (all-in (length (decode ws .messages)) (λ k. messageFits (decodeTable ws) (messageAt (decode ws) k))
-        (λ k h. rw (message-is k (rw count-is at h)) (first (rest (in-message k (rw count-is at h)))))) nil)))))
+        (λ k h. rw (message-is k (rw count-is at h)) (first (rest (in-message k (rw count-is at h))))))
+        (cons (sym senders-are ∙ first (rest (rest in-messages))) nil))))))
 
 -- Words read as a ring exactly where each of their regions does.
 pub regions-read : (ws : List ℕ) → length ws ≡ ringLength → readsAsRing ws ≡ regionsRead ws

@@ -5,6 +5,9 @@ use model::values::Sides;
 
 pub const MESSAGES: usize = 1_024;
 
+// Of one sender.
+pub const SENDER: usize = 256;
+
 // On each side of a leafset.
 pub const SIDE: u32 = 8;
 

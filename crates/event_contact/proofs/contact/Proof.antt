@@ -1,9 +1,10 @@
-use mathlib.Core.Path.{refl, sym, ap, _∙_}
+use mathlib.Core.Path.{refl, ap, _∙_}
 use Prim.Native.Nat.{ℕ}
 use native.Mathlib.Omega.{arith}
 use Rattle.model.specs.Ring.{Own}
 use Rattle.model.specs.Steps.{Effect}
 use Rattle.model.specs.Steps as steps
+use Rattle.model.specs.WellFormed.{nil, cons}
 use Rattle.model.specs.Answers.{numberOf}
 use Rattle.model.specs.Words.{decode}
 use Rattle.model.specs.Play.{after}
@@ -11,7 +12,7 @@ use Rattle.model.specs.declared.event.Event.the-variants.{Contact}
 use Rattle.answers.proofs.Answered.{refused, accepted}
 use Rattle.event_act.specs.declared.decision.Taken.the-variants.{Nothing}
 use Rattle.event_act.proofs.Decides.{refused-before}
-use Rattle.event_act.proofs.Leaving.{acting-decides}
+use Rattle.event_act.proofs.Leaving.{acting-counts, acting-decides}
 use Rattle.event_contact.proofs.Meets.{meets-acts, meets-low}
 use borrow.Author.Needs.{needs}
 use Rattle.event_contact.proofs.contact.Statement.{statement}
@@ -37,7 +38,14 @@ contact-requires c κs =
     (omega (arith, is .member, is .few), low)
 
 acting-requires : tie.Need-acting-requires
-acting-requires c κs = (c .before .load .ensures .room, tt)
+unfolding steps.contact
+acting-requires c κs =
+    let start = c .before .before .before .before .before .before in
+    let a = start .args in
+    let t = decode (a .words .now) .table in
+    let is = c .before .load .ensures in
+    let step : ℕ → Own → Effect = (λ now o. steps.contact t (a .x .0) now o (a .y .0)) in
+    acting-counts (start .pre) is _ step (c .contact .ensures t _ _ (is .fits)) Nothing (cons refl nil) (is .count) tt tt
 
 returns-2 : tie.Need-returns-2
 unfolding after
@@ -52,7 +60,7 @@ returns-2 c =
     let step : ℕ → Own → Effect = (λ now o. steps.contact t (a .x .0) now o (a .y .0)) in
     acting-decides (start .pre) is _ step left Nothing (Contact (a .x) (a .y))
     (accepted (asked .result) _ (asked .ensures) (c .before .before .before .before .is-refusal .ensures) (c .before .before .before .if1 .left)) tt refl _
-    (c .acting .ensures (decode ws) (sym (is .count)))
+    (c .acting .ensures)
 
 pub contact-spec : {M : Type 1} → statement M
 contact-spec =

@@ -1,8 +1,9 @@
-use mathlib.Core.Path.{refl, sym, ap, _∙_}
+use mathlib.Core.Path.{refl, ap, _∙_}
 use Prim.Native.Nat.{ℕ}
 use Rattle.model.specs.Ring.{Own}
 use Rattle.model.specs.Steps.{Effect}
 use Rattle.model.specs.Steps as steps
+use Rattle.model.specs.WellFormed.{nil}
 use Rattle.model.specs.Answers.{numberOf}
 use Rattle.model.specs.Words.{decode}
 use Rattle.model.specs.Play.{after}
@@ -10,7 +11,7 @@ use Rattle.model.specs.declared.event.Event.the-variants.{Notice}
 use Rattle.answers.proofs.Answered.{refused, accepted}
 use Rattle.event_act.specs.declared.decision.Taken.the-variants.{Nothing}
 use Rattle.event_act.proofs.Decides.{refused-before}
-use Rattle.event_act.proofs.Leaving.{acting-decides}
+use Rattle.event_act.proofs.Leaving.{acting-counts, acting-decides}
 use Rattle.event_contact.proofs.Meets.{meets-acts, meets-low}
 use borrow.Author.Needs.{needs}
 use Rattle.event_contact.proofs.notice.Statement.{statement}
@@ -36,7 +37,14 @@ notice-requires c κs =
     (low, is .fits .room)
 
 acting-requires : tie.Need-acting-requires
-acting-requires c κs = (c .before .load .ensures .room, tt)
+unfolding steps.notice
+acting-requires c κs =
+    let start = c .before .before .before .before .before .before in
+    let a = start .args in
+    let t = decode (a .words .now) .table in
+    let is = c .before .load .ensures in
+    let step : ℕ → Own → Effect = (λ now o. steps.notice t (a .x .0) now o (a .z .0)) in
+    acting-counts (start .pre) is _ step (c .notice .ensures t _ _ _ (is .fits)) Nothing nil (is .count) tt tt
 
 returns-2 : tie.Need-returns-2
 unfolding after
@@ -51,7 +59,7 @@ returns-2 c =
     let step : ℕ → Own → Effect = (λ now o. steps.notice t (a .x .0) now o (a .z .0)) in
     acting-decides (start .pre) is _ step left Nothing (Notice (a .x) (a .z))
     (accepted (asked .result) _ (asked .ensures) (c .before .before .before .before .is-refusal .ensures) (c .before .before .before .if1 .left)) tt refl _
-    (c .acting .ensures (decode ws) (sym (is .count)))
+    (c .acting .ensures)
 
 pub notice-spec : {M : Type 1} → statement M
 notice-spec =

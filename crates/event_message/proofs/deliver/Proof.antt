@@ -2,7 +2,7 @@
 use mathlib.Core.Path.{_≡_, refl, sym, ap, _∙_}
 use mathlib.Core.Bool.{Bool, true, false}
 use mathlib.Core.List.{List}
-use Prim.Native.Nat.{ℕ, _<_, _≤_}
+use Prim.Native.Nat.{ℕ, _<_}
 use native.Mathlib.Omega.{arith}
 use lib.Dec.{lit<}
 use lib.ListN.{length}
@@ -14,6 +14,8 @@ use Rattle.model.specs.Words.{decodeNode, decode}
 use Rattle.model.specs.Structs.{messageOf}
 use Rattle.model.specs.declared.event.Event.the-variants.{Deliver}
 use Rattle.model.proofs.Answers.{here}
+use Rattle.model.proofs.Decoded.{reads-well}
+use Rattle.model.proofs.WellFormedSteps.{deliver-well}
 use Rattle.ring_head.proofs.ReadRing.{read-node}
 use Rattle.answers.proofs.Valid.{long, room}
 use Rattle.answers.proofs.Answered.{refused, accepted}
@@ -21,7 +23,8 @@ use Rattle.answers.proofs.Refusals
 use Rattle.event_act.specs.declared.decision.Change.{Change}
 use Rattle.event_act.specs.declared.decision.Becomes.the-variants.{Stays}
 use Rattle.event_act.proofs.Decides.{refused-before, decides}
-use Rattle.event_act.proofs.Leaving.{acting-decides, change-fits, silent-leaves, never-starts}
+use Rattle.event_act.proofs.Actors.{actor-sends}
+use Rattle.event_act.proofs.Leaving.{acting-counts, acting-decides, change-fits, silent-leaves, never-starts}
 use Rattle.event_message.proofs.Delivery
 use borrow.Author.Tests.{not-true, not-false}
 use borrow.Author.Needs.{needs}
@@ -49,10 +52,15 @@ is-running-requires c κs =
 
 silent-requires : tie.Need-silent-requires
 silent-requires c κs =
-    let at-messages = c .before .before .before .before .before .before in
-    let start = at-messages .before .before in (
-      omega (arith, at-messages .messages .ensures .0, room _ (start .pre)),
-      Delivery.taken-low (start .args .position) (start .args .echo) (c .taken .ensures) (omega arith),
+    let at-load = c .before .before .before .before in
+    let at-messages = at-load .before .before in
+    let start = at-messages .before .before in
+    let messages = at-messages .messages .ensures .0 in (
+      (start .pre, messages),
+      (
+        Delivery.taken-low (start .args .position) (start .args .echo) (c .taken .ensures) (omega arith),
+        Delivery.loaded-well (at-load .load .ensures) (omega (arith, messages)) (start .pre) .receiver-low,
+      ),
     )
 
 -- to a node that is off: what is taken out, and nothing else
@@ -71,7 +79,7 @@ returns-2 c =
     let y : ℕ = message .result .receiver .0 in
     let low : k < length (decode ws .messages) = omega (arith, messages) in
     let off : decodeNode ws y .running ≡ false = sym (at-running .is-running .ensures) ∙ not-true _ (c .before .before .if2 .taken) in
-    let done = c .silent .ensures (decode ws) (sym messages) in
+    let done = c .silent .ensures in
     let change : Change =
     record { taken = c .before .taken .result; node = message .result .receiver; becomes = Stays; time = record { 0 = 0 }; effect = done .effect } in
     decides ws (Deliver k echo) (Delivery.need-not-rise (message .ensures) low off echo) change
@@ -112,14 +120,28 @@ step-requires c κs =
     (start .pre, is, Delivery.loaded-delivered (at-load .load .ensures) (omega (arith, at-messages .messages .ensures .0)) (start .pre) (is .nodes))
 
 acting-requires : tie.Need-acting-requires
+unfolding decode
 acting-requires c κs =
     let at-asked = c .before .before .before .before .before in
-    let at-test = at-asked .before .before .before .before .before in
-    let at-messages = at-test .before in
+    let at-load = at-asked .before .before .before .before in
+    let at-messages = at-load .before .before in
     let start = at-messages .before .before in
-    let few : at-messages .messages .result ≤ 1024 = omega (arith, at-messages .messages .ensures .0, room _ (start .pre)) in
-    let low : start .args .position < at-messages .messages .result = omega (arith, at-test .if1 .left) in
-    (few, Delivery.taken-low (start .args .position) (start .args .echo) (c .taken2 .ensures) low)
+    let ws : List ℕ = start .args .words .now in
+    let k : ℕ = start .args .position in
+    let reads = start .pre in
+    let messages = at-messages .messages .ensures .0 in
+    let message = at-load .load in
+    let taken = c .taken2 .ensures in
+    let low : k < length (decode ws .messages) = omega (arith, messages, at-load .before .if1 .left) in
+    let is = c .before .before .load2 .ensures in
+    let step : ℕ → Own → Effect = (λ now o. steps.deliver (decode ws .table) (message .result .receiver .0) now o (messageOf (message .result))) in
+    let by =
+    actor-sends reads is (λ pos high member g.
+    deliver-well (decode ws .table) (reads-well ws reads .table-well) _ pos high _ (messageOf (message .result))
+    (Delivery.loaded-well (message .ensures) low reads) g) in
+    acting-counts reads is _ step (c .before .step .ensures) _ by messages
+    (Delivery.taken-low k (start .args .echo) taken (omega (arith, at-load .before .if1 .left)))
+    (Delivery.taken-other k (start .args .echo) taken (decode ws) (Delivery.other-sender (message .ensures) low reads))
 
 -- to a running node: its step, on the ring with the message or without it
 returns-4 : tie.Need-returns-4
@@ -147,7 +169,7 @@ returns-4 c =
     (sym (Delivery.must-rise (message .ensures) low (start .pre) on echo) ∙ passed) (Delivery.taken-low k echo taken low)
     (Delivery.delivered-on k echo taken (decode ws) (messageOf (message .result)) (Delivery.is-message (message .ensures) low)
     (ap (λ (s : Node). s .running) (read-node ws y) ∙ on))
-    _ (c .acting .ensures (decode ws) (sym messages))
+    _ (c .acting .ensures)
 
 pub deliver-spec : {M : Type 1} → statement M
 deliver-spec =

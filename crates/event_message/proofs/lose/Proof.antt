@@ -9,7 +9,7 @@ use Rattle.model.specs.Words.{decode}
 use Rattle.model.specs.Play.{after}
 use Rattle.model.specs.declared.event.Event.the-variants.{Lose}
 use Rattle.model.proofs.Answers.{here, next, no-more}
-use Rattle.answers.proofs.Valid.{long, some-node, room}
+use Rattle.answers.proofs.Valid.{long, some-node}
 use Rattle.answers.proofs.Refusals
 use Rattle.event_act.specs.declared.decision.Change.{Change}
 use Rattle.event_act.specs.declared.decision.Taken.the-variants.{Message}
@@ -30,7 +30,9 @@ returns c =
     (sym (here _ _ (Refusals.no-message (a .words .now) (a .position) (omega (arith, c .before .before .messages .ensures .0))))) refl
 
 silent-requires : tie.Need-silent-requires
-silent-requires c κs = (omega (arith, c .before .messages .ensures .0, room _ (c .before .before .before .pre)), omega arith)
+silent-requires c κs =
+    let reads = c .before .before .before .pre in
+    ((reads, c .before .messages .ensures .0), (omega arith, some-node _ reads))
 
 returns-2 : tie.Need-returns-2
 unfolding after
@@ -40,7 +42,7 @@ returns-2 c =
     let k : ℕ = start .args .position in
     let messages = c .before .before .messages .ensures .0 in
     let low : k < length (decode ws .messages) = omega (arith, messages) in
-    let done = c .silent .ensures (decode ws) (sym messages) in
+    let done = c .silent .ensures in
     let change : Change = record { taken = Message k; node = record { 0 = 0 }; becomes = Stays; time = record { 0 = 0 }; effect = done .effect } in
     decides ws (Lose k) (next _ _ (Refusals.a-message ws k low) ∙ no-more) change
     (change-fits change (done .quiet 0) (start .pre) low (some-node ws (start .pre)) (lit< tt) (λ e. absurd (never-starts refl e)))

@@ -8,15 +8,15 @@ use Rattle.model.specs.Leafset.{size}
 use Rattle.model.specs.Words.{decodeTable, decodeNode, decode}
 use Rattle.model.specs.declared.event.Event.the-variants.{Off}
 use Rattle.model.proofs.Answers.{here, next, no-more}
-use Rattle.answers.proofs.Valid.{long, few, room}
+use Rattle.answers.proofs.Valid.{long, few}
 use Rattle.answers.proofs.Refusals
 use Rattle.event_act.specs.declared.decision.Change.{Change}
 use Rattle.event_act.specs.declared.decision.Taken.the-variants.{Nothing}
 use Rattle.event_act.specs.declared.decision.Becomes.the-variants.{Stops}
-use Rattle.event_act.proofs.Actors.{loaded-fits}
+use Rattle.event_act.proofs.Actors.{loaded-well, loaded-fits}
 use Rattle.event_act.proofs.Decides.{refused-before, decides}
-use Rattle.event_act.proofs.Leaving.{change-fits, silent-leaves, never-starts}
-use Rattle.event_on_off.proofs.Stopping.{stops, leaves}
+use Rattle.event_act.proofs.Leaving.{change-fits, change-counts, silent-leaves, never-starts}
+use Rattle.event_on_off.proofs.Stopping.{stops, leaves, leaver-sends}
 use borrow.Author.Tests.{not-true, not-false}
 use borrow.Author.Needs.{needs}
 use Rattle.event_on_off.proofs.off.Statement.{statement}
@@ -45,14 +45,16 @@ messages-requires : tie.Need-messages-requires
 messages-requires c κs = long _ (c .before .before .before .before .before .before .pre)
 
 silent-requires : tie.Need-silent-requires
-silent-requires c κs = (omega (arith, c .before .messages .ensures .0, room _ (c .before .before .before .before .before .before .before .before .pre)), tt)
+silent-requires c κs =
+    let at-nodes = c .before .before .before .before .before .before in
+    ((at-nodes .before .before .pre, c .before .messages .ensures .0), (tt, omega (arith, at-nodes .nodes .ensures .0)))
 
 returns-3 : tie.Need-returns-3
 returns-3 c =
     let start = c .before .before .before .before .before .before .before .before .before in
     let ws : List ℕ = start .args .words .now in
     let x : ℕ = start .args .x .0 in
-    let done = c .silent .ensures (decode ws) (sym (c .before .before .messages .ensures .0)) in
+    let done = c .silent .ensures in
     let in-table : x < size (decodeTable ws) = omega (arith, c .before .before .before .before .before .before .before .nodes .ensures .0) in
     let change : Change = record { taken = Nothing; node = start .args .x; becomes = Stops; time = record { 0 = 0 }; effect = done .effect } in
     decides ws (Off (start .args .x) (start .args .polite))
@@ -67,7 +69,18 @@ load-requires c κs =
     (long _ (start .pre), nodes, omega (arith, nodes, few _ (start .pre)), omega (arith, nodes))
 
 decided-requires : tie.Need-decided-requires
-decided-requires c κs = (omega (arith, c .before .before .before .messages .ensures .0, room _ (c .before .before .before .before .before .before .before .before .before .before .pre)), tt)
+decided-requires c κs =
+    let at-messages = c .before .before .before in
+    let at-nodes = at-messages .before .before .before .before .before in
+    let start = at-nodes .before .before in
+    let ws : List ℕ = start .args .words .now in
+    let x : ℕ = start .args .x .0 in
+    let own = c .before .load .ensures in
+    let in-table : x < size (decodeTable ws) = omega (arith, at-nodes .nodes .ensures .0) in
+    let left = c .leaving .ensures (decodeTable ws) x 0 (few ws (start .pre)) (loaded-fits ws x (start .pre) _ own) in
+    let change : Change = record { taken = Nothing; node = start .args .x; becomes = Stops; time = record { 0 = 0 }; effect = c .leaving .result } in
+    change-counts change left
+    (leaver-sends (decodeTable ws) 0 in-table (loaded-well ws x (start .pre) _ own)) (start .pre) (at-messages .messages .ensures .0) tt tt in-table
 
 returns-4 : tie.Need-returns-4
 unfolding decode decodeNode
@@ -83,7 +96,7 @@ returns-4 c =
     (next _ _ (Refusals.in-table ws x in-table) ∙ next _ _ (Refusals.on ws x (sym (c .before .before .before .before .before .before .is-running .ensures) ∙ not-false _ (c .before .before .before .before .before .if2 .left))) ∙ no-more)
     change (change-fits change left (start .pre) tt in-table (lit< tt) (λ e. absurd (never-starts refl e)))
     (leaves (decode ws) (start .args .x) 0 (not-false _ (c .before .before .before .if3 .left)) (left .effect) (own .own)) _
-    (c .decided .ensures (decode ws) (sym (c .before .before .before .before .messages .ensures .0)))
+    (c .decided .ensures)
 
 pub off-spec : {M : Type 1} → statement M
 off-spec =

@@ -10,7 +10,7 @@ use Rattle.model.specs.Play.{after}
 use Rattle.model.specs.declared.event.Event.the-variants.{On}
 use Rattle.model.proofs.Answers.{here, next, no-more}
 use Rattle.ring_head.proofs.ReadRing.{read-node}
-use Rattle.answers.proofs.Valid.{long, room, clock-high}
+use Rattle.answers.proofs.Valid.{long, clock-high}
 use Rattle.answers.proofs.Refusals
 use Rattle.event_act.specs.declared.decision.Change.{Change}
 use Rattle.event_act.specs.declared.decision.Taken.the-variants.{Nothing}
@@ -58,7 +58,10 @@ add-t15 : tie.Need-add-t15
 add-t15 c = omega (arith, c .before .before .clock .ensures, clock-high _ (c .before .before .before .before .before .before .before .before .before .pre) (c .before .before .before .before .before .before .before .before .before .args .x .0))
 
 silent-requires : tie.Need-silent-requires
-silent-requires c κs = (omega (arith, c .messages .ensures .0, room _ (c .before .before .before .before .before .before .before .before .before .pre)), tt)
+silent-requires c κs =
+    let at-running = c .before .before .before .before .before in
+    let at-nodes = at-running .before .before in
+    ((at-nodes .before .before .pre, c .messages .ensures .0), (tt, omega (arith, at-nodes .nodes .ensures .0)))
 
 returns-4 : tie.Need-returns-4
 unfolding after
@@ -67,7 +70,7 @@ returns-4 c =
     let ws : List ℕ = start .args .words .now in
     let x : ℕ = start .args .x .0 in
     let clock = c .before .before .before .clock .ensures in
-    let done = c .silent .ensures (decode ws) (sym (c .before .messages .ensures .0)) in
+    let done = c .silent .ensures in
     let in-table : x < size (decodeTable ws) = omega (arith, c .before .before .before .before .before .before .before .before .nodes .ensures .0) in
     let now : c .before .before .before .clock .result .0 + 1 ≡ decode ws .node x .clock + 1 = ap (λ (k : ℕ). k + 1) (clock ∙ ap (λ (s : Node). s .clock) (sym (read-node ws x))) in
     let change : Change = record { taken = Nothing; node = start .args .x; becomes = Starts; time = record { 0 = c .before .before .before .clock .result .0 + 1 }; effect = done .effect } in

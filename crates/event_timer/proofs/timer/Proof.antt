@@ -1,4 +1,4 @@
-use mathlib.Core.Path.{refl, sym, ap, _∙_}
+use mathlib.Core.Path.{refl, ap, _∙_}
 use Prim.Native.Nat.{ℕ}
 use Rattle.model.specs.Ring.{Own}
 use Rattle.model.specs.Steps.{Effect}
@@ -7,10 +7,13 @@ use Rattle.model.specs.Answers.{numberOf}
 use Rattle.model.specs.Words.{decode}
 use Rattle.model.specs.Play.{after}
 use Rattle.model.specs.declared.event.Event.the-variants.{Timer}
+use Rattle.model.proofs.Decoded.{reads-well}
+use Rattle.model.proofs.WellFormedSteps.{timer-well}
 use Rattle.answers.proofs.Answered.{refused, accepted}
 use Rattle.event_act.specs.declared.decision.Taken.the-variants.{Nothing}
 use Rattle.event_act.proofs.Decides.{refused-before}
-use Rattle.event_act.proofs.Leaving.{acting-decides}
+use Rattle.event_act.proofs.Actors.{actor-sends}
+use Rattle.event_act.proofs.Leaving.{acting-counts, acting-decides}
 use borrow.Author.Needs.{needs}
 use Rattle.event_timer.proofs.timer.Statement.{statement}
 use Rattle.event_timer.proofs.timer.Tie as tie
@@ -31,7 +34,15 @@ step-requires : tie.Need-step-requires
 step-requires c κs = (c .before .before .before .before .before .pre, c .load .ensures)
 
 acting-requires : tie.Need-acting-requires
-acting-requires c κs = (c .before .load .ensures .room, tt)
+acting-requires c κs =
+    let start = c .before .before .before .before .before .before in
+    let a = start .args in
+    let ws = a .words .now in
+    let is = c .before .load .ensures in
+    let step : ℕ → Own → Effect = (λ now o. steps.timer (decode ws .table) (a .x .0) now o (a .k)) in
+    let table = reads-well ws (start .pre) .table-well in
+    let by = actor-sends (start .pre) is (λ pos high low g. timer-well (decode ws .table) table _ pos high _ (a .x .0) low g (a .k)) in
+    acting-counts (start .pre) is _ step (c .step .ensures) Nothing by (is .count) tt tt
 
 returns-2 : tie.Need-returns-2
 unfolding after
@@ -45,7 +56,7 @@ returns-2 c =
     let step : ℕ → Own → Effect = (λ now o. steps.timer (decode ws .table) (a .x .0) now o (a .k)) in
     acting-decides (start .pre) is _ step left Nothing (Timer (a .x) (a .k))
     (accepted (asked .result) _ (asked .ensures) (c .before .before .before .before .is-refusal .ensures) (c .before .before .before .if1 .left)) tt refl _
-    (c .acting .ensures (decode ws) (sym (is .count)))
+    (c .acting .ensures)
 
 pub timer-spec : {M : Type 1} → statement M
 timer-spec =
