@@ -11,7 +11,9 @@ use crate::ring::Ring;
 use crate::routes::{self, Route};
 use crate::screens::{self, Screens};
 use crate::script::{Mix, Script};
+use crate::senders;
 use crate::unbroken::Tested;
+use crate::ANSWERS;
 use std::fmt;
 use std::sync::atomic::{AtomicBool, Ordering};
 use std::thread;
@@ -49,7 +51,9 @@ pub struct Tally {
     pub lists: u64,
     pub refused_lists: u64,
     /// Answers to the events, by number, those on damaged buffers included.
-    pub answers: [u64; 12],
+    pub answers: [u64; ANSWERS],
+    /// Of these events.
+    pub senders: senders::Tally,
     /// Accepted deliveries by type, and accepted echoes.
     pub delivered: [u64; 14],
     pub echoed: [u64; 14],
@@ -81,6 +85,7 @@ impl Tally {
         self.lists += other.lists;
         self.refused_lists += other.refused_lists;
         self.answers.iter_mut().zip(other.answers).for_each(|(sum, count)| *sum += count);
+        self.senders.add(&other.senders);
         self.delivered.iter_mut().zip(other.delivered).for_each(|(sum, count)| *sum += count);
         self.echoed.iter_mut().zip(other.echoed).for_each(|(sum, count)| *sum += count);
         self.routes.add(&other.routes);
@@ -103,7 +108,7 @@ impl fmt::Display for Tally {
         writeln!(f, "{scripts} scripts, {events} events, {questions} questions")?;
         writeln!(f, "{lists} lists of events by one call, of which {refused_lists} were refused")?;
         writeln!(f, "{damaged} damaged buffers, of which {valid} still read as a ring")?;
-        writeln!(f, "answers 0 to 11: {answers:?}")?;
+        writeln!(f, "answers 0 to 17: {answers:?}\n{}", self.senders)?;
         writeln!(f, "delivered, types 1 to 13: {:?}", &delivered[1..])?;
         writeln!(f, "echoed, types 1 to 13: {:?}", &self.echoed[1..])?;
         writeln!(f, "{}\non damaged buffers: {}", self.routes, self.damaged_routes)?;
@@ -180,6 +185,8 @@ struct Play<'a> {
     reach_rate: u64,
     preview_rate: u64,
     screen_rate: u64,
+    /// Of a hundred damaged buffers those in which a sender stands at its bound.
+    bound_rate: usize,
 }
 
 impl<'a> Play<'a> {
@@ -197,6 +204,7 @@ impl<'a> Play<'a> {
             reach_rate: rate(plan.reaches),
             preview_rate: rate(plan.previews),
             screen_rate: rate(plan.screens),
+            bound_rate: if mix == Mix::Talkative { 100 } else { 2 },
         }
     }
 
@@ -254,6 +262,7 @@ impl<'a> Play<'a> {
         let answer = self.runner.play_watched(word)?;
         tally.events += 1;
         tally.answers[answer as usize] += 1;
+        tally.senders.note(word, answer, self.runner.words());
         if let (0, Some(kind)) = (answer, delivered) {
             let counts = if word >> 10 & 1 == 1 { &mut tally.echoed } else { &mut tally.delivered };
             counts[kind as usize] += 1;
@@ -346,7 +355,7 @@ impl<'a> Play<'a> {
     fn damage(&mut self, tally: &mut Tally) -> Result<(), Fault> {
         let before = self.runner.words().to_vec();
         let length = self.case.steps.len();
-        let damage = damage(&mut self.random, &before);
+        let damage = damage(&mut self.random, &before, self.bound_rate);
         for poke in damage.pokes {
             self.case.steps.push(poke);
             self.runner.step(poke)?;
@@ -387,6 +396,7 @@ impl<'a> Play<'a> {
             self.case.steps.push(Step::Play(word));
             let answer = self.runner.step(Step::Play(word))?;
             tally.answers[answer as usize] += 1;
+            tally.senders.note(word, answer, self.runner.words());
             if answer == 6 {
                 break;
             }

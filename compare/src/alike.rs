@@ -7,6 +7,7 @@ use crate::random::Random;
 use crate::ring::{Ring, Sides};
 use crate::routes;
 use crate::screens::{Screens, Seen};
+use crate::senders;
 use crate::LENGTH;
 use std::{fmt, thread};
 
@@ -86,20 +87,25 @@ fn draw_clock(random: &mut Random, words: &mut [u32], x: usize) {
     words[2 + 2 * x] = 5 << 28 | random.pick(&[least, any, any, LIMIT]);
 }
 
-/// So many messages, each of any type; none at a node alone.
+/// So many messages, or as many as the nodes may have in flight, of any types; none at a node alone.
 pub fn draw_messages(random: &mut Random, words: &mut [u32], count: usize) {
     let n = look::nodes(words);
-    let count = if n == 1 { 0 } else { count };
-    words[0] = words[0] & !(2_047 << 11) | (count as u32) << 11;
-    words[8_321..].fill(0);
-    for message in words[8_321..].chunks_exact_mut(5).take(count) {
-        draw_message(random, message, n);
-    }
+    let mut left = [senders::MOST; 64];
+    let count = if n == 1 { 0 } else { count.min(n * senders::MOST) };
+    let senders: Vec<usize> = (0..count)
+        .map(|_| {
+            let first = random.below(n);
+            let sender = (first..n).chain(0..first).find(|&s| left[s] > 0).unwrap();
+            left[sender] -= 1;
+            sender
+        })
+        .collect();
+    senders::write(random, words, &senders);
 }
 
-fn draw_message(random: &mut Random, message: &mut [u32], n: usize) {
+/// A message of a node, to any other and of any type.
+pub fn draw_message(random: &mut Random, message: &mut [u32], n: usize, sender: usize) {
     let kind = 1 + random.below(13);
-    let sender = random.below(n);
     let receiver = (sender + 1 + random.below(n - 1)) % n;
     let subject = match kind {
         8 => other_node(random, n, [sender, receiver]).unwrap_or(64),

@@ -24,8 +24,11 @@ const ANSWERS: [&str; 12] = [
 
 const LISTED: usize = 16;
 
+/// 12 to 16 are other calls' answers.
+const SENDER_FULL: (u32, &str) = (17, "a sender would have more than 256 in flight");
+
 fn answer_text(answer: u32) -> String {
-    let text = ANSWERS[answer as usize];
+    let text = if answer == SENDER_FULL.0 { SENDER_FULL.1 } else { ANSWERS[answer as usize] };
     if answer == 0 { text.to_string() } else { format!("refused, {answer}: {text}") }
 }
 

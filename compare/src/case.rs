@@ -7,6 +7,7 @@ use crate::reaches::Reach;
 use crate::ring::{Ring, Routed, Sides};
 use crate::routes::Route;
 use crate::screens::{Screens, Seen};
+use crate::senders;
 use crate::unbroken::Unbroken;
 use crate::LENGTH;
 use std::fmt;
@@ -143,6 +144,8 @@ pub enum Fault {
     Unlike { line: String },
     /// A reach ends elsewhere than at the owner, or after too many hops.
     Astray { line: String },
+    /// An accepted event left more messages of a sender than it may have.
+    Talkative { name: &'static str, node: usize, messages: usize },
     /// Demand 3 is broken: two nodes that were connected no longer are.
     Parted { name: &'static str, nodes: (usize, usize) },
 }
@@ -174,6 +177,9 @@ impl fmt::Display for Fault {
                 write!(f, "  {one} and {other} differ on the screens: {}", differing.join(", "))
             }
             Fault::Unlike { line } | Fault::Astray { line } => write!(f, "  {line}"),
+            Fault::Talkative { name, node, messages } => {
+                write!(f, "  {name}: after an accepted event node {node} has {messages} messages in flight")
+            }
             Fault::Parted { name, nodes: (a, b) } => {
                 write!(f, "  {name}: nodes {a} and {b} were connected with no acknowledgement in flight, and are parted")
             }
@@ -253,6 +259,7 @@ impl<'a> Runner<'a> {
             Step::Play(word) => {
                 let outcome = self.call(|ring, words| (ring.play(words, word), 0))?;
                 self.hold_to(shown.filter(|shown| shown.word == word), outcome.0)?;
+                self.hold_to_bound(outcome.0)?;
                 outcome
             }
             Step::Preview(preview) => (self.preview(preview)?, 0),
@@ -309,6 +316,17 @@ impl<'a> Runner<'a> {
         }
         self.foreseen += (answer == 0) as u64;
         Ok(())
+    }
+
+    /// After an event: accepted, it left no sender with more than it may have.
+    fn hold_to_bound(&self, answer: u32) -> Result<(), Fault> {
+        if answer != 0 {
+            return Ok(());
+        }
+        match look::busiest(self.words()) {
+            (_, 0..=senders::MOST) => Ok(()),
+            (node, messages) => Err(Fault::Talkative { name: self.rings[0].name(), node, messages }),
+        }
     }
 
     /// A route on every implementation: what the first one gives, and its list after it.

@@ -4,6 +4,7 @@
 use crate::case::Step;
 use crate::look;
 use crate::random::Random;
+use crate::senders;
 
 const LIMIT: u32 = 0xFF_FFFF;
 
@@ -13,8 +14,11 @@ pub struct Damage {
     pub event: Option<u32>,
 }
 
-/// One damage of the ring in the words.
-pub fn damage(random: &mut Random, words: &[u32]) -> Damage {
+/// One damage of the ring in the words, so many times in a hundred of its messages, where a sender stands at its bound.
+pub fn damage(random: &mut Random, words: &[u32], at_bound: usize) -> Damage {
+    if look::nodes(words) > 1 && random.percent(at_bound) {
+        return at_the_bound(random, words);
+    }
     if random.percent(30) {
         return scene(random, words);
     }
@@ -111,7 +115,7 @@ fn head(random: &mut Random, words: &[u32], message: usize) -> u32 {
     let node = random.below(n as usize) as u32;
     match random.below(5) {
         0 => with(word, 0, 4, random.below(16) as u32),
-        1 => with(word, 4, 6, random.pick(&[receiver, n, node])),
+        1 => with(word, 4, 6, random.pick(&[receiver, n, node, look::busiest(words).0 as u32])),
         2 => with(word, 10, 6, random.pick(&[sender, n, node])),
         3 => with(word, 16, 7, random.pick(&[sender, receiver, n - 1, n, 64, 65, 127, node])),
         _ => with(word, 23, 9, random.word()),
@@ -183,6 +187,21 @@ fn scene(random: &mut Random, words: &[u32]) -> Damage {
     }
     let echo = (random.percent(20) as u32) << 10;
     Damage { pokes, event: Some(14 << 28 | echo | position as u32) }
+}
+
+/// Messages of which one node has about as many as it may; in a third of the times one of another's becomes its own.
+fn at_the_bound(random: &mut Random, words: &[u32]) -> Damage {
+    let (mut other, x) = senders::at_the_bound(random, words);
+    let m = look::messages(&other);
+    let first = random.below(m);
+    let fits = |position: &usize| look::sender(&other, *position) != x && look::receiver(&other, *position) != x;
+    let changed = (first..m).chain(0..first).find(fits).filter(|_| random.percent(33));
+    if let Some(position) = changed {
+        other[message_at(position)] = with(other[message_at(position)], 4, 6, x as u32);
+    }
+    let event = senders::event(random, &other, x);
+    let pokes = other.iter().zip(words).enumerate().filter(|(_, (new, old))| new != old);
+    Damage { pokes: pokes.map(|(at, (&word, _))| Step::Poke(at, word)).collect(), event: Some(event) }
 }
 
 /// x holds z, with a commit stamp that is the result, and y as spare.

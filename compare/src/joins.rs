@@ -7,8 +7,9 @@ use crate::look;
 use crate::random::Random;
 use crate::ring::{Ring, Sides};
 use crate::script::{Mix, Script};
+use crate::senders;
 use crate::unbroken::Tested;
-use crate::LENGTH;
+use crate::{ANSWERS, LENGTH};
 use std::sync::atomic::{AtomicBool, Ordering};
 use std::{fmt, thread};
 
@@ -139,7 +140,7 @@ fn damaged(random: &mut Random, source: &mut Source) {
     if !random.percent(8) {
         return;
     }
-    for poke in damage(random, &source.words).pokes {
+    for poke in damage(random, &source.words, 2).pokes {
         if let Step::Poke(at, value) = poke {
             source.words[at] = value;
         }
@@ -147,10 +148,15 @@ fn damaged(random: &mut Random, source: &mut Source) {
     source.reached = false;
 }
 
-/// In some pairs of made rings 1,024 messages together, or 1,025.
+/// In some pairs of made rings senders at their bound; in some 1,024 messages together, or 1,025, where the nodes are
+/// enough.
 fn crowd(random: &mut Random, first: &mut Source, second: &mut Source) {
     if first.reached || second.reached || !random.percent(25) {
         return;
+    }
+    if random.percent(40) {
+        talkative(random, first);
+        return talkative(random, second);
     }
     if random.percent(50) {
         alike::draw_messages(random, &mut first.words, 512);
@@ -158,6 +164,13 @@ fn crowd(random: &mut Random, first: &mut Source, second: &mut Source) {
     let room = 1_024 - look::messages(&first.words);
     let more = random.below(2);
     alike::draw_messages(random, &mut second.words, (room + more).min(1_024));
+}
+
+/// Mostly a sender that has about as many messages as it may.
+fn talkative(random: &mut Random, source: &mut Source) {
+    if look::nodes(&source.words) > 1 && random.percent(70) {
+        source.words = senders::at_the_bound(random, &source.words).0;
+    }
 }
 
 /// What the third buffer has before: words that all differ, zeros, ones, a ring.
@@ -276,6 +289,10 @@ impl Trial {
         if answer != 0 {
             return Ok(());
         }
+        let (node, most) = look::busiest(joined);
+        if most > senders::MOST {
+            return Err(format!("node {node} of the join has {most} messages"));
+        }
         for &ring in rings {
             self.connection(random, ring, joined).map_err(|line| format!("{}: {line}", ring.name()))?;
         }
@@ -315,13 +332,15 @@ impl fmt::Display for Trial {
 #[derive(Clone, Copy, Default)]
 pub struct Tally {
     /// By answer.
-    answers: [u64; 17],
+    answers: [u64; ANSWERS],
     one_buffer: u64,
-    /// Of the accepted: those of a join, of rings that events led to, with 64 nodes, with 1,024 messages, with a view.
+    /// Of the accepted: those of a join, of rings that events led to, with 64 nodes, with 1,024 messages, with a sender
+    /// at its bound, with a view.
     of_join: u64,
     reached: u64,
     full: u64,
     crowded: u64,
+    talkative: u64,
     viewed: u64,
     events: u64,
     accepted_events: u64,
@@ -336,6 +355,7 @@ impl Tally {
         self.reached += other.reached;
         self.full += other.full;
         self.crowded += other.crowded;
+        self.talkative += other.talkative;
         self.viewed += other.viewed;
         self.events += other.events;
         self.accepted_events += other.accepted_events;
@@ -351,6 +371,7 @@ impl Tally {
             self.reached += trial.reached as u64;
             self.full += (n == 64) as u64;
             self.crowded += (m == 1_024) as u64;
+            self.talkative += (look::busiest(joined).1 == senders::MOST) as u64;
             let theirs = look::messages(&trial.first)..m;
             self.viewed += theirs.into_iter().any(|position| look::message_type(joined, position) == 4) as u64;
         }
@@ -359,11 +380,12 @@ impl Tally {
 
 impl fmt::Display for Tally {
     fn fmt(&self, f: &mut fmt::Formatter) -> fmt::Result {
-        let Tally { answers, one_buffer, of_join, reached, full, crowded, viewed, events, accepted_events, .. } = self;
-        writeln!(f, "{} joins, {one_buffer} of one buffer; answers 0 to 16: {answers:?}", answers.iter().sum::<u64>())?;
+        let Tally { answers, one_buffer, of_join, reached, full, crowded, talkative, viewed, .. } = self;
+        writeln!(f, "{} joins, {one_buffer} of one buffer; answers 0 to 17: {answers:?}", answers.iter().sum::<u64>())?;
         write!(f, "  accepted: {reached} of rings that events led to, {of_join} of a join, {full} with 64 nodes, ")?;
-        writeln!(f, "{crowded} with 1024 messages, {viewed} with a view that rises")?;
+        writeln!(f, "{crowded} with 1024 messages, {talkative} with 256 of a sender, {viewed} with a view that rises")?;
         let Tested { starts, points, released, .. } = self.tested;
+        let Tally { events, accepted_events, .. } = self;
         write!(f, "  {events} events on them, {accepted_events} accepted; demand 3: {points} points tested, ")?;
         write!(f, "against {starts} chosen points, {released} links released")
     }

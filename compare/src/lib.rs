@@ -26,6 +26,7 @@ pub mod routes;
 pub mod screens;
 pub mod script;
 pub mod self_test;
+pub mod senders;
 pub mod shorten;
 pub mod speed;
 #[cfg(feature = "library")]
@@ -39,6 +40,9 @@ use ring::Ring;
 
 /// "A ring fills 13,441 words of 32 bits."
 pub const LENGTH: usize = 13_441;
+
+/// Answers are from 0 to 17.
+pub const ANSWERS: usize = 18;
 
 /// The library, where it is linked, and the reference.
 pub fn fast_rings() -> Vec<&'static dyn Ring> {

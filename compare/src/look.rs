@@ -45,6 +45,20 @@ pub fn sender(words: &[u32], position: usize) -> usize {
     (words[8_321 + 5 * position] >> 4 & 63) as usize
 }
 
+/// How many messages each node has in flight.
+pub fn of_senders(words: &[u32]) -> [usize; 64] {
+    let mut counts = [0; 64];
+    (0..messages(words)).for_each(|position| counts[sender(words, position)] += 1);
+    counts
+}
+
+/// A node of which the most messages are in flight, the lowest of such, and how many they are.
+pub fn busiest(words: &[u32]) -> (usize, usize) {
+    let counts = of_senders(words);
+    let most = counts.into_iter().max().unwrap_or(0);
+    (counts.iter().position(|&count| count == most).unwrap_or(0), most)
+}
+
 /// The receiver of the message at a position.
 pub fn receiver(words: &[u32], position: usize) -> usize {
     (words[8_321 + 5 * position] >> 10 & 63) as usize

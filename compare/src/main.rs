@@ -12,7 +12,7 @@ use std::time::Instant;
 const USAGE: &str = "compare [all | agree | unbroken | self-test | speed | stack | stage | vectors]
     [seed=1] [events=5000000] [damaged=1000000] [routes=EVENTS/10] [reaches=EVENTS/10]
     [previews=EVENTS/10] [screens=EVENTS/10] [joins=EVENTS/25] [nodes=64] [threads=CORES]
-    [mixes=gentle,chaos,garbage,replacement]
+    [mixes=gentle,chaos,garbage,replacement,talkative]
     [vectors=FOLDER] [slip=NAME] [seeds=5]";
 
 struct Options {

@@ -5,8 +5,9 @@
 
 mod joins;
 mod reaches;
+mod senders;
 
-use crate::ring::{Conductor, Ring, Routed, Sides, Technician};
+use crate::ring::{play_each, Conductor, Ring, Routed, Sides, Technician};
 use crate::LENGTH;
 use std::collections::BTreeSet;
 
@@ -227,6 +228,28 @@ pub enum Slip {
     ReachKeyFirst,
     /// A reach to key 16,777,216 is made.
     ReachKeyAbove,
+    /// A sender has at most 255 messages travelling.
+    Sender255,
+    /// A sender has at most 257 messages travelling.
+    Sender257,
+    /// Refusal 17 before refusal 11.
+    SenderFirst,
+    /// An echo that is answered counts its message as one of the answering node's.
+    SenderEchoed,
+    /// Counted are the messages that a node is to receive.
+    SenderReceives,
+    /// An answer is never refused with 17.
+    SenderAnswers,
+    /// Words with 257 of a sender don't read as a ring, but no event is refused with 17.
+    SenderNeverFull,
+    /// Words with 257 of a sender read as a ring; only events are refused, with 17.
+    SenderAnyRing,
+    /// Refusal 17 only where not even the first message of an event fits.
+    SenderOneFits,
+    /// In a list a lost message still counts for its sender.
+    SenderLost,
+    /// A polite off is never refused with 17.
+    SenderLeaves,
     /// Reads as a ring with a commit stamp one above the clock.
     CommitAboveClock,
     /// Reads as a ring with a node as its own spare.
@@ -244,7 +267,7 @@ pub enum Slip {
 }
 
 impl Slip {
-    pub const ALL: [Slip; 114] = [
+    pub const ALL: [Slip; 125] = [
         Slip::StampNotAbove,
         Slip::CommitZero,
         Slip::AskerAsSpare,
@@ -352,6 +375,17 @@ impl Slip {
         Slip::ReachRefused0,
         Slip::ReachKeyFirst,
         Slip::ReachKeyAbove,
+        Slip::Sender255,
+        Slip::Sender257,
+        Slip::SenderFirst,
+        Slip::SenderEchoed,
+        Slip::SenderReceives,
+        Slip::SenderAnswers,
+        Slip::SenderNeverFull,
+        Slip::SenderAnyRing,
+        Slip::SenderOneFits,
+        Slip::SenderLost,
+        Slip::SenderLeaves,
         Slip::CommitAboveClock,
         Slip::OwnSpare,
         Slip::ReceiverInView,
@@ -551,6 +585,7 @@ impl State {
             && (keys.len() == n || self.has(Slip::EqualKeys))
             && (0..n).all(|x| (0..n).all(|z| x == z || self.pair_fits(x, z)))
             && self.messages.iter().all(|message| self.message_fits(message))
+            && self.senders_fit()
     }
 
     fn pair_fits(&self, x: usize, z: usize) -> bool {
@@ -1164,10 +1199,10 @@ impl Plain {
             return Err(refusal);
         }
         let mut state = self.read(words)?;
+        let acting = state.acting(word);
         state.play(word)?;
-        let room = if self.slip == Some(Slip::FullPoolEarly) { POOL - 1 } else { POOL };
-        if state.messages.len() > room {
-            return Err(11);
+        if let Some(refusal) = state.left_refusal(word, acting) {
+            return Err(refusal);
         }
         words.copy_from_slice(&state.encode());
         Ok(())
@@ -1288,6 +1323,15 @@ impl Ring for Plain {
 
     fn leafset_of(&self, words: &[u32], node: u32) -> (u32, u64) {
         self.try_leafset(words, node).map_or_else(|refusal| (refusal, 0), |set| (0, set))
+    }
+
+    fn play_all(&self, words: &mut [u32], list: &[u32], answers: &mut [u8]) -> u32 {
+        let (answer, _) = self.groups(words);
+        let mut lost = [0; 64];
+        if answer == 0 {
+            play_each(list, answers, |word| self.play_in_list(words, word, &mut lost));
+        }
+        answer
     }
 
     fn connected(&self, words: &[u32], a: u32, b: u32) -> (u32, bool) {

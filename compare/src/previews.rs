@@ -2,7 +2,7 @@
 
 use crate::random::Random;
 use crate::ring::Ring;
-use crate::LENGTH;
+use crate::{ANSWERS, LENGTH};
 use std::fmt;
 
 /// A preview to ask for: the event word, and how many words of the second buffer are lent.
@@ -94,7 +94,7 @@ impl fmt::Display for Old {
 #[derive(Clone, Copy, Default)]
 pub struct Tally {
     /// By answer.
-    answers: [u64; 12],
+    answers: [u64; ANSWERS],
 }
 
 impl Tally {
@@ -113,6 +113,6 @@ impl Tally {
 
 impl fmt::Display for Tally {
     fn fmt(&self, f: &mut fmt::Formatter) -> fmt::Result {
-        write!(f, "{} previews; answers 0 to 11: {:?}", self.count(), self.answers)
+        write!(f, "{} previews; answers 0 to 17: {:?}", self.count(), self.answers)
     }
 }

@@ -92,6 +92,14 @@ impl Technician {
         Technician { conductor: Conductor::EMPTY, candidates: [0; 64], stamps: [0; 4_096], spares: [0; 4_096] };
 }
 
+/// Plays words one by one, and writes the answer of each to its place, if there is one.
+pub fn play_each(list: &[u32], answers: &mut [u8], mut play: impl FnMut(u32) -> u32) {
+    for (place, &word) in list.iter().enumerate() {
+        let answer = play(word) as u8;
+        answers.get_mut(place).into_iter().for_each(|place| *place = answer);
+    }
+}
+
 pub trait Ring: Sync {
     fn name(&self) -> &'static str;
 
@@ -113,10 +121,7 @@ pub trait Ring: Sync {
     fn play_all(&self, words: &mut [u32], list: &[u32], answers: &mut [u8]) -> u32 {
         let (answer, _) = self.groups(words);
         if answer == 0 {
-            for (place, &word) in list.iter().enumerate() {
-                let answer = self.play(words, word) as u8;
-                answers.get_mut(place).into_iter().for_each(|place| *place = answer);
-            }
+            play_each(list, answers, |word| self.play(words, word));
         }
         answer
     }

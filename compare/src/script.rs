@@ -15,10 +15,13 @@ pub enum Mix {
     /// Many links, timers 2 and 3 and their deliveries, so that requests and acknowledgements (types 9 and 10) are
     /// often in flight together.
     Replacement,
+    /// One node's contacts and timers far more often than the others', and few deliveries, so that it stands near its
+    /// 256 messages for long.
+    Talkative,
 }
 
 impl Mix {
-    pub const ALL: [Mix; 4] = [Mix::Gentle, Mix::Chaos, Mix::Garbage, Mix::Replacement];
+    pub const ALL: [Mix; 5] = [Mix::Gentle, Mix::Chaos, Mix::Garbage, Mix::Replacement, Mix::Talkative];
 
     pub fn named(name: &str) -> Option<Mix> {
         Mix::ALL.into_iter().find(|mix| mix.name() == name)
@@ -36,11 +39,13 @@ impl Mix {
             Mix::Chaos => [30, 6, 6, 15, 20, 80, 350, 60, 0],
             Mix::Garbage => [30, 6, 6, 15, 20, 80, 350, 60, 250],
             Mix::Replacement => [6, 2, 2, 6, 0, 60, 800, 10, 0],
+            Mix::Talkative => [10, 1, 4, 4, 4, 150, 200, 60, 4],
         };
         let [timer_0, timer_2, timer_3, timer_4, no_timer, sweep, restart] = match self {
             Mix::Gentle => [40, 20, 20, 15, 1, 2, 0],
             Mix::Chaos | Mix::Garbage => [30, 30, 30, 30, 5, 2, 5],
             Mix::Replacement => [4, 20, 40, 4, 1, 10, 6],
+            Mix::Talkative => [40, 20, 20, 20, 1, 1, 1],
         };
         [
             (On, on),
@@ -96,18 +101,27 @@ pub struct Script {
     waiting: Vec<u32>,
     /// Events are mostly at these nodes: some that link up densely, or all.
     circle: Vec<usize>,
+    /// The talkative one, where there is such a one.
+    talker: Option<u32>,
 }
 
 impl Script {
     pub fn new(mut random: Random, mix: Mix, n: usize) -> Script {
-        let crowd = random.pick(&[3, 20, 80, 300, 900, 2_000]);
-        let contacts = random.pick(&[100, 100, 25, 5]);
+        let talkative = mix == Mix::Talkative;
+        let crowds: &[usize] = if talkative { &[900, 2_000] } else { &[3, 20, 80, 300, 900, 2_000] };
+        let crowd = random.pick(crowds);
+        let contacts = if talkative { 100 } else { random.pick(&[100, 100, 25, 5]) };
         let share = random.pick(&[60, 90, 100]);
-        let waiting = (0..n as u32).filter(|_| random.percent(share)).map(|x| 9 << 28 | x).collect();
+        let mut waiting: Vec<u32> = (0..n as u32).filter(|_| random.percent(share)).map(|x| 9 << 28 | x).collect();
         let size = if mix == Mix::Replacement { 4 + random.below(7) } else { n };
         let first = random.below(n);
         let circle = (0..size.min(n)).map(|k| (first + k) % n).collect();
-        Script { random, mix, n, crowd, contacts, waiting, circle }
+        let talker = (talkative && n > 1).then(|| random.below(n) as u32);
+        if let Some(x) = talker {
+            let talk: Vec<u32> = (0..230 + random.below(30)).map(|_| random.below(n) as u32).collect();
+            waiting.splice(0..0, talk.into_iter().map(|y| 12 << 28 | y << 6 | x).chain([9 << 28 | x]));
+        }
+        Script { random, mix, n, crowd, contacts, waiting, circle, talker }
     }
 
     fn side(&mut self) -> u32 {
@@ -198,8 +212,16 @@ impl Script {
         }
     }
 
-    /// Mostly a node that runs, or is off, as wished; sometimes any, also one that the ring doesn't have.
+    /// The talkative one, where there is such a one and nodes that run are wished, more often than not; else any.
     fn node(&mut self, words: &[u32], running: bool) -> u32 {
+        match self.talker {
+            Some(x) if running && self.random.percent(60) => x,
+            _ => self.any_node(words, running),
+        }
+    }
+
+    /// Mostly a node that runs, or is off, as wished; sometimes any, also one that the ring doesn't have.
+    fn any_node(&mut self, words: &[u32], running: bool) -> u32 {
         if self.random.percent(2) {
             return self.random.below(64) as u32;
         }
@@ -215,7 +237,7 @@ impl Script {
     /// A notice or contact at a running node, the other mostly a running one too.
     fn of_two(&mut self, kind: u32, words: &[u32]) -> u32 {
         let running = self.random.percent(90);
-        kind << 28 | self.node(words, running) << 6 | self.node(words, true)
+        kind << 28 | self.any_node(words, running) << 6 | self.node(words, true)
     }
 
     /// A notice at a running node about one that is off, where there is such a one, or else timer 4.
@@ -232,6 +254,9 @@ impl Script {
     /// Often the oldest, the newest or any message; sometimes a position that the ring doesn't have.
     fn position(&mut self, words: &[u32]) -> u32 {
         let messages = look::messages(words);
+        if let Some(position) = self.to_talker(words) {
+            return position as u32;
+        }
         let position = match self.random.below(100) {
             _ if messages == 0 => self.random.below(3),
             0..=1 => messages + self.random.below(2),
@@ -240,6 +265,14 @@ impl Script {
             _ => self.random.below(messages),
         };
         position.min(1_023) as u32
+    }
+
+    /// A message to the talkative node, sometimes.
+    fn to_talker(&mut self, words: &[u32]) -> Option<usize> {
+        let messages = look::messages(words);
+        let x = self.talker.filter(|_| messages > 0 && self.random.percent(30))? as usize;
+        let start = self.random.below(messages);
+        (start..messages).chain(0..start).find(|&position| look::receiver(words, position) == x)
     }
 
     /// Bit 10, so many times of a hundred: of a deliver it makes an echo, of a lose no event.

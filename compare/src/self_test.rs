@@ -16,6 +16,10 @@ const PARTING: [Slip; 2] = [Slip::ReleaseAtTimer3, Slip::ReleaseWithoutHold];
 /// Wrong programs whose previews mislead: found by the ring, or by the event after one, without another implementation.
 const MISLEADING: [Slip; 2] = [Slip::PreviewPlays, Slip::PreviewUnplayed];
 
+/// Wrong programs that leave a sender with more messages than it may have: found by that, without another
+/// implementation.
+const TALKING: [Slip; 4] = [Slip::Sender257, Slip::SenderNeverFull, Slip::SenderOneFits, Slip::SenderLeaves];
+
 /// Wrong programs whose routes end elsewhere: found on converged rings alone, without another implementation.
 const ASTRAY: [Slip; 2] = [Slip::RouteTieOther, Slip::RouteDistanceOnly];
 
@@ -47,21 +51,19 @@ pub fn run(plan: &Plan, only: Option<&str>) -> usize {
         let wrong = Plain { slip: Some(slip) };
         !finds(&agreement, &[&Reference, &wrong], slip, "difference", only.is_some())
     });
-    let by_demand_3 = PARTING.into_iter().filter(wanted).filter(|&slip| {
-        let wrong = Plain { slip: Some(slip) };
-        !finds(&demand_3, &[&wrong], slip, "demand 3", only.is_some())
-    });
-    let by_preview = MISLEADING.into_iter().filter(wanted).filter(|&slip| {
-        let wrong = Plain { slip: Some(slip) };
-        !finds(&agreement, &[&wrong], slip, "preview", only.is_some())
-    });
+    let alone = |plan: &Plan, slips: &[Slip], way: &str| {
+        let slips = slips.iter().copied().filter(wanted);
+        slips.filter(|&slip| !finds(plan, &[&Plain { slip: Some(slip) }], slip, way, only.is_some())).count()
+    };
     let by_end = ASTRAY.into_iter().filter(wanted).filter(|&slip| !goes_astray(plan, slip));
     let by_owner = STRAYING.into_iter().filter(wanted);
     let by_owner = by_owner.filter(|&slip| !reaches_wrongly(plan, slip, &[&Plain { slip: Some(slip) }]));
     let by_pair = TELLING.into_iter().filter(wanted).filter(|&slip| !tells(plan, slip));
     let by_difference = by_join.count() + by_reach.count() + by_difference.count();
-    let alone = by_demand_3.count() + by_preview.count() + by_end.count() + by_owner.count() + by_pair.count();
-    by_difference + alone
+    let by_themselves = alone(&demand_3, &PARTING, "demand 3")
+        + alone(&agreement, &MISLEADING, "preview")
+        + alone(&agreement, &TALKING, "bound");
+    by_difference + by_themselves + by_end.count() + by_owner.count() + by_pair.count()
 }
 
 fn joins_wrongly(plan: &Plan, slip: Slip, show: bool) -> bool {

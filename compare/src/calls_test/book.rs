@@ -1,14 +1,22 @@
 //! The commands written so far, with the lines that they have to give. Every case says the answer that document 01 demands;
 //! values and words are those of the plain implementation, with which the reference has to agree.
 
-use super::machine::{Command, Line, Machine};
+use super::machine::{differs, Command, Line, Machine};
 use super::tally::{count, kind, Tally, ECHO};
 use crate::events::{deliver, echo, on, timer};
 use crate::look;
-use crate::plain::Plain;
+use crate::plain::{Plain, Slip};
 use crate::reference::Reference;
 use crate::ring::{Conductor, Ring, Routed, Sides, Technician};
 use crate::LENGTH;
+
+/// Where a section begins: the machine as it is there, and how much is written.
+struct Section {
+    name: &'static str,
+    machine: Machine<'static>,
+    input: usize,
+    output: usize,
+}
 
 pub struct Book {
     plain: Machine<'static>,
@@ -18,6 +26,7 @@ pub struct Book {
     pub input: Vec<u8>,
     pub output: String,
     pub tally: Tally,
+    sections: Vec<Section>,
 }
 
 impl Book {
@@ -29,11 +38,28 @@ impl Book {
             input: Vec::new(),
             output: String::new(),
             tally: Tally::default(),
+            sections: Vec::new(),
         }
     }
 
     pub fn section(&mut self, name: &'static str) {
         self.tally.section = name;
+        let (machine, input, output) = (self.plain.clone(), self.input.len(), self.output.len());
+        self.sections.push(Section { name, machine, input, output });
+    }
+
+    /// Whether a wrong program gives other lines for some section, from where the right one begins it: until it has
+    /// given other lines it is where the right one is. The section of its own is tried first.
+    pub fn notices(&self, slip: Slip) -> bool {
+        let name = format!("{slip:?}").to_lowercase();
+        let mut places: Vec<usize> = (0..self.sections.len()).collect();
+        places.sort_by_key(|&place| !name.starts_with(&self.sections[place].name[..4]));
+        places.into_iter().any(|place| {
+            let Section { machine, input, output, .. } = &self.sections[place];
+            let next = self.sections.get(place + 1);
+            let (end, last) = next.map_or((self.input.len(), self.output.len()), |next| (next.input, next.output));
+            differs(&Plain { slip: Some(slip) }, machine, &self.input[*input..end], &self.output[*output..last])
+        })
     }
 
     /// Lends so many words to the calls from now on.

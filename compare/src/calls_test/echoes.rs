@@ -24,7 +24,7 @@ pub fn write(book: &mut Book) {
 }
 
 /// Messages of each type to node 0, and whether it sends one on each while it holds 1, 2 and 3.
-fn to_node_0() -> [(Message, bool); 16] {
+pub fn to_node_0() -> [(Message, bool); 16] {
     [
         (Message::new(1, 4, 0), true),
         (Message::new(2, 4, 0), false),
@@ -49,7 +49,7 @@ fn to_node_0() -> [(Message, bool); 16] {
 }
 
 /// Node 0 holds 1, 2 and 3; node 1 lies outside its leafset, has commit 6 and spare 5, and is a candidate, too.
-fn hold_three(book: &mut Book) {
+pub fn hold_three(book: &mut Book) {
     [2, 3].into_iter().for_each(|z| book.hold(0, z, 5, 64));
     book.hold(0, 1, 6, 5);
     book.candidate(0, 1);
@@ -204,12 +204,11 @@ fn spent_clock(book: &mut Book) {
 fn full_pool(book: &mut Book) {
     for (message, answered) in to_node_0() {
         crowded(book, &KEYS, 1_023);
+        book.set_clock(0, CLOCK_LIMIT);
         hold_three(book);
         book.send(message);
-        let clock = look::clock(book.words(), 0);
-        book.set_clock(0, CLOCK_LIMIT);
         book.play(echo(1_023), 10);
-        book.set_clock(0, clock);
+        book.set_clock(0, 20);
         if answered {
             book.preview(echo(1_023), LENGTH, 11);
             book.play(echo(1_023), 11);
@@ -242,7 +241,7 @@ fn one_place_left(book: &mut Book) {
     }
 }
 
-/// Lists with echoes, replayed and on a ring that is there; and the pool filled by echoes of one message.
+/// Lists with echoes, replayed and on a ring that is there; and one message echoed until its receiver may send no more.
 fn lists(book: &mut Book) {
     let script = [
         (on(0), 0),
@@ -275,11 +274,11 @@ fn lists(book: &mut Book) {
         book.open(1, &keys, 0);
         book.play_all(3, &answers, places, 0);
     }
-    let mut answers = [0; 1_030];
-    answers[1_023..].fill(11);
+    let mut answers = [0; 260];
+    answers[256..].fill(17);
     book.open_running(1, &keys);
     book.play(contact(0, 1), 0);
-    book.fill_list(0, 1_030, echo(0));
-    book.play_all(0, &answers, 1_030, 0);
-    assert_eq!(look::messages(book.words()), 1_024);
+    book.fill_list(0, 260, echo(0));
+    book.play_all(0, &answers, 260, 0);
+    assert_eq!(look::messages(book.words()), 257);
 }

@@ -1,12 +1,15 @@
 //! Joins: what becomes of each part, rings at their limits, the refusals in their order, and events on joins.
 
 use super::book::{pair, Book, Message};
-use super::pool::crowded;
+use super::pool::{contacted, crowded, SIX};
 use crate::events::*;
 use crate::look;
 use crate::LENGTH;
 
 const LIMIT: u32 = 16_777_215;
+
+/// Six nodes more.
+const MORE: [u32; 6] = [15, 25, 35, 45, 55, 65];
 
 pub fn write(book: &mut Book) {
     book.section("joins");
@@ -20,6 +23,7 @@ pub fn write(book: &mut Book) {
     by_sides(book);
     by_tables(book);
     by_messages(book);
+    at_the_bound(book);
     one_group(book);
     joins_of_joins(book);
 }
@@ -157,9 +161,9 @@ fn chain(book: &mut Book, first: u32, n: u32) {
 /// 512 + 512, 1,024 + 0 and 0 + 1,024 messages, also of one node alone, which carries none.
 fn messages(book: &mut Book) {
     for (ours, theirs) in [(512, 512), (1_024, 0), (0, 1_024), (1_023, 1)] {
-        crowded(book, &[10, 20, 30], theirs);
+        crowded(book, &SIX, theirs);
         book.keep();
-        crowded(book, &[40, 50], ours);
+        crowded(book, &MORE, ours);
         old(book, ours);
         book.joined();
         book.take();
@@ -167,7 +171,7 @@ fn messages(book: &mut Book) {
         book.play(contact(0, 2), 11);
         book.play(deliver(ours.min(1_023)), 0);
     }
-    crowded(book, &[10, 20], 1_024);
+    crowded(book, &SIX, 1_024);
     book.keep();
     book.open(1, &[5], 0);
     book.joined();
@@ -197,11 +201,11 @@ fn old_words(book: &mut Book) {
         book.fill_third(at, at + 1, 5);
         book.joined();
     });
-    crowded(book, &[1, 2], 1_024);
+    crowded(book, &SIX, 1_024);
     book.keep();
-    chain(book, 5_000, 62);
+    chain(book, 5_000, 58);
     book.join([LENGTH; 2], 14);
-    book.open(1, &keys(5_000, 62), 0);
+    book.open(1, &keys(5_000, 58), 0);
     book.joined();
     book.open(1, &[3], 0);
     book.joined();
@@ -210,7 +214,7 @@ fn old_words(book: &mut Book) {
 /// 1, by each buffer and by several, on two rings, on damaged ones, and where 14, 15 and 16 apply.
 fn wrong_length(book: &mut Book) {
     let wrong = [0, 1, 8_321, LENGTH - 1, LENGTH + 1];
-    let clash = |book: &mut Book| crowded(book, &[100, 20], 1_000);
+    let clash = |book: &mut Book| crowded(book, &[100, 20, 30, 40, 50], 1_000);
     let fit = |book: &mut Book| four(book, 100);
     for (first, second) in [(0, 0), (1, 0), (0, 1), (1, 1)] {
         let build = |book: &mut Book, sort| if sort == 0 { fit(book) } else { clash(book) };
@@ -248,7 +252,7 @@ fn not_a_ring(book: &mut Book) {
         four(book, 1_000);
         book.keep();
         if clashing {
-            crowded(book, &[1_000, 2_000, 3_000], 1_020);
+            crowded(book, &[1_000, 2_000, 3_000, 4_000, 5_000], 1_020);
         } else {
             four(book, 100);
         }
@@ -287,10 +291,10 @@ fn by_sides(book: &mut Book) {
         book.joined();
     }
     // At A = B = 1 with 1,024 messages beside one.
-    crowded(book, &[10, 20], 1_024);
+    crowded(book, &SIX, 1_024);
     book.keep();
     old(book, 5);
-    for (keys, sides, answer) in [([30, 40], (1, 2), 14), ([10, 40], (2, 1), 14), ([30, 40], (1, 1), 16)] {
+    for (keys, sides, answer) in [([35, 45], (1, 2), 14), ([10, 45], (2, 1), 14), ([35, 45], (1, 1), 16)] {
         book.open(sides, &keys, 0);
         book.send(Message::new(1, 0, 1));
         book.join([LENGTH; 2], answer);
@@ -317,9 +321,9 @@ fn by_tables(book: &mut Book) {
         book.join([LENGTH; 2], 15);
         book.join_itself(LENGTH, 15);
     }
-    crowded(book, &[10, 20], 1_024);
+    crowded(book, &SIX, 1_024);
     book.keep();
-    for keys in [vec![20, 30], keys(5_000, 63)] {
+    for keys in [vec![20, 35], keys(5_000, 63)] {
         crowded(book, &keys, 1);
         book.join([LENGTH; 2], 15);
     }
@@ -348,12 +352,54 @@ fn shared_keys(book: &mut Book) {
 /// 16 by 512 + 513, 1 + 1,024 and 1,024 + 1,024.
 fn by_messages(book: &mut Book) {
     for (ours, theirs, answer) in [(512, 513, 16), (513, 512, 16), (1, 1_024, 16), (1_024, 1_024, 16), (513, 511, 0)] {
-        crowded(book, &[10, 20], theirs);
+        crowded(book, &SIX, theirs);
         book.keep();
-        crowded(book, &[30, 40, 50], ours);
+        crowded(book, &MORE, ours);
         old(book, 7);
         book.join([LENGTH; 2], answer);
     }
+}
+
+/// Senders with 256 messages in either ring: their numbers rise with the second's, and each stays at its bound. With
+/// 257 in either one it is no ring.
+fn at_the_bound(book: &mut Book) {
+    for (ours, theirs, answer) in [(256, 256, 0), (257, 256, 6), (256, 257, 6), (257, 257, 6), (255, 256, 0)] {
+        talkative(book, &SIX, theirs);
+        book.keep();
+        talkative(book, &MORE, ours);
+        old(book, ours + theirs);
+        book.join([LENGTH; 2], answer);
+    }
+    book.joined();
+    book.take();
+    book.screens();
+    [contact(7, 0), contact(7, 11)].into_iter().for_each(|word| book.play(word, 17));
+    book.play(contact(1, 7), 0);
+    book.play(contact(1, 2), 17);
+    [timer(7, 0), contact(6, 7), contact(0, 1)].into_iter().for_each(|word| book.play(word, 0));
+    full_and_full(book);
+}
+
+/// 256 contacts of node 1 to node 2, or 255, and one of node 3's, whose sender becomes node 1 where they are to be 257.
+fn talkative(book: &mut Book, keys: &[u32], messages: u32) {
+    contacted(book, keys, &[(1, 2, messages.min(256)), (3, 2, 1)]);
+    if messages == 257 {
+        let at = 8_321 + 5 * 256;
+        book.set_word(at, book.words()[at] & !(63 << 4) | 1 << 4);
+    }
+}
+
+/// Two of each ring with 256, so that the pool is full: 11 before 17.
+fn full_and_full(book: &mut Book) {
+    contacted(book, &SIX, &[(0, 1, 256), (5, 1, 256)]);
+    book.keep();
+    contacted(book, &MORE, &[(0, 1, 256), (5, 1, 256)]);
+    book.joined();
+    book.take();
+    [contact(0, 1), contact(11, 0), contact(2, 1)].into_iter().for_each(|word| book.play(word, 11));
+    book.play(lose(0), 0);
+    book.play(contact(11, 0), 17);
+    book.play(contact(0, 11), 0);
 }
 
 /// Two rings of which each is one group: a contact across, delivered and answered, makes one of them.

@@ -1,6 +1,7 @@
 //! Lists of words on a ring that is there, by one call: the places that take the answers, and the two refusals.
 
 use super::book::{Book, Message};
+use super::pool::SIX;
 use crate::events::*;
 use crate::LENGTH;
 
@@ -19,15 +20,18 @@ pub fn write(book: &mut Book) {
     not_a_ring(book);
 }
 
-/// 1,200 words, which fill the pool: the last are refused by 11, and past the places they are dropped.
+/// 1,200 words, which fill the pool: the last are refused by 11, or by 17 where they are all of one node, and past the
+/// places they are dropped.
 fn more_words_than_places(book: &mut Book) {
-    let mut answers = [0; 1_200];
-    answers[1_024..].fill(11);
-    for places in [PLACES, 3, 0] {
-        book.open(1, &KEYS, 0);
-        book.play(on(0), 0);
-        book.fill_list(0, 1_200, contact(0, 1));
-        book.play_all(0, &answers, places, 0);
+    for (senders, accepted, refusal) in [(5, 1_024, 11), (1, 256, 17)] {
+        let mut answers = [0; 1_200];
+        answers[accepted..].fill(refusal);
+        for places in [PLACES, 3, 0] {
+            book.open_running(1, &SIX);
+            let part = 1_200 / senders;
+            (0..senders).for_each(|x| book.fill_list(part * x, part * (x + 1), contact(x, 5)));
+            book.play_all(0, &answers, places, 0);
+        }
     }
     // Every place takes a refusal, so that an accepted word later is seen.
     book.fill_list(0, 1_200, 0);

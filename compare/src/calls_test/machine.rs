@@ -72,6 +72,7 @@ impl fmt::Display for Line {
 /// A buffer of one word more than a ring, a list with keys and after them a script, places for the answers of its words
 /// or for the nodes of a route, a second buffer for previews and joins and a third one for joins, as long as the first,
 /// and what the screens show.
+#[derive(Clone)]
 pub struct Machine<'a> {
     ring: &'a dyn Ring,
     pub words: Vec<u32>,
@@ -108,6 +109,12 @@ impl<'a> Machine<'a> {
             technician: Box::new(Technician::EMPTY),
             part: Vec::new(),
         }
+    }
+
+    /// The same with another implementation.
+    fn with<'b>(&self, ring: &'b dyn Ring) -> Machine<'b> {
+        let Machine { words, list, places, second, third, conductor, technician, part, .. } = self.clone();
+        Machine { ring, words, list, places, second, third, conductor, technician, part }
     }
 
     pub fn run(&mut self, command: Command) -> Option<Line> {
@@ -264,9 +271,9 @@ fn digest(words: impl Iterator<Item = u32>) -> u64 {
     words.fold(0, |digest, word| (31 * digest + word as u64) % (1 << 32))
 }
 
-/// Whether an implementation gives other lines for the commands in these bytes.
-pub fn differs(ring: &dyn Ring, input: &[u8], output: &str) -> bool {
-    let mut machine = Machine::new(ring);
+/// Whether an implementation gives other lines for the commands in these bytes, from a machine as it is.
+pub fn differs(ring: &dyn Ring, machine: &Machine, input: &[u8], output: &str) -> bool {
+    let mut machine = machine.with(ring);
     let lines = input.chunks_exact(24).filter_map(|bytes| machine.run(Command::from_bytes(bytes)));
     !lines.map(|line| line.to_string()).eq(output.split_inclusive('\n'))
 }

@@ -15,11 +15,11 @@ mod refusals;
 mod replays;
 mod routes;
 mod screens;
+mod senders;
 mod steps;
 mod tally;
 
 pub use book::Book;
-pub use machine::differs;
 
 /// Every case.
 pub fn all() -> Book {
@@ -38,5 +38,6 @@ pub fn all() -> Book {
     screens::write(&mut book);
     joins::write(&mut book);
     reaches::write(&mut book);
+    senders::write(&mut book);
     book
 }

@@ -14,12 +14,28 @@ pub fn write(book: &mut Book) {
     invite_and_ask(book);
 }
 
-/// Replays an opening with all nodes on and so many contacts from node 0 to node 1.
-pub fn crowded(book: &mut Book, keys: &[u32], messages: u32) {
+/// Six nodes: with node 0 free the others can have 1,024 messages.
+pub const SIX: [u32; 6] = [10, 20, 30, 40, 50, 60];
+
+/// Replays an opening with all nodes on and contacts: from one node to another, so many times.
+pub fn contacted(book: &mut Book, keys: &[u32], contacts: &[(u32, u32, u32)]) {
     let n = keys.len() as u32;
     book.list(n, &(0..n).map(on).collect::<Vec<u32>>());
-    book.fill_list(2 * n, 2 * n + messages, contact(0, 1));
-    book.replay(1, keys, n + messages, 0);
+    let mut end = 2 * n;
+    for &(x, y, times) in contacts {
+        book.fill_list(end, end + times, contact(x, y));
+        end += times;
+    }
+    book.replay(1, keys, end - n, 0);
+}
+
+/// So with as many contacts in all, of each node but node 0 an equal part, the last node's first: to node 1, and of
+/// node 1 to node 0.
+pub fn crowded(book: &mut Book, keys: &[u32], messages: u32) {
+    let others = keys.len() as u32 - 1;
+    let part = |x: u32| messages / others + (x <= messages % others) as u32;
+    let contacts: Vec<(u32, u32, u32)> = (1..=others).rev().map(|x| (x, (x != 1) as u32, part(x))).collect();
+    contacted(book, keys, &contacts);
 }
 
 /// 64 nodes with 1,024 messages. Node 0 lies before key 0 and holds all others, each with a spare; node 5 has a candidate.
@@ -70,28 +86,28 @@ fn accepted(book: &mut Book) {
     book.play(contact(5, 0), 0);
 }
 
-/// Two nodes with 1,024 messages: 7 before 11.
+/// Five nodes with 1,024 messages, the fewest of which one can send no more by 11 alone: 7 before 11.
 fn smallest(book: &mut Book) {
-    crowded(book, &[10, 20], 1_024);
+    crowded(book, &SIX[..5], 1_024);
     book.play(contact(0, 1), 11);
-    [contact(0, 2), contact(2, 0), notice(0, 2), timer(2, 0), on(2)].into_iter().for_each(|word| book.play(word, 7));
+    [contact(0, 5), contact(5, 0), notice(0, 5), timer(5, 0), on(5)].into_iter().for_each(|word| book.play(word, 7));
     // The last contact of the list is refused.
-    crowded(book, &[10, 20], 1_025);
+    crowded(book, &SIX, 1_025);
     // Not every answer has a place.
-    crowded(book, &[10, 20], 1_100);
+    crowded(book, &SIX, 1_100);
 }
 
 /// A timer and a polite off that send two messages, with two places left, and with one.
 fn last_places(book: &mut Book) {
     for (messages, answer) in [(1_021, 0), (1_022, 0), (1_023, 11), (1_024, 11)] {
-        crowded(book, &[10, 20, 30], messages);
+        crowded(book, &SIX, messages);
         book.hold(0, 1, 1, 64);
         book.hold(0, 2, 1, 64);
         book.play(timer(0, 0), answer);
     }
     // A polite off likewise, with the clock spent: it is no 10.
     for (messages, answer) in [(1_022, 0), (1_023, 11), (1_024, 11)] {
-        crowded(book, &[10, 20, 30], messages);
+        crowded(book, &SIX, messages);
         book.hold(0, 1, 1, 64);
         book.hold(0, 2, 1, 64);
         book.set_clock(0, CLOCK_LIMIT);

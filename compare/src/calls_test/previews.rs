@@ -2,7 +2,7 @@
 
 use super::book::{Book, Message};
 use super::event_word::unnamed_bits;
-use super::pool::crowded;
+use super::pool::{crowded, SIX};
 use crate::events::*;
 use crate::LENGTH;
 
@@ -165,7 +165,7 @@ fn spent_clock(book: &mut Book) {
 
 /// 11; and what would be left of a full pool, over which a small ring's preview comes.
 fn full_pool(book: &mut Book) {
-    crowded(book, &[10, 20, 30], 1_024);
+    crowded(book, &SIX, 1_024);
     old_words(book, 104);
     book.hold(0, 1, 1, 64);
     each(book, [contact(0, 1), timer(0, 0), leave(0), echo(0), echo(1_023)], 11);

@@ -5,8 +5,8 @@ use crate::events::*;
 use crate::ring::Sides;
 use crate::LENGTH;
 
-/// A script of each mix, and one with many echoes, drawn once and kept: later changes of the mixes leave the cases as
-/// they are.
+/// A script of each mix but the talkative one, and one with many echoes, drawn once and kept: later changes of the mixes
+/// leave the cases as they are.
 const STORED: [&[u8]; 5] = [
     include_bytes!("replayed/gentle.bin"),
     include_bytes!("replayed/chaos.bin"),

@@ -2,7 +2,7 @@
 //! and refused calls over other values.
 
 use super::book::{pair, Book, Message};
-use super::pool::crowded;
+use super::pool::{crowded, SIX};
 use crate::events::*;
 use crate::{look, LENGTH};
 
@@ -188,7 +188,7 @@ fn parts(book: &mut Book) {
 
 /// A part to the last word, and one message less.
 fn full_pool(book: &mut Book) {
-    crowded(book, &[10, 20, 30], 1_024);
+    crowded(book, &SIX, 1_024);
     book.screens();
     book.play(deliver(1_023), 0);
     book.screens();

@@ -57,7 +57,7 @@ pub fn kind(word: u32) -> u32 {
 /// The answers that each call can give.
 const CALLS: [(&str, u32, &[u32]); 17] = [
     ("open", Command::OPEN, &[0, 1, 2, 3]),
-    ("play", Command::PLAY, &[0, 1, 4, 5, 6, 7, 8, 9, 10, 11]),
+    ("play", Command::PLAY, &[0, 1, 4, 5, 6, 7, 8, 9, 10, 11, 17]),
     ("leafset", Command::LEAFSET, &[0, 1, 6, 7, 8]),
     ("connected", Command::CONNECTED, &[0, 1, 6, 7, 8]),
     ("groups", Command::GROUPS, &[0, 1, 6]),
@@ -66,7 +66,7 @@ const CALLS: [(&str, u32, &[u32]); 17] = [
     ("replay", Command::REPLAY, &[0, 1, 2, 3]),
     ("play_all", Command::PLAY_ALL, &[0, 1, 6]),
     ("route", Command::ROUTE, &[0, 1, 6, 7, 8, 12, 13]),
-    ("preview", Command::PREVIEW, &[0, 1, 4, 5, 6, 7, 8, 9, 10, 11]),
+    ("preview", Command::PREVIEW, &[0, 1, 4, 5, 6, 7, 8, 9, 10, 11, 17]),
     ("conductor", Command::CONDUCTOR, &[0, 1, 6]),
     ("technician", Command::TECHNICIAN, &[0, 1, 6]),
     ("messages", Command::MESSAGES, &[0]),
@@ -78,20 +78,20 @@ const CALLS: [(&str, u32, &[u32]); 17] = [
 /// The answers that playing or previewing a word of each event kind can give.
 const EVENTS: [(&str, u32, &[u32]); 8] = [
     ("on", 9, &[0, 1, 4, 6, 7, 9, 10]),
-    ("off", 10, &[0, 1, 4, 6, 7, 8, 11]),
+    ("off", 10, &[0, 1, 4, 6, 7, 8, 11, 17]),
     ("notice", 11, &[0, 1, 4, 5, 6, 7, 8, 10]),
-    ("contact", 12, &[0, 1, 4, 5, 6, 7, 8, 10, 11]),
-    ("timer", 13, &[0, 1, 4, 6, 7, 8, 10, 11]),
-    ("deliver", 14, &[0, 1, 4, 6, 7, 10]),
+    ("contact", 12, &[0, 1, 4, 5, 6, 7, 8, 10, 11, 17]),
+    ("timer", 13, &[0, 1, 4, 6, 7, 8, 10, 11, 17]),
+    ("deliver", 14, &[0, 1, 4, 6, 7, 10, 17]),
     ("lose", 15, &[0, 1, 4, 6, 7]),
-    ("echo", ECHO, &[0, 1, 4, 6, 7, 10, 11]),
+    ("echo", ECHO, &[0, 1, 4, 6, 7, 10, 11, 17]),
 ];
 
 /// The answers in a replay's places, where no clock is ever spent.
-const REPLAYED: [u32; 7] = [0, 4, 5, 7, 8, 9, 11];
+const REPLAYED: [u32; 8] = [0, 4, 5, 7, 8, 9, 11, 17];
 
 /// The answers in the places of a list on a ring.
-const LISTED: [u32; 8] = [0, 4, 5, 7, 8, 9, 10, 11];
+const LISTED: [u32; 9] = [0, 4, 5, 7, 8, 9, 10, 11, 17];
 
 /// The fewest and the most nodes, without messages and with a full pool.
 const LIMITS: [(u32, usize); 3] = [(1, 0), (64, 0), (64, 1_024)];

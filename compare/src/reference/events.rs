@@ -1,6 +1,7 @@
 //! Event words, and what each event does to a valid ring ("Events").
 
 use super::layout::*;
+use super::messages::of_sender;
 use super::place::{Message, Place};
 use super::sets::{contains, members};
 
@@ -53,7 +54,7 @@ fn refuse_if(condition: bool, refusal: u32) -> Result<(), u32> {
 }
 
 impl Place<'_> {
-    /// Plays the event: refused, with 7 to 11, nothing is written.
+    /// Plays the event: refused, with 7 to 11 or 17, nothing is written.
     pub fn play(&mut self, event: Event) -> Result<(), u32> {
         match event {
             Event::On(x) => self.on(x),
@@ -86,8 +87,20 @@ impl Place<'_> {
         refuse_if(self.clock(x) == LOW24, 10)
     }
 
-    fn room_for(&self, count: u32) -> Result<(), u32> {
-        refuse_if(self.header.messages + count as usize > POOL, 11)
+    /// Room for so many more messages, which x sends.
+    fn room_for(&self, x: usize, count: u32) -> Result<(), u32> {
+        refuse_if(self.header.messages + count as usize > POOL, 11)?;
+        self.room_of(x, count)
+    }
+
+    /// The messages are counted only where all of them are more than a sender's part.
+    fn room_of(&self, x: usize, count: u32) -> Result<(), u32> {
+        let count = count as usize;
+        if count == 0 || self.header.messages + count <= OF_SENDER {
+            return Ok(());
+        }
+        let messages = &self.words[MESSAGES..message_at(self.header.messages)];
+        refuse_if(of_sender(messages, x) + count > OF_SENDER, 17)
     }
 
     fn on(&mut self, x: usize) -> Result<(), u32> {
@@ -103,7 +116,7 @@ impl Place<'_> {
         self.known(x)?;
         self.running(x)?;
         let told = if polite { self.held(x) } else { 0 };
-        self.room_for(told.count_ones())?;
+        self.room_for(x, told.count_ones())?;
         self.send_each(x, 13, told);
         self.switch_off(x);
         Ok(())
@@ -130,7 +143,7 @@ impl Place<'_> {
         self.known(y)?;
         self.running(x)?;
         self.clock_can_rise(x)?;
-        self.room_for(1)?;
+        self.room_for(x, 1)?;
         self.tick(x);
         self.send(Message::new(1, x, y), 0);
         Ok(())
@@ -162,7 +175,7 @@ impl Place<'_> {
     fn invite_and_ask(&mut self, x: usize) -> Result<(), u32> {
         let (held, candidates) = (self.held(x), self.candidates(x));
         let invited = candidates & !held & self.table().leafset(x, candidates | held);
-        self.room_for(invited.count_ones() + held.count_ones())?;
+        self.room_for(x, invited.count_ones() + held.count_ones())?;
         self.tick(x);
         self.send_each(x, 5, invited);
         self.send_each(x, 3, held);
@@ -173,7 +186,7 @@ impl Place<'_> {
     /// Timer 2.
     fn ask_outside(&mut self, x: usize) -> Result<(), u32> {
         let outside = self.outside(x);
-        self.room_for(outside.count_ones())?;
+        self.room_for(x, outside.count_ones())?;
         self.tick(x);
         self.send_each(x, 7, outside);
         Ok(())
@@ -183,7 +196,7 @@ impl Place<'_> {
     fn replace(&mut self, x: usize) -> Result<(), u32> {
         let outside = self.outside(x);
         let replaceable = members(outside).filter(|&z| self.spare(x, z) != NONE).fold(0, |set, z| set | 1 << z);
-        self.room_for(u64::count_ones(replaceable))?;
+        self.room_for(x, u64::count_ones(replaceable))?;
         let now = self.tick(x);
         for z in members(replaceable) {
             let spare = self.spare(x, z) as usize;
@@ -196,7 +209,7 @@ impl Place<'_> {
     fn deloopy(&mut self, x: usize) -> Result<(), u32> {
         let table = self.table();
         let successor = table.successor(x, self.held(x)).filter(|&successor| table.passes_zero(x, successor));
-        self.room_for(successor.is_some() as u32)?;
+        self.room_for(x, successor.is_some() as u32)?;
         self.tick(x);
         if let Some(successor) = successor {
             self.send(Message::new(11, x, successor).about(x as u32), 0);
@@ -204,7 +217,8 @@ impl Place<'_> {
         Ok(())
     }
 
-    /// Where the message stays the answer needs room; else one is taken out, and at most one sent.
+    /// Where the message stays the answer needs room; else one is taken out, which is not the receiver's, and at most
+    /// one sent.
     fn deliver(&mut self, position: usize, stays: bool) -> Result<(), u32> {
         self.in_flight(position)?;
         let message = self.message(position);
@@ -218,8 +232,11 @@ impl Place<'_> {
         self.clock_can_rise(x)?;
         let view = self.view(position);
         if stays {
-            self.room_for(self.answers(message) as u32)?;
+            self.room_for(x, self.answers(message) as u32)?;
         } else {
+            if self.header.messages > OF_SENDER {
+                self.room_of(x, self.answers(message) as u32)?;
+            }
             self.take_out(position);
         }
         let now = self.tick(x);

@@ -9,8 +9,9 @@ pub type Words = [u32; WORDS];
 /// Nodes at most, and the subject or spare that means none.
 pub const NODES: usize = 64;
 pub const NONE: u32 = 64;
-/// Messages at most.
+/// Messages at most, and of one sender.
 pub const POOL: usize = 1_024;
+pub const OF_SENDER: usize = 256;
 
 /// The words of the pairs and of the messages start here.
 pub const PAIRS: usize = 129;

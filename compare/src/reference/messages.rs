@@ -10,6 +10,33 @@ pub fn messages_fit(messages: &[u32], n: usize) -> bool {
     unsafe { all_fit(messages, n) }
 }
 
+/// Whether no sender has more than its part: nothing to count where all together have no more. Four counts of each, in
+/// turns, so that messages of one sender in a row don't wait for each other.
+pub fn senders_fit(messages: &[u32]) -> bool {
+    if messages.len() <= OF_SENDER * MESSAGE {
+        return true;
+    }
+    let mut counts = [[0u16; NODES]; 4];
+    let mut fours = messages.chunks_exact(4 * MESSAGE);
+    for four in &mut fours {
+        for (place, counts) in counts.iter_mut().enumerate() {
+            counts[sender(four[MESSAGE * place])] += 1;
+        }
+    }
+    fours.remainder().chunks_exact(MESSAGE).for_each(|message| counts[0][sender(message[0])] += 1);
+    let [a, b, c, d] = &counts;
+    (0..NODES).fold(0, |most, s| (a[s] + b[s] + c[s] + d[s]).max(most)) <= OF_SENDER as u16
+}
+
+/// How many of the messages have this sender.
+pub fn of_sender(messages: &[u32], x: usize) -> usize {
+    messages.chunks_exact(MESSAGE).filter(|message| sender(message[0]) == x).count()
+}
+
+fn sender(head: u32) -> usize {
+    (head >> 4 & 63) as usize
+}
+
 #[target_feature(enable = "sse2")]
 fn all_fit(messages: &[u32], n: usize) -> bool {
     let fixed = fixed_bits(n);

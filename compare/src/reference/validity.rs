@@ -2,7 +2,7 @@
 //! words are many, so that the compiler makes vector code of the loops.
 
 use super::layout::*;
-use super::messages::messages_fit;
+use super::messages::{messages_fit, senders_fit};
 use super::row::Row;
 
 /// The header, where the words read as a ring.
@@ -13,6 +13,7 @@ pub fn reads_as_ring(words: &Words) -> Option<Header> {
     let fits = nodes_fit(words, n)
         && pairs_fit(words, n)
         && messages_fit(&words[MESSAGES..end], n)
+        && senders_fit(&words[MESSAGES..end])
         && all_zero(&words[end..]);
     fits.then_some(header)
 }

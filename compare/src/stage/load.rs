@@ -1,6 +1,6 @@
 //! What a stage asks of the ring at its usual rate: events a second, messages in flight, steps of the clocks.
 
-use super::simulated::{Conditions, Stage, Tally, CLOCK_SPENT, MILLISECOND, POOL_FULL};
+use super::simulated::{Conditions, Stage, Tally, CLOCK_SPENT, MILLISECOND, POOL_FULL, SENDER_FULL};
 use super::starts::Start;
 use super::{in_threads, Plan, LEAVES};
 use crate::events::{off, on};
@@ -51,8 +51,15 @@ impl<'a> Load<'a> {
         let mut stage = self.stage(start, Conditions { mean_delay, ..Conditions::GOOD });
         (0..MINUTE).all(|_| {
             stage.second();
-            stage.tally.answers[POOL_FULL] == 0
+            stage.tally.answers[POOL_FULL] + stage.tally.answers[SENDER_FULL] == 0
         })
+    }
+
+    /// What came of the first minute.
+    fn first_minute(&self, start: Start, mean_delay: u64) -> Tally {
+        let mut stage = self.stage(start, Conditions { mean_delay, ..Conditions::GOOD });
+        (0..MINUTE).for_each(|_| stage.second());
+        stage.tally
     }
 
     /// The least mean delay that it does not bear, in milliseconds, by halving.
@@ -95,6 +102,29 @@ pub fn report(ring: &dyn Ring, plan: &Plan) {
             let events = tally.answers[0] as f64 / MINUTE as f64;
             print!("{n:>4}{leaves:>4}{events:>10.0}{:>8.0}{:>8}", tally.mean(), tally.most);
             println!("{:>10}{:>10}{played:>10.0}", overflows[0], overflows[1]);
+        }
+    }
+}
+
+/// By A = B, start and mean delay: the most messages of one node, and of all, in flight in the first minute, and what
+/// was refused with 17 and 11.
+pub fn report_senders(ring: &dyn Ring, plan: &Plan) {
+    let Plan { seeds, nodes, .. } = plan;
+    println!("\nThe first minute of {nodes} nodes, {seeds} runs of each: most of one node and of all in flight;");
+    println!("how often an event was refused with 17, and with 11");
+    println!(" A=B delay  start        one     all        17        11");
+    let starts = || Start::UNSETTLED.into_iter().chain([Start::Settled]);
+    let delays = [10, 100, 250];
+    for (leaves, delay) in LEAVES.into_iter().flat_map(|leaves| delays.map(|delay| (leaves, delay))) {
+        for start in starts() {
+            let tallies = in_threads(plan.threads, plan.seeds, |run| {
+                let load = Load { ring, seed: plan.seed + run as u64, n: plan.nodes, leaves };
+                load.first_minute(start, delay * MILLISECOND)
+            });
+            let most = |of: fn(&Tally) -> usize| tallies.iter().map(of).max().unwrap();
+            let refused = |answer: usize| tallies.iter().map(|tally| tally.answers[answer]).sum::<u64>();
+            print!("{leaves:>4}{delay:>6}  {:<12}{:>4}", start.name(), most(|tally| tally.most_of_node));
+            println!("{:>8}{:>10}{:>10}", most(|tally| tally.most), refused(SENDER_FULL), refused(POOL_FULL));
         }
     }
 }

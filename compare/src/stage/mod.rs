@@ -41,6 +41,7 @@ pub fn report(ring: &dyn Ring, plan: &Plan) {
     uneven::report(ring, plan);
     uneven::report_joined(ring, plan);
     load::report(ring, plan);
+    load::report_senders(ring, plan);
     load::report_clocks(ring, plan);
 }
 

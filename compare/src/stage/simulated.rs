@@ -4,6 +4,7 @@ use crate::events::{deliver, lose, timer, TIMERS};
 use crate::look;
 use crate::random::Random;
 use crate::ring::Ring;
+use crate::ANSWERS;
 use std::collections::VecDeque;
 
 /// In microseconds, as every time here.
@@ -12,6 +13,7 @@ const SECOND: u64 = 1_000_000;
 
 pub const CLOCK_SPENT: usize = 10;
 pub const POOL_FULL: usize = 11;
+pub const SENDER_FULL: usize = 17;
 
 #[derive(Clone, Copy, Debug)]
 pub struct Conditions {
@@ -40,7 +42,7 @@ pub enum Firing {
     AtOnce,
 }
 
-/// What becomes of a timer that is refused with 11.
+/// What becomes of a timer that is refused with 11 or 17.
 #[derive(Clone, Copy, Debug, PartialEq)]
 pub enum Refused {
     /// Nothing, until its moment in the next second.
@@ -53,9 +55,10 @@ pub enum Refused {
 #[derive(Clone, Default)]
 pub struct Tally {
     /// How often each answer was given.
-    pub answers: [u64; 12],
-    /// The most messages in flight.
+    pub answers: [u64; ANSWERS],
+    /// The most messages in flight, and of one node.
     pub most: usize,
+    pub most_of_node: usize,
     /// Messages in flight, summed over the time.
     in_flight: u64,
     time: u64,
@@ -136,14 +139,14 @@ impl<'a> Stage<'a> {
     /// A timer that still waits does not fire once more.
     fn fire(&mut self, word: u32) {
         let waits = self.waiting.contains(&word);
-        if !waits && self.play(word) == POOL_FULL && self.conditions.refused == Refused::TriedAgain {
+        if !waits && is_full(self.play(word)) && self.conditions.refused == Refused::TriedAgain {
             self.waiting.push_back(word);
         }
     }
 
     fn try_waiting(&mut self) {
         while let Some(&word) = self.waiting.front() {
-            if self.play(word) == POOL_FULL {
+            if is_full(self.play(word)) {
                 return;
             }
             self.waiting.pop_front();
@@ -160,9 +163,15 @@ impl<'a> Stage<'a> {
                 self.arrivals.push(self.now + delay as u64);
             }
             self.tally.most = self.tally.most.max(self.arrivals.len());
+            self.tally.most_of_node = self.tally.most_of_node.max(look::busiest(&self.words).1);
         }
         answer
     }
+}
+
+/// Whether there was no room, of all or of the sender.
+fn is_full(answer: usize) -> bool {
+    answer == POOL_FULL || answer == SENDER_FULL
 }
 
 fn timers(firing: Firing, random: &mut Random, n: usize) -> Vec<(u64, u32)> {
