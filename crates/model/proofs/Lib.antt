@@ -41,4 +41,6 @@ pub mod SenderBound
 pub mod ScreenRows
 pub mod Screens
 pub mod Unreached
+pub mod ListenerRows
+pub mod Listeners
 pub mod Theorems

@@ -14,6 +14,7 @@ use Rattle.model.specs.Route.{routeRefusals, routeAnswer}
 use Rattle.model.specs.Reach.{reachRefusals, reachAnswer}
 use Rattle.model.specs.Preview.{previewRefusals, previewAnswer}
 use Rattle.model.specs.Join.{joinRefusals, joinAnswer}
+use Rattle.model.specs.Listener.{Listener, watchRefusals, watchAnswer, hearRefusals, hearAnswer}
 use Rattle.model.specs.Bench.{scriptRefusals, scriptAnswer}
 use Rattle.model.specs.declared.event.Event.{Event}
 use Rattle.model.specs.declared.event.Event.the-variants.{On, Off, Notice, Contact, Timer, Deliver, Lose}
@@ -76,3 +77,11 @@ lowest-at-joining first second third = lowest-given 0 (joinRefusals first second
 pub lowest-at-script : (ws : List ℕ) → LowestOf (scriptRefusals ws) (scriptAnswer ws)
 unfolding scriptAnswer
 lowest-at-script ws = lowest-given 0 (scriptRefusals ws) refl
+
+pub lowest-at-watching : (s : ℕ) → LowestOf (watchRefusals s) (watchAnswer s)
+unfolding watchAnswer
+lowest-at-watching s = lowest-given 0 (watchRefusals s) refl
+
+pub lowest-at-hearing : (l : Listener) (s : ℕ) → LowestOf (hearRefusals l s) (hearAnswer l s)
+unfolding hearAnswer
+lowest-at-hearing l s = lowest-given 0 (hearRefusals l s) refl

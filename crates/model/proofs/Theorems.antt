@@ -10,7 +10,7 @@ use borrow.Author.Tests.{eq-eqb, ne-eqb}
 use lib.ListN.{length, getD}
 use Rattle.model.specs.Choice.{if_then_else_}
 use Rattle.model.specs.Key.{clockwise}
-use Rattle.model.specs.Sets.{Set, without, count, toBits, noneNode}
+use Rattle.model.specs.Sets.{Set, empty, without, count, toBits, noneNode}
 use Rattle.model.specs.Leafset.{Table, size, key, leafset, beats, nearest}
 use Rattle.model.specs.Ring.{Own, Message, Ring, initial, holds, isRunning, messageAt, sentBy}
 use Rattle.model.specs.Types.{types}
@@ -27,6 +27,9 @@ use Rattle.model.specs.Reach.{spans, here, oneMore, owner, next, reach, 
 use Rattle.model.specs.Preview.{previewBuffer, Call, PreviewsChangeNothing}
 use Rattle.model.specs.Screens.{conductorOf, messagesOf, Alike}
 use Rattle.model.specs.Connection.{Connected, connected, groups, CountsGroups}
+use Rattle.model.specs.Listener.{Listener, emptyListener, grown, silent, answerOf, noticesOf, leaves, listenerOf, emptyRecord, afterRecord}
+use Rattle.model.specs.Listener.{met, tickAt, ticksBetween, noticeAt, watchedBefore, hearingAt, Unheard, noticesBetween, noticedBefore}
+use Rattle.model.specs.Listener as listener
 use Rattle.model.specs.Join.{join, joinBuffer, Joinable, FromOneRing, firstPart, secondPart}
 use Rattle.model.specs.ConnectivityPreserved.{Reached, opened, joined, Unbroken, ConnectivityPreserved}
 use Rattle.model.specs.declared.event.Event.{Event}
@@ -54,6 +57,7 @@ use Rattle.model.proofs.Previews as previewed
 use Rattle.model.proofs.Echoes.{EchoLeaves, AlikeButFull}
 use Rattle.model.proofs.Echoes as echoes
 use Rattle.model.proofs.Screens as screens
+use Rattle.model.proofs.Listeners as listeners
 use Rattle.model.proofs.Joins as joins
 use Rattle.model.proofs.WellFormedPlay as play-well
 use Rattle.model.proofs.SenderBound.{namesPosition}
@@ -65,7 +69,7 @@ use Rattle.model.proofs.Unreached as unreached
 -- "The lowest number that applies is given, and none otherwise", at each call: their statements are in Lowest
 pub use Rattle.model.proofs.Lowest.{lowest-at-writing, lowest-at-reading, lowest-at-opening, lowest-at-playing, lowest-at-previewing}
 pub use Rattle.model.proofs.Lowest.{lowest-at-leafset, lowest-at-connection, lowest-at-ring, lowest-at-routing, lowest-at-reaching}
-pub use Rattle.model.proofs.Lowest.{lowest-at-joining, lowest-at-script}
+pub use Rattle.model.proofs.Lowest.{lowest-at-joining, lowest-at-watching, lowest-at-hearing, lowest-at-script}
 
 -- ---- event words
 
@@ -355,6 +359,77 @@ screen-tells ws vs e f p = screens.screen-tells ws vs e f p
 -- "exactly 5 times m of them"
 pub messages-many : (ws : List ℕ) → readsAsRing ws ≡ true → length (messagesOf ws) ≡ 5 * length (decode ws .messages)
 messages-many ws e = screens.messages-many ws e
+
+-- ---- the listener
+
+-- "In every list of calls from an empty record": each of these is of any list, of any length, refused calls included, and of any node
+module _ (cs : List listener.Call) (s : ℕ) where
+  -- "A watched stand not heard for its full window is noticed on exactly that tick": call i is the last to hear it before call k
+  pub noticed-exactly : (i k : ℕ) → hearingAt cs s i ≡ true → i < k → Unheard cs s i k
+      → noticeAt cs s k ≡ (tickAt cs k && eqb (suc (ticksBetween cs i k)) (met cs (suc i) .window s))
+  noticed-exactly i k h l u = listeners.noticed-exactly cs s i k h l u
+
+  -- "once per silence"
+  pub once-per-silence : (i k : ℕ) → hearingAt cs s i ≡ true → i < k → Unheard cs s i k
+      → noticesBetween cs s i k ≡ (if ltb (ticksBetween cs i k) (met cs (suc i) .window s) then 0 else 1)
+  once-per-silence i k h l u = listeners.once-per-silence cs s i k h l u
+
+  -- "a stand with fewer ticks after each hearing, up to the next one or the list's end, than its window, the first watching counted as a
+  -- hearing, is never noticed", and only such a stand
+  pub never-noticed :
+      ((k : ℕ) → noticeAt cs s k ≡ false)
+      ↔ ((i k : ℕ) → hearingAt cs s i ≡ true → i < k → Unheard cs s i k → ticksBetween cs i k < met cs (suc i) .window s)
+  never-noticed = listeners.never-noticed cs s
+
+  -- "starts with .. window 4": until the first notice it is 4, so fewer than four ticks will do, and are needed
+  pub four-until-noticed : (k : ℕ) → ((j : ℕ) → j < k → noticeAt cs s j ≡ false) → watchedBefore cs s k ≡ true → met cs k .window s ≡ 4
+  four-until-noticed k none e = listeners.four-until-noticed cs s k none e
+
+  pub fewer-than-four :
+      ((k : ℕ) → noticeAt cs s k ≡ false)
+      ↔ ((i k : ℕ) → hearingAt cs s i ≡ true → i < k → Unheard cs s i k → ticksBetween cs i k < 4)
+  fewer-than-four = listeners.fewer-than-four cs s
+
+  -- "If it had been noticed, that is, its silence had reached its window": the two are the same, and no silence passes its window
+  pub noticed-is-silent : (k : ℕ) → watchedBefore cs s k ≡ true
+      → (noticedBefore cs s k ≡ silent (met cs k) s) × (noticedBefore cs s k ≡ eqb (met cs k .silence s) (met cs k .window s))
+  noticed-is-silent k e = listeners.noticed-is-silent cs s k e
+
+  -- "the window also grows by 1, up to 255": on exactly the hearings after a notice; it never falls
+  pub window-grows : (k : ℕ) → watchedBefore cs s k ≡ true
+      → met cs (suc k) .window s ≡ (if hearingAt cs s k && noticedBefore cs s k then grown (met cs k .window s) else met cs k .window s)
+  window-grows k e = listeners.window-grows cs s k e
+
+  pub window-bounds : (k : ℕ) → watchedBefore cs s k ≡ true → (4 ≤ met cs k .window s) × (met cs k .window s ≤ 255)
+  window-bounds k e = listeners.window-bounds cs s k e
+
+  pub window-never-falls : (j k : ℕ) → j ≤ k → met cs j .window s ≤ met cs k .window s
+  window-never-falls j k l = listeners.window-never-falls cs s j k l
+
+  -- the record tells who is watched; such a node has a last hearing, so that the above speaks of every call that meets it watched
+  pub met-watched : (k : ℕ) → met cs k .watched s ≡ watchedBefore cs s k
+  met-watched k = listeners.met-watched cs s k
+
+  pub last-hearing : (k : ℕ) → watchedBefore cs s k ≡ true → (i : ℕ) × (i < k) × (hearingAt cs s i ≡ true) × Unheard cs s i k
+  last-hearing k e = listeners.last-hearing cs s k e
+
+  -- and any other has silence 0 and window 0, and no notice
+  pub met-unwatched : (k : ℕ) → watchedBefore cs s k ≡ false → (met cs k .silence s ≡ 0) × (met cs k .window s ≡ 0)
+  met-unwatched k e = listeners.met-unwatched cs s k e
+
+  pub unwatched-unnoticed : (k : ℕ) → watchedBefore cs s k ≡ false → noticeAt cs s k ≡ false
+  unwatched-unnoticed k e = listeners.unwatched-unnoticed cs s k e
+
+-- "A refused call gives no notice and leaves the record."
+pub refused-leaves : (l : Listener) (c : listener.Call) → isAccepted (answerOf l c) ≡ false → (leaves l c ≡ l) × (noticesOf l c ≡ empty)
+refused-leaves l c e = listeners.refused-leaves l c e
+
+-- "an empty record" is all 0 by value; and the record by value, on which the code works, is what any list of calls leaves
+pub empty-by-value : listenerOf emptyRecord ≡ emptyListener
+empty-by-value = listeners.empty-by-value
+
+pub list-by-value : (cs : List listener.Call) → listenerOf (afterRecord emptyRecord cs) ≡ listener.after emptyListener cs
+list-by-value cs = listeners.list-by-value cs
 
 -- ---- joins
 

@@ -22,3 +22,4 @@ pub mod Reach
 pub mod Preview
 pub mod Screens
 pub mod Join
+pub mod Listener

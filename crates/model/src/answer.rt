@@ -19,4 +19,5 @@ pub enum Answer {
     TablesClash,
     TooManyMessages,
     SenderFull,
+    NotWatched,
 }
