@@ -42,7 +42,7 @@ enum mekvalgs_answer {
     MEKVALGS_NOT_AN_EVENT = 4,         /* kind, timer (also 1) or unnamed bit; when writing, a part too big */
     MEKVALGS_SAME_NODE = 5,            /* contact or notice where both nodes are one */
     MEKVALGS_NOT_A_RING = 6,           /* the words do not read as a ring */
-    MEKVALGS_OUT_OF_TABLE = 7,         /* a node not below n, or a position not below m */
+    MEKVALGS_OUT_OF_TABLE = 7,         /* a node not below n, of a listener above 63; a position not below m */
     MEKVALGS_NODE_OFF = 8,             /* at a node that is off, or a question about one */
     MEKVALGS_ALREADY_RUNNING = 9,      /* on, for a running node */
     MEKVALGS_CLOCK_SPENT = 10,         /* the clock is 16,777,215 and must rise */
@@ -52,7 +52,8 @@ enum mekvalgs_answer {
     MEKVALGS_SIDES_DIFFER = 14,        /* join: the two rings differ in A or B */
     MEKVALGS_TABLES_CLASH = 15,        /* join: more than 64 nodes, or a key that both have */
     MEKVALGS_TOO_MANY_MESSAGES = 16,   /* join: more than 1,024 messages */
-    MEKVALGS_SENDER_FULL = 17          /* more than 256 messages of the acting or answering node would be left */
+    MEKVALGS_SENDER_FULL = 17,         /* more than 256 messages of the acting or answering node would be left */
+    MEKVALGS_NOT_WATCHED = 18          /* hear: the node is not watched */
 };
 
 /* The kinds of event words. */
@@ -179,6 +180,22 @@ uint32_t mekvalgs_read_event(uint32_t word, uint32_t *kind, uint32_t *first, uin
  * one that is not 0, off or deliver one that is neither 0 nor 1, and timer one that is none of 0, 2, 3 and 4), 5; the
  * word is 0 where refused. */
 uint32_t mekvalgs_write_event(uint32_t kind, uint32_t first, uint32_t second, uint32_t *word);
+
+/* A listener needs no ring. It is which nodes are watched, bit s for node s, and of each watched node its silence, the
+ * ticks since it was heard as far as its window, and its window. The caller keeps the three, all 0 at first, and lends
+ * them to each call; a refused call changes nothing of them. */
+
+/* Watches a node: it starts with silence 0 and window 4. Watching it again changes nothing.
+ * Answers 0, 7 (a node above 63). */
+uint32_t mekvalgs_watch(uint64_t *watched, uint8_t silences[64], uint8_t windows[64], uint32_t node);
+
+/* A tick: adds 1 to each watched node's silence that is below its window. Returns no answer but the notices, bit s for
+ * node s: the nodes whose silence thereby reaches its window. Each may be played on a ring as MEKVALGS_NOTICE. */
+uint64_t mekvalgs_tick(uint64_t watched, uint8_t silences[64], const uint8_t windows[64]);
+
+/* Hears a watched node: its silence becomes 0, and where it had reached the window, the window grows by 1, up to 255.
+ * Answers 0, 7 (a node above 63), 18. */
+uint32_t mekvalgs_hear(uint64_t watched, uint8_t silences[64], uint8_t windows[64], uint32_t node);
 
 /* The words of a ring, for reading between calls.
  *

@@ -27,6 +27,7 @@ pub fn number(answer: Answer) -> u32
         Answer::TablesClash => 15,
         Answer::TooManyMessages => 16,
         Answer::SenderFull => 17,
+        Answer::NotWatched => 18,
     }
 }
 

@@ -124,7 +124,7 @@ played s w =
 
 -- ---- what is printed
 
--- an answer in words; 12 to 16 are no event's
+-- an answer in words; 12 to 16, and those after 17, are no event's
 abbrev pub answerTexts : List (List ℕ)
 answerTexts =
     ascii "accepted"

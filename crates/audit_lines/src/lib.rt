@@ -82,6 +82,7 @@ fn put_answer(out: &mut [u8], at: usize, answer: Answer) -> usize
                 b"refused, 17: a sender would have more than 256 in flight",
             )
         }
+        Answer::NotWatched => at,
     }
 }
 

@@ -26,7 +26,7 @@ use Rattle.call_questions.proofs.Asked
 use Rattle.mekvalgs.specs.Nodes.{nodeOf}
 
 -- a law of 64 for every number from 64 on is one of the cut number
-cut : {A : Type 0} (f : ℕ → A) (x : ℕ) → (64 ≤ x → f 64 ≡ f x) → f (nodeOf x) ≡ f x
+pub cut : {A : Type 0} (f : ℕ → A) (x : ℕ) → (64 ≤ x → f 64 ≡ f x) → f (nodeOf x) ≡ f x
 cut f x far = decide (ltb x 64) (λ e. rw e) (λ e. rw e (far (ltb-false x 64 e)))
 
 module _ (ws : List ℕ) where

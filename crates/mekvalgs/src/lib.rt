@@ -14,11 +14,16 @@ ghost use Rattle.model.specs.Reach.{reachOf};
 ghost use Rattle.model.specs.Screens.{conductorOf, technicianOf, stampsOf, sparesOf, messagesOf};
 ghost use Rattle.model.specs.Connection.{Connected};
 ghost use Rattle.model.specs.Events.{wordAnswer};
+ghost use Rattle.model.specs.Sets.{toBits};
+ghost use Rattle.model.specs.Listener.{Watch, Tick, Hear, watchAnswer, hearAnswer, noticesOf};
+ghost use Rattle.model.specs.Listener.{listenerOf, recordOf, leavesRecord};
 ghost use Rattle.call_play.specs.Replay.{PlayedAll, Replayed};
 ghost use Rattle.mekvalgs_event.specs.Parts.{numbers, readParts, partsAnswer, writeParts};
 ghost use Rattle.mekvalgs.specs.Nodes.{nodeOf};
 ghost use Rattle.mekvalgs.specs.Screens.{screenIn};
+ghost use Rattle.mekvalgs.specs.Listeners.{listenerIn};
 use call_open::open;
+use model::listener::ListenerRecord;
 use model::screen::ConductorScreen;
 use model::values::NodeNumber;
 
@@ -310,6 +315,81 @@ pub extern "C" fn mekvalgs_write_event(kind: u32, first: u32, second: u32, word:
     *word = written.word;
     let answer = written.answer;
     answers::number(answer)
+}
+
+// Watches node x.
+#[no_mangle]
+pub extern "C" fn mekvalgs_watch(
+    watched: &mut u64,
+    silences: &mut [u8; 64],
+    windows: &mut [u8; 64],
+    x: u32,
+) -> u32
+    ensures answer { λ r. ⌜ r ≡ watchAnswer x ⌝ }
+    ensures listener { λ _. ⌜ listenerIn (now (watched .exit)) (now (silences .exit)) (now (windows .exit))
+        ≡ leavesRecord (listenerIn (now (watched .entry)) (now (silences .entry)) (now (windows .entry))) (Watch x) ⌝ }
+{
+    let called = listener::watch(lent(*watched, *silences, *windows), node(x));
+    let left = called.listener;
+    *watched = left.watched;
+    put_counts(left, silences, windows);
+    let answer = called.answer;
+    answers::number(answer)
+}
+
+// A tick: the notices, bit s for node s.
+#[no_mangle]
+pub extern "C" fn mekvalgs_tick(watched: u64, silences: &mut [u8; 64], windows: &[u8; 64]) -> u64
+    ensures notices { λ r. ⌜ r ≡ toBits 64
+        (noticesOf (listenerOf (listenerIn watched (now (silences .entry)) (now (windows .entry)))) Tick) ⌝ }
+    ensures listener { λ _. ⌜ listenerIn watched (now (silences .exit)) (now (windows .exit))
+        ≡ leavesRecord (listenerIn watched (now (silences .entry)) (now (windows .entry))) Tick ⌝ }
+{
+    let ticked = listener::tick(lent(watched, *silences, *windows));
+    let left = ticked.listener;
+    let left_silences = left.silences;
+    *silences = left_silences;
+    ticked.notices
+}
+
+// Hears node x.
+#[no_mangle]
+pub extern "C" fn mekvalgs_hear(
+    watched: u64,
+    silences: &mut [u8; 64],
+    windows: &mut [u8; 64],
+    x: u32,
+) -> u32
+    ensures answer { λ r. ⌜ r
+        ≡ hearAnswer (listenerOf (listenerIn watched (now (silences .entry)) (now (windows .entry)))) x ⌝ }
+    ensures listener { λ _. ⌜ listenerIn watched (now (silences .exit)) (now (windows .exit))
+        ≡ leavesRecord (listenerIn watched (now (silences .entry)) (now (windows .entry))) (Hear x) ⌝ }
+{
+    let called = listener::hear(lent(watched, *silences, *windows), node(x));
+    let left = called.listener;
+    put_counts(left, silences, windows);
+    let answer = called.answer;
+    answers::number(answer)
+}
+
+fn lent(watched: u64, silences: [u8; 64], windows: [u8; 64]) -> ListenerRecord
+    ensures value { λ r. ⌜ r ≡ listenerIn watched silences windows ⌝ }
+    ensures whole { λ r. ⌜ r ≡ recordOf (listenerOf r) ⌝ }
+{
+    ListenerRecord {
+        watched,
+        silences,
+        windows,
+    }
+}
+
+fn put_counts(listener: ListenerRecord, silences: &mut [u8; 64], windows: &mut [u8; 64])
+    ensures value { λ _. ⌜ listenerIn (listener .watched) (now (silences .exit)) (now (windows .exit)) ≡ listener ⌝ }
+{
+    let left_silences = listener.silences;
+    let left_windows = listener.windows;
+    *silences = left_silences;
+    *windows = left_windows;
 }
 
 // The node of a number that may be too big for one: then 64, which is no node either.

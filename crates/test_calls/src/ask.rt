@@ -1,18 +1,19 @@
 // The calls that leave the words as they are.
-use super::command::Command;
+use super::command;
 use super::events;
 use super::events::node;
 use super::events::outcome;
 use super::line::Outcome;
 use model::values::NodeNumber;
+use test_lines::Command;
 
 pub fn ask(command: Command, words: &[u32]) -> Outcome {
     let number = command.number;
     match number {
-        Command::LEAFSET => leafset_of(words, node(command.a)),
-        Command::CONNECTED => connected(words, node(command.a), node(command.b)),
-        Command::GROUPS => groups(words),
-        Command::READ => events::read(command.a),
+        command::LEAFSET => leafset_of(words, node(command.a)),
+        command::CONNECTED => connected(words, node(command.a), node(command.b)),
+        command::GROUPS => groups(words),
+        command::READ => events::read(command.a),
         _ => events::write(command),
     }
 }

@@ -1,6 +1,6 @@
 // The public calls, by a command.
 use super::ask::ask;
-use super::command::Command;
+use super::command;
 use super::events::node;
 use super::events::outcome;
 use super::joins;
@@ -8,6 +8,8 @@ use super::line::Outcome;
 use super::memory;
 use super::screens;
 use call_open::open;
+use test_lines::Command;
+use test_lines::digests;
 
 pub fn call(
     command: Command,
@@ -21,16 +23,16 @@ pub fn call(
 ) -> Outcome {
     let number = command.number;
     match number {
-        Command::OPEN => opened(words, command, list),
-        Command::PLAY => outcome(call_play::play(words, command.a), 0),
-        Command::LEAFSET..=Command::WRITE => ask(command, words),
-        Command::REPLAY => replayed(words, command, list, places),
-        Command::PLAY_ALL => played_all(words, command, list, places),
-        Command::ROUTE => routed(words, command, places),
-        Command::REACH => reached(words, command),
-        Command::CONDUCTOR..=Command::MESSAGES => screens::show(command, words, stamps, spares),
-        Command::JOIN => joins::join(words, command, second, third),
-        Command::JOIN_ITSELF => joins::join_itself(words, command, second, third),
+        command::OPEN => opened(words, command, list),
+        command::PLAY => outcome(call_play::play(words, command.a), 0),
+        command::LEAFSET..=command::WRITE => ask(command, words),
+        command::REPLAY => replayed(words, command, list, places),
+        command::PLAY_ALL => played_all(words, command, list, places),
+        command::ROUTE => routed(words, command, places),
+        command::REACH => reached(words, command),
+        command::CONDUCTOR..=command::MESSAGES => screens::show(command, words, stamps, spares),
+        command::JOIN => joins::join(words, command, second, third),
+        command::JOIN_ITSELF => joins::join_itself(words, command, second, third),
         _ => previewed(words, command, second),
     }
 }
@@ -47,7 +49,7 @@ fn replayed(words: &mut [u32], command: Command, list: &[u32], places: &mut [u8]
     let end = memory::at_most(command.d, rest);
     let keys = &list[..n];
     let answer = call_play::replay(words, command.a, command.b, keys, &rest[..end], places);
-    outcome(answer, memory::digest_bytes(places))
+    outcome(answer, digests::digest_bytes(places))
 }
 
 // The value is the digest of all places, also of those that are not lent.
@@ -56,7 +58,7 @@ fn played_all(words: &mut [u32], command: Command, list: &[u32], places: &mut [u
     let from = memory::at_most(command.a, script);
     let end = memory::at_most_bytes(command.c, places);
     let answer = call_play::play_all(words, &script[from..], &mut places[..end]);
-    outcome(answer, memory::digest_bytes(places))
+    outcome(answer, digests::digest_bytes(places))
 }
 
 // The value has the digest of all places, also of those that are not lent, then end and hops, two decimal digits each.
@@ -65,7 +67,7 @@ fn routed(words: &[u32], command: Command, places: &mut [u8]) -> Outcome {
     let reply = call_route::route(words, node(command.a), command.b, &mut places[..end]);
     let answer = reply.answer;
     let digits = (reply.end.0 as u64) * 100 + reply.hops as u64;
-    outcome(answer, memory::digest_bytes(places) * 10_000 + digits)
+    outcome(answer, digests::digest_bytes(places) * 10_000 + digits)
 }
 
 // The value has end and hops, two decimal digits each.
@@ -79,5 +81,5 @@ fn reached(words: &[u32], command: Command) -> Outcome {
 fn previewed(words: &[u32], command: Command, second: &mut [u32]) -> Outcome {
     let end = memory::at_most(command.b, second);
     let answer = call_preview::preview(words, command.a, &mut second[..end]);
-    outcome(answer, memory::digest(second))
+    outcome(answer, digests::digest(second))
 }

@@ -1,10 +1,10 @@
 // Reading and writing event words, by a command.
-use super::command::Command;
 use super::line::Outcome;
 use model::answer::Answer;
 use model::event::Event;
 use model::event::Reading;
 use model::values::NodeNumber;
+use test_lines::Command;
 use word_event::word::EventWord;
 
 // The answer with its value.

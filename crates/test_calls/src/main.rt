@@ -11,8 +11,8 @@ mod screens;
 
 ghost use mathlib.Core.Path.{_≡_};
 ghost use lib.ListN.{length};
-use command::Command;
-use command::Next;
+use test_lines::Command;
+use test_lines::Next;
 use word_ring::place;
 
 // Each buffer has one word more than a ring.
@@ -64,13 +64,13 @@ fn run(
 {
     let number = command.number;
     match number {
-        Command::FILL_WORDS => memory::fill(words, command.a, command.b, command.c),
-        Command::FILL_LIST => memory::fill(list, command.a, command.b, command.c),
-        Command::FILL_SECOND => memory::fill(second, command.a, command.b, command.c),
-        Command::FILL_THIRD => memory::fill(third, command.a, command.b, command.c),
-        Command::KEEP => ring_ranges::copy(words, second),
-        Command::TAKE => ring_ranges::copy(third, words),
-        Command::FILL_SCREEN => memory::fill_all(stamps, spares, command.a, command.b),
+        command::FILL_WORDS => memory::fill(words, command.a, command.b, command.c),
+        command::FILL_LIST => memory::fill(list, command.a, command.b, command.c),
+        command::FILL_SECOND => memory::fill(second, command.a, command.b, command.c),
+        command::FILL_THIRD => memory::fill(third, command.a, command.b, command.c),
+        command::KEEP => ring_ranges::copy(words, second),
+        command::TAKE => ring_ranges::copy(third, words),
+        command::FILL_SCREEN => memory::fill_all(stamps, spares, command.a, command.b),
         _ => call(command, words, list, places, second, third, stamps, spares),
     }
 }
@@ -87,7 +87,7 @@ fn run_all(
     requires lengths { ⌜ (length (now words) ≡ 13442) × (length (now second) ≡ 13442) × (length (now third) ≡ 13442) ⌝ }
 {
     for _ in 0..MOST {
-        let next = command::read();
+        let next = test_lines::read();
         let Next::Command(command) = next else {
             return;
         };

@@ -1,10 +1,11 @@
 // The screens, by a command.
 ghost use Prim.Native.Nat.{_<_, _^_};
-use super::command::Command;
+use super::command;
 use super::events::outcome;
 use super::line::Outcome;
-use super::memory;
 use model::screen::ConductorScreen;
+use test_lines::Command;
+use test_lines::digests;
 
 pub fn show(
     command: Command,
@@ -14,8 +15,8 @@ pub fn show(
 ) -> Outcome {
     let number = command.number;
     match number {
-        Command::CONDUCTOR => conductor(words),
-        Command::TECHNICIAN => technician(words, stamps, spares),
+        command::CONDUCTOR => conductor(words),
+        command::TECHNICIAN => technician(words, stamps, spares),
         _ => messages(words),
     }
 }
@@ -31,9 +32,9 @@ fn digest(screen: ConductorScreen) -> u64
     ensures bound { λ r. ⌜ r < 2 ^ 32 ⌝ }
 {
     let numbers = [screen.sides.ahead, screen.sides.behind, screen.nodes];
-    let running = memory::digest_set(memory::digest(&numbers), screen.running);
-    let keys = memory::digest_on(running, &screen.keys);
-    memory::digest_sets(keys, &screen.leafsets)
+    let running = digests::digest_set(digests::digest(&numbers), screen.running);
+    let keys = digests::digest_on(running, &screen.keys);
+    digests::digest_sets(keys, &screen.leafsets)
 }
 
 // The value is the digest of what the conductor's screen has, of the candidates, the stamps and the spares.
@@ -41,10 +42,10 @@ fn technician(words: &[u32], stamps: &mut [u32; 4096], spares: &mut [u8; 4096]) 
     let reply = call_screens::technician(words, stamps, spares);
     let answer = reply.answer;
     let screen = reply.screen;
-    let candidates = memory::digest_sets(digest(screen.conductor), &screen.candidates);
+    let candidates = digests::digest_sets(digest(screen.conductor), &screen.candidates);
     outcome(
         answer,
-        memory::digest_bytes_on(memory::digest_on(candidates, stamps), spares),
+        digests::digest_bytes_on(digests::digest_on(candidates, stamps), spares),
     )
 }
 
@@ -53,6 +54,6 @@ fn messages(words: &[u32]) -> Outcome {
     let part = call_screens::messages(words);
     Outcome {
         answer: 0,
-        value: memory::digest(part) * 10_000 + (part.len() % 10_000) as u64,
+        value: digests::digest(part) * 10_000 + (part.len() % 10_000) as u64,
     }
 }

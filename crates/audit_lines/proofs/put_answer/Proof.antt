@@ -79,6 +79,10 @@ returns-18 : tie.Need-returns-18
 unfolding answerText
 returns-18 c = answered (c .before .before .before .before .before .enum-told18 .given .1) (c .before .before .put-bytes13 .ensures) refl (lit≤ tt)
 
+returns-19 : tie.Need-returns-19
+unfolding answerText
+returns-19 c = answered (c .enum-told19 .given .1) (put-none _ _) refl (lit≤ tt)
+
 pub put-answer-spec : {M : Type 1} → statement M
 put-answer-spec =
     tie.close
@@ -92,10 +96,10 @@ put-answer-spec =
     (λ c. search needs) (λ c. search needs) (λ c κs. search needs) (λ c. search needs) (λ c. search needs)
     (λ c κs. search needs) (λ c. search needs) (λ c. search needs) (λ c κs. search needs)
     (λ c. search needs) (λ c. search needs) (λ c. search needs) (λ c. search needs) (λ c. search needs)
-    (λ c. search needs) (λ c. search needs) (λ c κs. search needs)
+    (λ c. search needs) (λ c. search needs) (λ c κs. search needs) (λ c. search needs)
     (λ c. search needs) returns (λ c. search needs) returns-2
     (λ c. search needs) returns-3 (λ c. search needs) returns-4 (λ c. search needs) returns-5
     (λ c. search needs) returns-6 (λ c. search needs) returns-7 (λ c. search needs) returns-8
     (λ c. search needs) returns-9 (λ c. search needs) returns-10 (λ c. search needs) returns-11
     (λ c. search needs) returns-12 returns-13 returns-14 returns-15 returns-16 returns-17
-    (λ c. search needs) returns-18)
+    (λ c. search needs) returns-18 returns-19)

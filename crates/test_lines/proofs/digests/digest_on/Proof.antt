@@ -2,24 +2,24 @@ use mathlib.Core.Path.{_≡_}
 use Prim.Native.Nat.{_<_, _-_, _^_}
 use lib.ListN.{length}
 use borrow.Author.Needs.{needs}
-use Rattle.test_calls.proofs.memory.digest_bytes_on.Statement.{statement}
-use Rattle.test_calls.proofs.memory.digest_bytes_on.Tie as tie
+use Rattle.test_lines.proofs.digests.digest_on.Statement.{statement}
+use Rattle.test_lines.proofs.digests.digest_on.Tie as tie
 
 abbrev Inv-loop : tie.InvT-loop
-Inv-loop first bytes digest₀ i₀ i-end digest i = (i-end ≡ length bytes) × (digest < 2 ^ 32)
+Inv-loop first words digest₀ i₀ i-end digest i = (i-end ≡ length words) × (digest < 2 ^ 32)
 
 abbrev μ-loop : tie.MeasureT-loop
-μ-loop first bytes digest₀ i₀ i-end digest i = i-end - i
+μ-loop first words digest₀ i₀ i-end digest i = i-end - i
 
-pub digest-bytes-on-spec : {M : Type 1} → statement M
-digest-bytes-on-spec =
+pub digest-on-spec : {M : Type 1} → statement M
+digest-on-spec =
     tie.close
     (tie.spec
     Inv-loop
     μ-loop
     (λ c. search needs)
     (λ c. search needs)
-    (λ c κs. search needs)
+    (λ c. search needs)
     (λ c κs. search needs)
     (λ c. search needs)
     (λ c. search needs)

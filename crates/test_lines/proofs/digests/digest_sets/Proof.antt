@@ -1,7 +1,7 @@
 use Prim.Native.Nat.{_<_, _-_, _^_}
 use borrow.Author.Needs.{needs}
-use Rattle.test_calls.proofs.memory.digest_sets.Statement.{statement}
-use Rattle.test_calls.proofs.memory.digest_sets.Tie as tie
+use Rattle.test_lines.proofs.digests.digest_sets.Statement.{statement}
+use Rattle.test_lines.proofs.digests.digest_sets.Tie as tie
 
 abbrev Inv-loop : tie.InvT-loop
 Inv-loop first sets digest₀ i₀ digest i = digest < 2 ^ 32
