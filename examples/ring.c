@@ -7,7 +7,7 @@
  * A preview of the first event; for each event its answer and the messages in flight; then each node with those that it
  * holds, read from the words, who is linked, which of them is nearest to key 16 and which owns it, and what the
  * conductor sees. Then a second ring, the join of the two, and a contact across, delivered and answered, that makes one
- * group. It prints what ring.out has.
+ * group. At last node 0 listens to node 1, which is silent, and the notice is played. It prints what ring.out has.
  */
 #include <inttypes.h>
 #include <stdio.h>
@@ -89,6 +89,30 @@ static void print_join(void)
     print_groups("after it");
 }
 
+static void print_listener(void)
+{
+    uint64_t notices, watched = 0;
+    uint8_t silences[MEKVALGS_MAX_NODES] = { 0 }, windows[MEKVALGS_MAX_NODES] = { 0 };
+    uint32_t connected, answer = mekvalgs_watch(&watched, silences, windows, 1);
+
+    printf("watch 1: answer %" PRIu32 ", window %" PRIu8 "\n", answer, windows[1]);
+    for (unsigned i = 1; i <= 5; i++) {
+        notices = mekvalgs_tick(watched, silences, windows);
+        printf("tick %u: notices %" PRIu64 "\n", i, notices);
+        for (uint32_t z = 0; z < MEKVALGS_MAX_NODES; z++) {
+            if (notices >> z & 1) {
+                answer = mekvalgs_play(ring, MEKVALGS_RING_LENGTH, event(MEKVALGS_NOTICE, 0, z));
+                mekvalgs_connected(ring, MEKVALGS_RING_LENGTH, 0, z, &connected);
+                printf("notice at 0 about %" PRIu32 ": answer %" PRIu32 ", connected %" PRIu32 "\n", z, answer,
+                       connected);
+            }
+        }
+    }
+    answer = mekvalgs_hear(watched, silences, windows, 1);
+    printf("hear 1: answer %" PRIu32 ", window %" PRIu8 "\n", answer, windows[1]);
+    printf("hear 2: answer %" PRIu32 "\n", mekvalgs_hear(watched, silences, windows, 2));
+}
+
 int main(void)
 {
     const uint32_t keys[] = { 10, 20, 30 };
@@ -134,5 +158,6 @@ int main(void)
     printf("reach from 0 to key 16: answer %" PRIu32 ", ends at %" PRIu32 ", hops %" PRIu32 "\n", answer, end, hops);
     print_screen();
     print_join();
+    print_listener();
     return 0;
 }

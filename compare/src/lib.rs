@@ -6,6 +6,7 @@ pub mod audit;
 pub mod bench;
 pub mod calls_test;
 pub mod case;
+pub mod command;
 pub mod damage;
 pub mod draw;
 pub mod edges;
@@ -14,6 +15,8 @@ pub mod filter;
 pub mod joins;
 #[cfg(feature = "library")]
 pub mod library;
+pub mod listener;
+pub mod listener_test;
 pub mod look;
 pub mod numbers;
 pub mod plain;
@@ -36,6 +39,7 @@ pub mod text;
 pub mod unbroken;
 pub mod vectors;
 
+use listener::Listener;
 use ring::Ring;
 
 /// "A ring fills 13,441 words of 32 bits."
@@ -58,4 +62,20 @@ pub fn every_ring() -> Vec<&'static dyn Ring> {
     let mut rings = fast_rings();
     rings.push(&plain::Plain { slip: None });
     rings
+}
+
+/// The listeners: of the library, where it is linked, and of the reference.
+pub fn fast_listeners() -> Vec<&'static dyn Listener> {
+    vec![
+        #[cfg(feature = "library")]
+        &library::Library,
+        &reference::Reference,
+    ]
+}
+
+/// These and the plain one.
+pub fn every_listener() -> Vec<&'static dyn Listener> {
+    let mut listeners = fast_listeners();
+    listeners.push(&plain::listener::Plain { slip: None });
+    listeners
 }

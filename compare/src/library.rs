@@ -1,5 +1,6 @@
 //! The proved library, linked: the only file that knows its C interface. A slice goes as pointer and length.
 
+use crate::listener::{Listener, Record};
 use crate::ring::{Conductor, Ring, Routed, Sides, Technician};
 
 #[link(name = "mekvalgs", kind = "static")]
@@ -39,6 +40,9 @@ extern "C" {
         spares: *mut u8,
     ) -> u32;
     fn mekvalgs_messages(words: *const u32, len: u64) -> u64;
+    fn mekvalgs_watch(watched: *mut u64, silences: *mut u8, windows: *mut u8, node: u32) -> u32;
+    fn mekvalgs_tick(watched: u64, silences: *mut u8, windows: *const u8) -> u64;
+    fn mekvalgs_hear(watched: u64, silences: *mut u8, windows: *mut u8, node: u32) -> u32;
     fn mekvalgs_read_event(word: u32, kind: *mut u32, first: *mut u32, second: *mut u32) -> u32;
     fn mekvalgs_write_event(kind: u32, first: u32, second: u32, word: *mut u32) -> u32;
 }
@@ -156,7 +160,28 @@ impl Ring for Library {
     }
 }
 
-// The calls that are no ring's, or of which only the stack is measured.
+// SAFETY of each call: the pointers are those of a record's own 64 bytes each.
+impl Listener for Library {
+    fn name(&self) -> &'static str {
+        "library"
+    }
+
+    fn watch(&self, record: &mut Record, node: u32) -> u32 {
+        let Record { watched, silences, windows } = record;
+        unsafe { mekvalgs_watch(watched, silences.as_mut_ptr(), windows.as_mut_ptr(), node) }
+    }
+
+    fn tick(&self, record: &mut Record) -> u64 {
+        unsafe { mekvalgs_tick(record.watched, record.silences.as_mut_ptr(), record.windows.as_ptr()) }
+    }
+
+    fn hear(&self, record: &mut Record, node: u32) -> u32 {
+        let Record { watched, silences, windows } = record;
+        unsafe { mekvalgs_hear(*watched, silences.as_mut_ptr(), windows.as_mut_ptr(), node) }
+    }
+}
+
+// The calls that are no ring's and no listener's, or of which only the stack is measured.
 
 pub fn replay(words: &mut [u32], sides: Sides, keys: &[u32], script: &[u32]) {
     let Sides { clockwise, counter_clockwise } = sides;

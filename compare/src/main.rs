@@ -4,20 +4,24 @@ use compare::agree::{self, Found, Plan};
 use compare::ring::Ring;
 use compare::script::Mix;
 use compare::routes::Made;
-use compare::{alike, edges, every_ring, fast_rings, joins, reaches, self_test, speed, stage, vectors};
+use compare::{alike, edges, joins, listener, reaches, self_test, speed, stage, vectors};
+use compare::{every_listener, every_ring, fast_listeners, fast_rings};
 use std::path::Path;
 use std::process::ExitCode;
 use std::time::Instant;
 
 const USAGE: &str = "compare [all | agree | unbroken | self-test | speed | stack | stage | vectors]
     [seed=1] [events=5000000] [damaged=1000000] [routes=EVENTS/10] [reaches=EVENTS/10]
-    [previews=EVENTS/10] [screens=EVENTS/10] [joins=EVENTS/25] [nodes=64] [threads=CORES]
+    [previews=EVENTS/10] [screens=EVENTS/10] [joins=EVENTS/25] [listens=EVENTS/5]
+    [nodes=64] [threads=CORES]
     [mixes=gentle,chaos,garbage,replacement,talkative]
     [vectors=FOLDER] [slip=NAME] [seeds=5]";
 
 struct Options {
     mode: String,
     plan: Plan,
+    /// Calls on listener records.
+    listens: u64,
     /// The mixes for demand 3.
     steady: Vec<Mix>,
     vectors: Option<String>,
@@ -35,12 +39,12 @@ impl Options {
 
 fn options() -> Option<Options> {
     let threads = std::thread::available_parallelism().map_or(1, |count| count.get() as u64);
-    let (events, mixes) = (5_000_000, Mix::ALL.to_vec());
+    let (events, mixes, steady) = (5_000_000, Mix::ALL.to_vec(), vec![Mix::Gentle, Mix::Replacement]);
     let (damaged, routes, reaches, previews, screens, joins) = (1_000_000, 0, 0, 0, 0, 0);
     let plan = Plan { seed: 1, events, damaged, routes, reaches, previews, screens, joins, mixes, nodes: 64, threads };
-    let (mut routes, mut reaches, mut previews, mut screens, mut joins) = (None, None, None, None, None);
-    let steady = vec![Mix::Gentle, Mix::Replacement];
-    let mut options = Options { mode: "all".to_string(), plan, steady, vectors: None, slip: None, seeds: 5 };
+    let [mut routes, mut reaches, mut previews, mut screens, mut joins, mut listens] = [None; 6];
+    let mode = "all".to_string();
+    let mut options = Options { mode, plan, listens: 0, steady, vectors: None, slip: None, seeds: 5 };
     for word in std::env::args().skip(1) {
         match word.split_once('=') {
             None => options.mode = word,
@@ -52,6 +56,7 @@ fn options() -> Option<Options> {
             Some(("previews", value)) => previews = Some(value.parse().ok()?),
             Some(("screens", value)) => screens = Some(value.parse().ok()?),
             Some(("joins", value)) => joins = Some(value.parse().ok()?),
+            Some(("listens", value)) => listens = Some(value.parse().ok()?),
             Some(("nodes", value)) => options.plan.nodes = value.parse().ok().filter(|n| (1..=64).contains(n))?,
             Some(("threads", value)) => options.plan.threads = value.parse().ok().filter(|&count| count > 0)?,
             Some(("mixes", value)) => {
@@ -69,6 +74,7 @@ fn options() -> Option<Options> {
     options.plan.previews = previews.unwrap_or(options.plan.events / 10);
     options.plan.screens = screens.unwrap_or(options.plan.events / 10);
     options.plan.joins = joins.unwrap_or(options.plan.events / 25);
+    options.listens = listens.unwrap_or(options.plan.events / 5);
     Some(options)
 }
 
@@ -78,7 +84,7 @@ fn main() -> ExitCode {
         return ExitCode::from(2);
     };
     let good = match options.mode.as_str() {
-        "agree" => agree_all(&options.plan),
+        "agree" => agree_all(&options),
         "unbroken" => unbroken(&options),
         "self-test" => self_test::run(&options.plan, options.slip.as_deref()) == 0,
         "speed" => speed_table(),
@@ -93,7 +99,7 @@ fn main() -> ExitCode {
         }
         "vectors" => stored(&options),
         "all" => {
-            stored(&options) & agree_all(&options.plan) & unbroken(&options) && speed_table()
+            stored(&options) & agree_all(&options) & unbroken(&options) && speed_table()
         }
         _ => {
             eprintln!("{USAGE}");
@@ -117,6 +123,7 @@ fn speed_table() -> bool {
     speed::previews(&fast_rings());
     speed::screens(&fast_rings());
     speed::joins(&fast_rings());
+    speed::listeners(&fast_rings(), &fast_listeners());
     true
 }
 
@@ -141,7 +148,8 @@ fn stored(options: &Options) -> bool {
 }
 
 /// All implementations in step.
-fn agree_all(plan: &Plan) -> bool {
+fn agree_all(options: &Options) -> bool {
+    let plan = &options.plan;
     let rings = every_ring();
     let names: Vec<&str> = rings.iter().map(|ring| ring.name()).collect();
     println!("\nAgreement of {}", names.join(", "));
@@ -153,7 +161,7 @@ fn agree_all(plan: &Plan) -> bool {
     let (tally, found) = agree::run(plan, &rings);
     println!("{tally}\n{:.0} seconds", start.elapsed().as_secs_f64());
     let made = made_rings(plan, &rings) & reached_rings(plan, &rings);
-    let made = made & alike_rings(plan, &rings) & joined_rings(plan, &rings);
+    let made = made & alike_rings(plan, &rings) & joined_rings(plan, &rings) & listeners_agree(options);
     made & differences.is_empty() & numbers_agree & nothing(plan, &rings, found)
 }
 
@@ -203,6 +211,16 @@ fn joined_rings(plan: &Plan, rings: &[&dyn Ring]) -> bool {
     let joins::Made { tally, found } = joins::Made::run(plan.seed, plan.joins, plan.threads, rings);
     println!("{tally}\n{} joins found wrong, {:.0} seconds", found.len(), start.elapsed().as_secs_f64());
     found.iter().take(1).for_each(|line| println!("{line}"));
+    found.is_empty()
+}
+
+/// Lists of calls on listener records.
+fn listeners_agree(options: &Options) -> bool {
+    let (start, Plan { seed, threads, .. }) = (Instant::now(), &options.plan);
+    let listener::Made { tally, found } = listener::Made::run(*seed, options.listens, *threads, &every_listener());
+    println!("on listener records: {tally}");
+    println!("{} lists found wrong, {:.0} seconds", found.len(), start.elapsed().as_secs_f64());
+    found.iter().take(1).for_each(|text| println!("FOUND by {text}"));
     found.is_empty()
 }
 

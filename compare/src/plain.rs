@@ -4,6 +4,7 @@
 //! A [`Slip`] makes it a wrong program, for the self-test of the harness.
 
 mod joins;
+pub mod listener;
 mod reaches;
 mod senders;
 

@@ -3,6 +3,8 @@
 use crate::agree::{self, Found, Plan};
 use crate::alike;
 use crate::joins;
+use crate::listener::{self, Listener};
+use crate::plain::listener::{Plain as PlainListener, Slip as ListenerSlip};
 use crate::plain::{Plain, Slip};
 use crate::reaches;
 use crate::reference::Reference;
@@ -31,6 +33,22 @@ const ON_MADE_RINGS: [Slip; 2] = [Slip::ReachSpanMiddle, Slip::ReachSpanLast];
 
 /// Wrong programs whose conductor sees too much: found by rings alike for the conductor alone.
 const TELLING: [Slip; 2] = [Slip::ScreenClock, Slip::ScreenCandidates];
+
+/// Wrong listeners that the note's claims alone find, without another implementation.
+const UNLIKE_CLAIMS: [ListenerSlip; 12] = [
+    ListenerSlip::Window3,
+    ListenerSlip::Window5,
+    ListenerSlip::NoticeLate,
+    ListenerSlip::NoticeAgain,
+    ListenerSlip::GrowsAlways,
+    ListenerSlip::GrowsEarly,
+    ListenerSlip::FallsBack,
+    ListenerSlip::HearKeeps,
+    ListenerSlip::HearWatches,
+    ListenerSlip::AgainSilence,
+    ListenerSlip::AgainWindow,
+    ListenerSlip::Wraps,
+];
 
 /// How many wrong programs were not found. Where one is named, only that, and its case is shown.
 pub fn run(plan: &Plan, only: Option<&str>) -> usize {
@@ -63,7 +81,27 @@ pub fn run(plan: &Plan, only: Option<&str>) -> usize {
     let by_themselves = alone(&demand_3, &PARTING, "demand 3")
         + alone(&agreement, &MISLEADING, "preview")
         + alone(&agreement, &TALKING, "bound");
-    by_difference + by_themselves + by_end.count() + by_owner.count() + by_pair.count()
+    let of_rings = by_difference + by_themselves + by_end.count() + by_owner.count() + by_pair.count();
+    of_rings + unfound_listeners(plan, only)
+}
+
+/// How many wrong listeners were not found, beside another implementation or by the claims.
+fn unfound_listeners(plan: &Plan, only: Option<&str>) -> usize {
+    let wanted = |slip: &ListenerSlip| only.is_none_or(|only| only == format!("{slip:?}"));
+    let unfound = |slip: ListenerSlip, way: &str, right: &[&dyn Listener]| {
+        let wrong = PlainListener { slip: Some(slip) };
+        let listeners: Vec<&dyn Listener> = right.iter().copied().chain([&wrong as &dyn Listener]).collect();
+        let made = listener::Made::run(plan.seed, 1_000_000, plan.threads, &listeners);
+        let name = format!("{slip:?}");
+        let found = made.found.first().map_or("NOT FOUND in 1000000 calls", |found| found);
+        let head = found.lines().next().unwrap_or_default();
+        println!("{name:<20} {way:<11} {}", if only.is_some() { found } else { head });
+        made.found.is_empty()
+    };
+    let beside = ListenerSlip::ALL.into_iter().filter(wanted);
+    let alone = UNLIKE_CLAIMS.into_iter().filter(wanted);
+    beside.filter(|&slip| unfound(slip, "listener", &[&Reference])).count()
+        + alone.filter(|&slip| unfound(slip, "claims", &[])).count()
 }
 
 fn joins_wrongly(plan: &Plan, slip: Slip, show: bool) -> bool {

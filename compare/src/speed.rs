@@ -1,5 +1,6 @@
 //! How long an event takes: each implementation and one plain pass over the words, in turns in one run, medians.
 
+use crate::listener::{Listener, Record};
 use crate::look;
 use crate::random::Random;
 use crate::reaches;
@@ -410,6 +411,47 @@ fn join_times(first: &[u32], second: &[u32], rings: &[&dyn Ring]) -> (Vec<[f64; 
     }
     assert!(rings.iter().all(|ring| ring.join(first, second, &mut joined) == 0));
     (shortest, copy)
+}
+
+/// Calls on a record of 64 watched nodes beside an event on a ring of as many, of the usual load; the shortest of
+/// rounds in turns, and a tick over an event.
+pub fn listeners(rings: &[&dyn Ring], listeners: &[&dyn Listener]) {
+    print!("{:<48}", "nanoseconds a call on 64 watched nodes, an event");
+    for ring in rings {
+        print!("{:>18}{:>8}{:>8}{:>10}{:>11}", format!("{} watch", ring.name()), "hear", "tick", "play", "tick/play");
+    }
+    println!();
+    let load = Load::new(rings[rings.len() - 1], 64, 8, 700, EVENTS);
+    let counting = Record { watched: u64::MAX, silences: [0; 64], windows: [255; 64] };
+    let noticing = Record { windows: std::array::from_fn(|s| 1 + s as u8), ..counting };
+    for (name, record) in [("no notice", counting), ("a notice a tick", noticing)] {
+        print!("{:<48}", format!("  {name}"));
+        for [watch, hear, tick, play] in listener_times(&load, &record, rings, listeners) {
+            print!("{watch:>18.1}{hear:>8.1}{tick:>8.1}{play:>10.0}{:>11.4}", tick / play);
+        }
+        println!();
+    }
+}
+
+/// Nanoseconds of watching each node again, of hearing each, of a tick, and of an event.
+fn listener_times(load: &Load, start: &Record, rings: &[&dyn Ring], listeners: &[&dyn Listener]) -> Vec<[f64; 4]> {
+    let nodes: Vec<u32> = (0..64).collect();
+    let mut shortest = vec![[f64::MAX; 4]; rings.len()];
+    let mut words = load.words.clone();
+    for _ in 0..ROUNDS {
+        for ((ring, listener), shortest) in rings.iter().zip(listeners).zip(&mut shortest) {
+            words.copy_from_slice(&load.words);
+            let (mut record, mut heard) = (*start, *start);
+            let times = [
+                each(&nodes, |node| listener.watch(&mut heard, node)),
+                each(&nodes, |node| listener.hear(&mut heard, node)),
+                each(&[0; EVENTS], |_| listener.tick(black_box(&mut record)).count_ones()),
+                each(&load.events, |word| ring.play(&mut words, word)),
+            ];
+            shortest.iter_mut().zip(times).for_each(|(shortest, time)| *shortest = shortest.min(time));
+        }
+    }
+    shortest
 }
 
 fn head(load: &Load) -> String {

@@ -1,6 +1,7 @@
 //! How much stack a call of the library takes: the stack below the caller is painted, and what the call has written is looked for.
 
 use crate::library;
+use crate::listener::{Listener, Record};
 use crate::random::Random;
 use crate::reaches;
 use crate::ring::{Conductor, Ring, Sides, Technician};
@@ -57,6 +58,10 @@ fn measure() {
     line("conductor", depth(&mut || _ = ring.conductor(&words, &mut conductor)));
     line("technician", depth(&mut || _ = ring.technician(&words, &mut technician)));
     line("messages", depth(&mut || _ = ring.messages(&words)));
+    let mut record = Record::EMPTY;
+    line("watch", (0..65).map(|s| depth(&mut || _ = ring.watch(&mut record, s))).max().unwrap());
+    line("tick", (0..9).map(|_| depth(&mut || _ = ring.tick(&mut record))).max().unwrap());
+    line("hear", (0..65).map(|s| depth(&mut || _ = ring.hear(&mut record, s))).max().unwrap());
     line("replay", depth(&mut || library::replay(&mut words, sides, &keys, &events)));
     ring.open(&mut words, sides, &keys);
     let mut answers = vec![0; events.len()];

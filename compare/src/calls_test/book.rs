@@ -1,8 +1,9 @@
 //! The commands written so far, with the lines that they have to give. Every case says the answer that document 01 demands;
 //! values and words are those of the plain implementation, with which the reference has to agree.
 
-use super::machine::{differs, Command, Line, Machine};
+use super::machine::{differs, Line, Machine};
 use super::tally::{count, kind, Tally, ECHO};
+use crate::command::Command;
 use crate::events::{deliver, echo, on, timer};
 use crate::look;
 use crate::plain::{Plain, Slip};

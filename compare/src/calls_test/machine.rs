@@ -1,20 +1,10 @@
 //! What `crates/test_calls` does with its commands, on any implementation.
 
 use super::event_word;
+use crate::command::{digest, set_words, Command};
 use crate::ring::{Conductor, Ring, Routed, Sides, Technician};
 use crate::LENGTH;
 use std::fmt;
-
-/// Six words: the number, a, b, c, d, and how many words of the buffer are lent to the call.
-#[derive(Clone, Copy, Debug)]
-pub struct Command {
-    pub number: u32,
-    pub a: u32,
-    pub b: u32,
-    pub c: u32,
-    pub d: u32,
-    pub lent: u32,
-}
 
 impl Command {
     pub const FILL_WORDS: u32 = 0;
@@ -41,15 +31,6 @@ impl Command {
     pub const JOIN: u32 = 21;
     pub const JOIN_ITSELF: u32 = 22;
     pub const REACH: u32 = 23;
-
-    pub fn bytes(self) -> Vec<u8> {
-        [self.number, self.a, self.b, self.c, self.d, self.lent].iter().flat_map(|word| word.to_le_bytes()).collect()
-    }
-
-    fn from_bytes(bytes: &[u8]) -> Command {
-        let word = |k: usize| u32::from_le_bytes(bytes[4 * k..4 * k + 4].try_into().unwrap());
-        Command { number: word(0), a: word(1), b: word(2), c: word(3), d: word(4), lent: word(5) }
-    }
 }
 
 /// What a call gives: the answer, the value that comes with it, how many words it changed, and the digest of all words.
@@ -262,18 +243,9 @@ fn conductor_words(screen: &Conductor) -> impl Iterator<Item = u32> + '_ {
     numbers.chain(set_words(std::slice::from_ref(running))).chain(keys.iter().copied()).chain(set_words(leafsets))
 }
 
-/// Each set as two words, the lower one first.
-fn set_words(sets: &[u64]) -> impl Iterator<Item = u32> + '_ {
-    sets.iter().flat_map(|&set| [set as u32, (set >> 32) as u32])
-}
-
-fn digest(words: impl Iterator<Item = u32>) -> u64 {
-    words.fold(0, |digest, word| (31 * digest + word as u64) % (1 << 32))
-}
-
 /// Whether an implementation gives other lines for the commands in these bytes, from a machine as it is.
 pub fn differs(ring: &dyn Ring, machine: &Machine, input: &[u8], output: &str) -> bool {
     let mut machine = machine.with(ring);
-    let lines = input.chunks_exact(24).filter_map(|bytes| machine.run(Command::from_bytes(bytes)));
+    let lines = Command::all(input).filter_map(|command| machine.run(command));
     !lines.map(|line| line.to_string()).eq(output.split_inclusive('\n'))
 }

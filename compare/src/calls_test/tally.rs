@@ -1,6 +1,6 @@
 //! What the cases reach.
 
-use super::machine::Command;
+use crate::command::Command;
 use crate::events::TIMERS;
 use std::collections::BTreeMap;
 use std::fmt;

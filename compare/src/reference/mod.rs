@@ -5,6 +5,7 @@ mod events;
 mod joins;
 mod lanes;
 mod layout;
+mod listener;
 mod messages;
 mod place;
 mod questions;

@@ -1,5 +1,6 @@
 //! What a stage can bear, measured in simulated time.
 
+mod listening;
 mod load;
 mod rounds;
 mod settling;
@@ -43,6 +44,8 @@ pub fn report(ring: &dyn Ring, plan: &Plan) {
     load::report(ring, plan);
     load::report_senders(ring, plan);
     load::report_clocks(ring, plan);
+    listening::report(ring, plan);
+    listening::report_played(ring, plan);
 }
 
 /// What `run` gives for each number below the count, in their order.

@@ -9,7 +9,7 @@ use std::collections::VecDeque;
 
 /// In microseconds, as every time here.
 pub const MILLISECOND: u64 = 1_000;
-const SECOND: u64 = 1_000_000;
+pub const SECOND: u64 = 1_000_000;
 
 pub const CLOCK_SPENT: usize = 10;
 pub const POOL_FULL: usize = 11;
@@ -80,31 +80,48 @@ pub struct Stage<'a> {
     conditions: Conditions,
     /// The moment in a second and the event word of each timer, in the order of firing.
     timers: Vec<(u64, u32)>,
+    /// How many times a timer has fired, of all.
+    fired: usize,
     /// Timers that are to be tried again.
     waiting: VecDeque<u32>,
-    now: u64,
+    pub now: u64,
     /// When each message in flight arrives, by its position.
     arrivals: Vec<u64>,
+    /// Receiver and sender of each message delivered since the last call of `until` began.
+    pub heard: Vec<(usize, usize)>,
 }
 
 impl<'a> Stage<'a> {
     /// On a ring with no message in flight. Timers of a node that is off are refused.
     pub fn new(ring: &'a dyn Ring, mut random: Random, words: Vec<u32>, conditions: Conditions) -> Stage<'a> {
         let timers = timers(conditions.firing, &mut random, look::nodes(&words));
-        let (tally, waiting, arrivals) = (Tally::default(), VecDeque::new(), Vec::new());
-        Stage { words, tally, ring, random, conditions, timers, waiting, now: 0, arrivals }
+        let (tally, waiting, arrivals, heard) = (Tally::default(), VecDeque::new(), Vec::new(), Vec::new());
+        Stage { words, tally, ring, random, conditions, timers, fired: 0, waiting, now: 0, arrivals, heard }
     }
 
     /// Each timer of each node fires once, and the messages that are due arrive.
     pub fn second(&mut self) {
-        let start = self.now;
-        for place in 0..self.timers.len() {
-            let (moment, word) = self.timers[place];
-            self.wait_until(start + moment);
-            self.fire(word);
-        }
-        self.wait_until(start + SECOND);
+        self.until(self.now + SECOND);
         assert_eq!(self.arrivals.len(), look::messages(&self.words), "each message in flight has its arrival");
+    }
+
+    /// The timers fire and the messages arrive that are due before a moment.
+    pub fn until(&mut self, end: u64) {
+        self.heard.clear();
+        let (mut moment, mut word) = self.next_timer();
+        while moment < end {
+            self.wait_until(moment);
+            self.fire(word);
+            self.fired += 1;
+            (moment, word) = self.next_timer();
+        }
+        self.wait_until(end);
+    }
+
+    fn next_timer(&self) -> (u64, u32) {
+        let (seconds, place) = (self.fired / self.timers.len(), self.fired % self.timers.len());
+        let (moment, word) = self.timers[place];
+        (seconds as u64 * SECOND + moment, word)
     }
 
     fn wait_until(&mut self, moment: u64) {
@@ -130,9 +147,12 @@ impl<'a> Stage<'a> {
     /// A message that is refused is lost.
     fn arrive(&mut self, position: usize) {
         self.arrivals.remove(position);
+        let ends = (look::receiver(&self.words, position), look::sender(&self.words, position));
         let position = position as u32;
         if self.random.percent(self.conditions.lost) || self.play(deliver(position)) != 0 {
             self.play(lose(position));
+        } else {
+            self.heard.push(ends);
         }
     }
 
