@@ -25,8 +25,8 @@ use Rattle.model.proofs.ExampleRing.{holding, five, node0, off, acknowl
 unfoldable pub computed : Unit {0}
 unfolding Sets.all Sets.some Sets.count Sets.members Sets.toBits Sets.tabulateFrom Leafset.leafset Leafset.nearest Leafset.closest
     Leafset.successor Leafset.passesZero Ring.initial Types.usedByType Words.headWord Words.keyWord Words.clockWord Words.pairWord
-    Words.spareWord Words.messageWord Words.stampWord Words.viewWord Words.wordAt Words.encode Words.decodeTable Words.decodeOwn
-    Words.decodeNode Words.decodeMessage Words.decode Words.inRange Words.keysDiffer Words.pairFits Words.nodeFits Ring.sentBy
+    Words.spareWord Words.messageWord Words.stampWord Words.viewWord Words.belongs Words.wordAt Words.encode Words.decodeTable Words.decodeOwn
+    Words.decodeNode Words.decodeMessageAt Words.decode Words.inRange Words.keysDiffer Words.pairFits Words.nodeFits Ring.sentBy
     Words.messageFits Words.sendersFit Words.ringFits Words.formatFits Words.readsAsRing Answers.firstOf Events.eventOf Events.eventAnswer
     Events.writeEvent Events.wordAnswer Events.readEvent Steps.hold Steps.release Steps.forget Steps.leaving Steps.contact Steps.notice
     Steps.timer0 Steps.timer2 Steps.timer3 Steps.timer4 Steps.timer Steps.onPingContact Steps.onPongContact Steps.onPingAskInv

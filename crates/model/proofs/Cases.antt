@@ -10,7 +10,7 @@ use Rattle.model.specs.Play.{after, act, receive, removeMessage, refusal
 use Rattle.model.specs.declared.answer.Answer.{Answer}
 use Rattle.model.specs.declared.answer.Answer.the-variants.{Accepted, WrongLength, OpeningOutOfRange, BadKey, NotAnEvent, SameNode, NotARing}
 use Rattle.model.specs.declared.answer.Answer.the-variants.{OutOfTable, NodeOff, AlreadyRunning, ClockSpent, PoolFull, KeyOutOfRange, ListTooShort}
-use Rattle.model.specs.declared.answer.Answer.the-variants.{SidesDiffer, TablesClash, TooManyMessages, SenderFull, NotWatched}
+use Rattle.model.specs.declared.answer.Answer.the-variants.{SidesDiffer, TablesClash, TooManyMessages, SenderFull, NotWatched, NotShort, PlaceTooSmall}
 use Rattle.model.specs.declared.event.Event.{Event}
 use Rattle.model.specs.declared.event.Event.the-variants.{On, Off, Notice, Contact, Timer, Deliver, Lose}
 use Rattle.model.proofs.Laws.{if-law}
@@ -45,7 +45,7 @@ after-table r (Lose i) = refl
 -- ---- answers
 
 -- an answer's number fits a byte
-pub number-low : (a : Answer) → numberOf a ≤ 18
+pub number-low : (a : Answer) → numberOf a ≤ 20
 number-low Accepted = lit≤ tt
 number-low WrongLength = lit≤ tt
 number-low OpeningOutOfRange = lit≤ tt
@@ -65,3 +65,5 @@ number-low TablesClash = lit≤ tt
 number-low TooManyMessages = lit≤ tt
 number-low SenderFull = lit≤ tt
 number-low NotWatched = lit≤ tt
+number-low NotShort = lit≤ tt
+number-low PlaceTooSmall = lit≤ tt

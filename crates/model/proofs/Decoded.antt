@@ -14,7 +14,8 @@ use Rattle.model.specs.Ring.{Own, Node, Message, blank, messageAt}
 use Rattle.model.specs.Fields.{bits}
 use Rattle.model.specs.WellFormed.{WellFormedTable, Spare, none, spare, WellFormedOwn, WellFormedNode, WellFormedMessage, WellFormed, Each}
 use Rattle.model.specs.Types.{usesView, usesSubject, namesSpare, usesStamp}
-use Rattle.model.specs.Words.{isPair, nodePlace, messagePlace, decodeTable, decodeOwn, decodeNode, decodeMessage, decode, between, sidesFit}
+use Rattle.model.specs.Words.{isPair, nodePlace, messagePlace, decodeTable, decodeOwn, decodeNode, decodeMessageAt, decodeMessage, decode}
+use Rattle.model.specs.Words.{between, sidesFit}
 use Rattle.model.specs.Words.{inRange, keysDiffer, nodeOrNone, pairFits, nodeFits, subjectFits, messageTests, messageFits, sendersFit, ringFits}
 use Rattle.model.specs.Words.{readsAsRing}
 use Rattle.model.proofs.Fits.{sides-out}
@@ -223,7 +224,7 @@ module _ (ws : List ℕ) (fits : ringFits (decode ws) ≡ true) where
   Room m = (m .stamp ≤ 16777215) × ((y : ℕ) → m .view y ≡ true → y < 64)
 
   has-room : (k : ℕ) → Room (decodeMessage ws k)
-  unfolding Room decodeMessage
+  unfolding Room decodeMessageAt
   has-room k =
       let p : ℕ = messagePlace k in
       let l = bits< 0 24 (getD ws (p + 1) 0) in

@@ -9,7 +9,7 @@ use Rattle.model.specs.Ring.{Own, Node, Ring, fresh, isRunning, sentBy}
 use Rattle.model.specs.Types.{pingContact, pongAskInv, pongAskRepl, pingReplace, usedByType}
 use Rattle.model.specs.Steps.{stamped, naming, plain, viewing}
 use Rattle.model.specs.Answers.{firstOf}
-use Rattle.model.specs.Words.{headWord, wordAt, decodeTable, decode, inRange, keysDiffer}
+use Rattle.model.specs.Words.{headWord, belongs, wordAt, decodeTable, decode, inRange, keysDiffer}
 use Rattle.model.specs.Words.{pairFits, nodeFits, messageFits, sendersFit, ringFits, formatFits, readsAsRing}
 use Rattle.model.specs.Buffer.{wrongLength, notARing}
 use Rattle.model.specs.Connection.{reached, connected, groups}
@@ -152,7 +152,8 @@ pub record JoinRows : Type 0 where
 
 pub join-rows : JoinRows
 unfolding own nodes two three five of-each in-flight sample keys-from tried sides-tried zeros join all some count members tabulateFrom toBits
-    usedByType firstOf headWord wordAt decodeTable decode inRange keysDiffer pairFits nodeFits sentBy messageFits sendersFit ringFits formatFits readsAsRing
+    usedByType firstOf headWord belongs wordAt decodeTable decode inRange keysDiffer pairFits nodeFits sentBy messageFits sendersFit ringFits
+    formatFits readsAsRing
     reached connected groups joinAnswer joinBuffer
 join-rows =
     record {

@@ -6,12 +6,12 @@ use native.Mathlib.Nat.{le-refl, le-of-suc-le-suc, not-suc-le-zero, add-zero, ze
 use native.Mathlib.Omega.{arith}
 use native.Mathlib.Decide.{ℕ-discrete}
 use mathlib.Core.Bool.{Bool, true, false, not, _&&_, _||_, or-false, or-assoc}
-use mathlib.Core.List.{List, [], _∷_}
-use lib.ListN.{length, getD}
+use mathlib.Core.List.{List, [], _∷_, _++_, map}
+use lib.ListN.{length, getD, length-append}
 use lib.Dec.{T, eqb, leb}
 use borrow.Author.Tests.{eqb-true, eqb-false, eq-eqb, ne-eqb, leb-true, le-leb}
 use Rattle.model.specs.Choice.{if_then_else_, _⇒_, every}
-use Rattle.model.specs.Sets.{Set, put, all, some, count, tabulate, tabulateFrom}
+use Rattle.model.specs.Sets.{Set, put, all, some, count, members, tabulate, tabulateFrom}
 use Rattle.model.specs.Words.{between}
 use Rattle.model.specs.WellFormed.{Each, nil, cons}
 
@@ -205,6 +205,25 @@ pub count-none : (n : ℕ) (S : Set) → ((z : ℕ) → z < n → S z ≡ false)
 unfolding count
 count-none zero S f = refl
 count-none (suc n) S f = rw (f n (le-refl (suc n))) (ap (λ (k : ℕ). k + 0) (count-none n S (λ z h. f z (omega arith))))
+
+pub count-all : (n : ℕ) (S : Set) → ((z : ℕ) → z < n → S z ≡ true) → count n S ≡ n
+unfolding count
+count-all zero S f = refl
+count-all (suc n) S f = rw (f n (le-refl (suc n))) (omega (arith, count-all n S (λ z h. f z (omega arith))))
+
+pub map-at : (f : ℕ → ℕ) (l : List ℕ) (i : ℕ) → i < length l → getD (map f l) i 0 ≡ f (getD l i 0)
+map-at f [] i h = absurd (not-suc-le-zero h)
+map-at f (x ∷ l) zero h = refl
+map-at f (x ∷ l) (suc i) h = map-at f l i (le-of-suc-le-suc h)
+
+pub length-members : (n : ℕ) (S : Set) → length (members n S) ≡ count n S
+unfolding members count
+length-members zero S = refl
+length-members (suc n) S = simp length-append (ap₂ (λ (a b : ℕ). a + b) (length-members n S) (go (S n)))
+  where
+    go : (b : Bool) → length (if b then n ∷ [] else []) ≡ (if b then 1 else 0)
+    go true = refl
+    go false = refl
 
 pub count-cong : (n : ℕ) (S R : Set) → ((z : ℕ) → z < n → S z ≡ R z) → count n S ≡ count n R
 unfolding count

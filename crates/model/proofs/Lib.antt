@@ -40,6 +40,8 @@ pub mod Echoes
 pub mod SenderBound
 pub mod ScreenRows
 pub mod Screens
+pub mod ShortRows
+pub mod Short
 pub mod Unreached
 pub mod ListenerRows
 pub mod Listeners

@@ -13,6 +13,7 @@ use Rattle.model.specs.Questions.{leafsetRefusals, leafsetAnswer, connec
 use Rattle.model.specs.Route.{routeRefusals, routeAnswer}
 use Rattle.model.specs.Reach.{reachRefusals, reachAnswer}
 use Rattle.model.specs.Preview.{previewRefusals, previewAnswer}
+use Rattle.model.specs.Short.{shortenRefusals, shortenAnswer, lengthenRefusals, lengthenAnswer}
 use Rattle.model.specs.Join.{joinRefusals, joinAnswer}
 use Rattle.model.specs.Listener.{Listener, watchRefusals, watchAnswer, hearRefusals, hearAnswer}
 use Rattle.model.specs.Bench.{scriptRefusals, scriptAnswer}
@@ -85,3 +86,11 @@ lowest-at-watching s = lowest-given 0 (watchRefusals s) refl
 pub lowest-at-hearing : (l : Listener) (s : ℕ) → LowestOf (hearRefusals l s) (hearAnswer l s)
 unfolding hearAnswer
 lowest-at-hearing l s = lowest-given 0 (hearRefusals l s) refl
+
+pub lowest-at-shortening : (ws place : List ℕ) → LowestOf (shortenRefusals ws place) (shortenAnswer ws place)
+unfolding shortenAnswer
+lowest-at-shortening ws place = lowest-given 0 (shortenRefusals ws place) refl
+
+pub lowest-at-lengthening : (short ws : List ℕ) → LowestOf (lengthenRefusals short ws) (lengthenAnswer short ws)
+unfolding lengthenAnswer
+lowest-at-lengthening short ws = lowest-given 0 (lengthenRefusals short ws) refl

@@ -6,7 +6,7 @@ use lib.ListN.{length, getD, drop, replicate}
 use Rattle.model.specs.Sets.{some, count, members, ofBits, all, tabulateFrom, tabulate}
 use Rattle.model.specs.Ring.{Ring, cleared}
 use Rattle.model.specs.Answers.{firstOf}
-use Rattle.model.specs.Words.{headWord, keyWord, clockWord, wordAt, decodeTable, decodeNode, decode, readsAsRing, formatFits, ringFits}
+use Rattle.model.specs.Words.{headWord, keyWord, clockWord, belongs, wordAt, decodeTable, decodeNode, decode, readsAsRing, formatFits, ringFits}
 use Rattle.model.specs.Route.{keyOutOfRange}
 use Rattle.model.specs.Reach.{spans, Ending, finger, fingers, owner, next, reachWithin, reach, lastBefore, reachRefusals, reachAnswer, reachOf}
 
@@ -99,7 +99,7 @@ pub record ReachRows : Type 0 where
   pub no-ring : reachOf zeros 0 16777216 ≡ record { answer = 6; end = 64; hops = 0 }
 
 pub reach-rows : ReachRows
-unfolding ring-of four astride ends words tried zeros all some count members tabulateFrom headWord keyWord clockWord wordAt
+unfolding ring-of four astride ends words tried zeros all some count members tabulateFrom headWord keyWord clockWord belongs wordAt
     decodeTable decodeNode decode readsAsRing formatFits ringFits firstOf spans finger fingers owner next reachWithin reach lastBefore reachAnswer reachOf
 reach-rows =
     record {

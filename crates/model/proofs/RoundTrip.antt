@@ -15,7 +15,9 @@ use Rattle.model.specs.Leafset.{size, key}
 use Rattle.model.specs.Ring.{Ring, Message, blank, messageAt}
 use Rattle.model.specs.Fields.{bits, bit}
 use Rattle.model.specs.Types.{usesSubject, namesSpare}
-use Rattle.model.specs.Words.{isPair, headWord, keyWord, clockWord, pairWord, spareWord, messageWord, stampWord, viewWord, nodeWords, pairWords, messageWords, nodePlace, pairPlace, messagePlace, wordAt, encode, decodeTable, decodeOwn, decodeNode, decodeMessage, decode}
+use Rattle.model.specs.Words.{isPair, headWord, keyWord, clockWord, pairWord, spareWord, messageWord, stampWord, viewWord, nodeWords, pairWords}
+use Rattle.model.specs.Words.{messageWords, nodePlace, pairPlace, messagePlace, belongs, wordAt, encode, decodeTable, decodeOwn, decodeNode}
+use Rattle.model.specs.Words.{decodeMessageAt, decodeMessage, decode}
 use Rattle.model.specs.WellFormed.{WellFormedTable, Spare, none, spare, WellFormedNode, WellFormedMessage, WellFormed}
 use Rattle.model.proofs.Fields.{field}
 use Rattle.model.proofs.Words.{well-room, HeadRead, head-reads, encode-at, node-at, pair-at, message-at, pair-in, pair-low, pair-other}
@@ -60,7 +62,7 @@ module _ (r : Ring) (g : WellFormed r) where
   gt = g .table-well
 
   word0 : getD ws 0 0 ≡ headWord (r .table .sides) (size (r .table)) (length (r .messages))
-  unfolding ws wordAt
+  unfolding ws belongs wordAt
   word0 = encode-at r 0 (lit< tt)
 
   head-read : HeadRead (getD ws 0 0) (r .table .sides) (size (r .table)) (length (r .messages))
@@ -277,7 +279,7 @@ module _ (r : Ring) (g : WellFormed r) where
         ∙ bits-back 64 (messageAt r k .view) (λ y e. let l = well .view-other y e .low in omega (arith, gt .size-high))
 
     message-back : decodeMessage ws k ≡ messageAt r k
-    unfolding decodeMessage
+    unfolding decodeMessageAt
     message-back =
         λ i. record {
           type = type-back i;

@@ -4,10 +4,10 @@ use mathlib.Core.Logic.{_↔_, _⊎_}
 use Prim.Native.Nat.{ℕ, suc, _+_, _-_, _*_, _≤_, _<_}
 use native.Mathlib.Omega.{arith}
 use mathlib.Core.Bool.{Bool, true, false, _&&_}
-use mathlib.Core.List.{List, [], _∷_}
+use mathlib.Core.List.{List, [], _∷_, _++_}
 use lib.Dec.{ltb, eqb}
 use borrow.Author.Tests.{eq-eqb, ne-eqb}
-use lib.ListN.{length, getD}
+use lib.ListN.{length, getD, drop}
 use Rattle.model.specs.Choice.{if_then_else_}
 use Rattle.model.specs.Key.{clockwise}
 use Rattle.model.specs.Sets.{Set, empty, without, count, toBits, noneNode}
@@ -16,7 +16,7 @@ use Rattle.model.specs.Ring.{Own, Message, Ring, initial, holds, isRunni
 use Rattle.model.specs.Types.{types}
 use Rattle.model.specs.Steps.{stepByType}
 use Rattle.model.specs.WellFormed.{WellFormedTable, WellFormed, Each}
-use Rattle.model.specs.Words.{ringLength, encode, decode, sendersFit, readsAsRing}
+use Rattle.model.specs.Words.{ringLength, belongs, wordAt, encode, decode, sendersFit, readsAsRing}
 use Rattle.model.specs.Answers.{isAccepted}
 use Rattle.model.specs.Events.{wordOf, eventAnswer, sameNode, writeEvent, readEvent, readingOf}
 use Rattle.model.specs.Play.{after, actor, refusals, playAnswer, playWord, playAll}
@@ -25,6 +25,7 @@ use Rattle.model.specs.Questions.{leafsetOf}
 use Rattle.model.specs.Route.{nextOf, goesOn, route, Converged, routeAnswer, routeBuffer}
 use Rattle.model.specs.Reach.{spans, here, oneMore, owner, next, reach, toLast, reachAnswer, reachOf}
 use Rattle.model.specs.Preview.{previewBuffer, Call, PreviewsChangeNothing}
+use Rattle.model.specs.Short.{sizeIn, countIn, shortened, lengthened, readsAsShort, shortenBuffer, lengthenBuffer}
 use Rattle.model.specs.Screens.{conductorOf, messagesOf, Alike}
 use Rattle.model.specs.Connection.{Connected, connected, groups, CountsGroups}
 use Rattle.model.specs.Listener.{Listener, emptyListener, grown, silent, answerOf, noticesOf, leaves, listenerOf, emptyRecord, afterRecord}
@@ -41,6 +42,7 @@ use Rattle.model.proofs.LeafsetSize as size-of
 use Rattle.model.proofs.Questions as questions
 use Rattle.model.proofs.Types.{TypesUse}
 use Rattle.model.proofs.Types as typed
+use Rattle.model.proofs.Short as short
 use Rattle.model.proofs.Words as words
 use Rattle.model.proofs.RoundTrip as trip
 use Rattle.model.proofs.Fits as fits
@@ -69,7 +71,8 @@ use Rattle.model.proofs.Unreached as unreached
 -- "The lowest number that applies is given, and none otherwise", at each call: their statements are in Lowest
 pub use Rattle.model.proofs.Lowest.{lowest-at-writing, lowest-at-reading, lowest-at-opening, lowest-at-playing, lowest-at-previewing}
 pub use Rattle.model.proofs.Lowest.{lowest-at-leafset, lowest-at-connection, lowest-at-ring, lowest-at-routing, lowest-at-reaching}
-pub use Rattle.model.proofs.Lowest.{lowest-at-joining, lowest-at-watching, lowest-at-hearing, lowest-at-script}
+pub use Rattle.model.proofs.Lowest.{lowest-at-joining, lowest-at-watching, lowest-at-hearing, lowest-at-shortening, lowest-at-lengthening}
+pub use Rattle.model.proofs.Lowest.{lowest-at-script}
 
 -- ---- event words
 
@@ -430,6 +433,35 @@ empty-by-value = listeners.empty-by-value
 
 pub list-by-value : (cs : List listener.Call) → listenerOf (afterRecord emptyRecord cs) ≡ listener.after emptyListener cs
 list-by-value cs = listeners.list-by-value cs
+
+-- ---- the short ring
+
+-- "Its length follows from n and m."
+pub short-length : (ws : List ℕ) → readsAsRing ws ≡ true → length (shortened ws) ≡ 1 + 2 * (sizeIn ws * sizeIn ws) + 5 * countIn ws
+short-length ws e = short.shortened-length ws e
+
+-- the short form of a ring reads as a short ring
+pub short-reads : (ws : List ℕ) → readsAsRing ws ≡ true → readsAsShort (shortened ws) ≡ true
+short-reads ws e = short.short-reads ws e
+
+-- "A ring turned short and back is itself": whatever the long buffer held
+pub short-and-back :
+    (ws old : List ℕ) → readsAsRing ws ≡ true → length old ≡ ringLength → lengthenBuffer (shortened ws) old ≡ record { answer = 0; words = ws }
+short-and-back ws old e l = short.lengthen-shortened ws old e l
+
+-- "and so is a short ring made long and short again": in any place that is long enough
+pub long-and-back :
+    (edition place : List ℕ) → readsAsShort edition ≡ true → length edition ≤ length place
+    → shortenBuffer (lengthened edition) place ≡ record { answer = 0; length = length edition; place = edition ++ drop (length edition) place }
+long-and-back edition place e l = short.shorten-lengthened edition place e l
+
+-- "Two rings have equal short forms only if equal."
+pub short-tells : (ws vs : List ℕ) → readsAsRing ws ≡ true → readsAsRing vs ≡ true → shortened ws ≡ shortened vs → ws ≡ vs
+short-tells ws vs e f p = short.short-tells ws vs e f p
+
+-- "A word belonging to no stand, pair or message is wholly 0."
+pub none-belongs : (r : Ring) (i : ℕ) → belongs (size (r .table)) (length (r .messages)) i ≡ false → wordAt r i ≡ 0
+none-belongs r i f = short.none-belongs r i f
 
 -- ---- joins
 

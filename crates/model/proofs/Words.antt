@@ -3,20 +3,22 @@ use mathlib.Core.Path.{_≡_, sym, ap, ap₂, _∙_, subst}
 use Prim.Native.Nat.{ℕ, _+_, _-_, _*_, _/_, _%_, _^_, _<_}
 use native.Mathlib.Omega.{arith}
 use native.Mathlib.Decide.{decLt}
-use mathlib.Core.Bool.{true, false, not, _&&_}
+use mathlib.Core.Bool.{Bool, true, false, not, _&&_}
 use mathlib.Core.List.{List, [], _∷_}
 use lib.ListN.{length, getD}
 use lib.Seq.{ext-getD}
 use lib.Arith.{digits-mod}
 use lib.Dec.{ltb, eqb, lit<}
 use borrow.Author.Tests.{le-ltb, lt-ltb, ltb-true, eqb-true, eqb-false, eq-eqb, ne-eqb}
+use Rattle.model.specs.Choice.{if_then_else_}
 use Rattle.model.specs.Leafset.{Table, size}
 use Rattle.model.specs.Ring.{Ring}
 use Rattle.model.specs.WellFormed.{WellFormedSides, Other, nil, cons}
 use Rattle.model.specs.Fields.{bits}
 use Rattle.model.specs.Structs.{RoomSides}
 use Rattle.model.specs.declared.values.Sides.{Sides}
-use Rattle.model.specs.Words.{sidesOf, headWord, isPair, ofNode, ofPair, ofMessage, nodePlace, pairPlace, messagePlace, wordAt, ringLength, encode, decode, ringFits, formatFits, readsAsRing}
+use Rattle.model.specs.Words.{sidesOf, headWord, inHead, inNode, inPair, inMessage, pairOf, isPair, nodePlace, pairPlace, messagePlace, byPlace}
+use Rattle.model.specs.Words.{belongs, wordAt, ringLength, encode, decode, ringFits, formatFits, readsAsRing}
 use Rattle.model.proofs.Laws.{and-left, and-right, and-in, not-in, not-out, all-in, all-out, every-in, every-out, length-tabulate, getD-tabulate}
 use Rattle.model.proofs.Lists.{first, rest}
 use Rattle.model.proofs.Fields.{field, bits<}
@@ -55,42 +57,82 @@ pub encode-at : (r : Ring) (i : ℕ) → i < ringLength → getD (encode r) i 0 
 unfolding encode
 encode-at r i h = getD-tabulate (wordAt r) 0 ringLength i h
 
+-- what is said of a place, at the places of a node, a pair and a message
+module _ {A : Type 0} (head : A) (node : ℕ → ℕ → A) (pair : ℕ → ℕ → ℕ → A) (message : ℕ → ℕ → A) where
+  pub by-node : (s i : ℕ) → s < 64 → i < 2 → byPlace head node pair message (nodePlace s + i) ≡ node s i
+  by-node s i hs hi =
+      let p : ℕ = nodePlace s + i in
+      let a : ltb p 1 ≡ false = le-ltb p 1 (omega arith) in
+      let b : ltb p 129 ≡ true = lt-ltb p 129 (omega arith) in
+      let q : (p - 1) / 2 ≡ s = omega arith in
+      let e : p - 1 ≡ s * 2 + i = omega arith in
+      let u : (p - 1) % 2 ≡ i = ap (λ (k : ℕ). k % 2) e ∙ digits-mod s hi in
+      rw (a, b, q, u)
+
+  pub by-pair : (x z i : ℕ) → x < 64 → z < 64 → i < 2 → byPlace head node pair message (pairPlace x z + i) ≡ pair x z i
+  by-pair x z i hx hz h =
+      let p : ℕ = pairPlace x z + i in
+      let a : ltb p 1 ≡ false = le-ltb p 1 (omega arith) in
+      let b : ltb p 129 ≡ false = le-ltb p 129 (omega arith) in
+      let c : ltb p 8321 ≡ true = lt-ltb p 8321 (omega arith) in
+      let q : (p - 129) / 2 / 64 ≡ x = omega arith in
+      let e : (p - 129) / 2 ≡ x * 64 + z = omega arith in
+      let f : p - 129 ≡ (64 * x + z) * 2 + i = omega arith in
+      let s : (p - 129) / 2 % 64 ≡ z = ap (λ (k : ℕ). k % 64) e ∙ digits-mod x hz in
+      let u : (p - 129) % 2 ≡ i = ap (λ (k : ℕ). k % 2) f ∙ digits-mod (64 * x + z) h in
+      rw (a, b, c, q, s, u)
+
+  pub by-message : (k i : ℕ) → i < 5 → byPlace head node pair message (messagePlace k + i) ≡ message k i
+  by-message k i hi =
+      let p : ℕ = messagePlace k + i in
+      let a : ltb p 1 ≡ false = le-ltb p 1 (omega arith) in
+      let b : ltb p 129 ≡ false = le-ltb p 129 (omega arith) in
+      let c : ltb p 8321 ≡ false = le-ltb p 8321 (omega arith) in
+      let q : (p - 8321) / 5 ≡ k = omega arith in
+      let e : p - 8321 ≡ k * 5 + i = omega arith in
+      let u : (p - 8321) % 5 ≡ i = ap (λ (j : ℕ). j % 5) e ∙ digits-mod k hi in
+      rw (a, b, c, q, u)
+
+-- which of these belong
+pub node-belongs : (n m s i : ℕ) → s < 64 → i < 2 → belongs n m (nodePlace s + i) ≡ ltb s n
+unfolding belongs
+node-belongs n m s i hs hi = by-node true (λ s j. ltb s n) (λ x z j. pairOf n x z) (λ k j. ltb k m) s i hs hi
+
+pub pair-belongs : (n m x z i : ℕ) → x < 64 → z < 64 → i < 2 → belongs n m (pairPlace x z + i) ≡ pairOf n x z
+unfolding belongs
+pair-belongs n m x z i hx hz hi = by-pair true (λ s j. ltb s n) (λ x z j. pairOf n x z) (λ k j. ltb k m) x z i hx hz hi
+
+pub message-belongs : (n m k i : ℕ) → i < 5 → belongs n m (messagePlace k + i) ≡ ltb k m
+unfolding belongs
+message-belongs n m k i hi = by-message true (λ s j. ltb s n) (λ x z j. pairOf n x z) (λ k j. ltb k m) k i hi
+
+-- the word at each: word i of node s, of the pair (x, z), of message k
+abbrev pub ofNode : Ring → ℕ → ℕ → ℕ
+ofNode r s i = if ltb s (size (r .table)) then inNode r s i else 0
+
+abbrev pub ofPair : Ring → ℕ → ℕ → ℕ → ℕ
+ofPair r x z i = if isPair (r .table) x z then inPair r x z i else 0
+
+abbrev pub ofMessage : Ring → ℕ → ℕ → ℕ
+ofMessage r k i = if ltb k (length (r .messages)) then inMessage r k i else 0
+
 pub node-at : (r : Ring) (s i : ℕ) → s < 64 → i < 2 → wordAt r (nodePlace s + i) ≡ ofNode r s i
 unfolding wordAt
 node-at r s i hs hi =
-    let p : ℕ = nodePlace s + i in
-    let a : ltb p 1 ≡ false = le-ltb p 1 (omega arith) in
-    let b : ltb p 129 ≡ true = lt-ltb p 129 (omega arith) in
-    let q : (p - 1) / 2 ≡ s = omega arith in
-    let e : p - 1 ≡ s * 2 + i = omega arith in
-    let u : (p - 1) % 2 ≡ i = ap (λ (k : ℕ). k % 2) e ∙ digits-mod s hi in
-    rw (a, b, q, u)
+    ap₂ (λ (b : Bool) (w : ℕ). if b then w else 0)
+    (node-belongs (size (r .table)) (length (r .messages)) s i hs hi) (by-node (inHead r) (inNode r) (inPair r) (inMessage r) s i hs hi)
 
 pub pair-at : (r : Ring) (x z i : ℕ) → x < 64 → z < 64 → i < 2 → wordAt r (pairPlace x z + i) ≡ ofPair r x z i
 unfolding wordAt
-pair-at r x z i hx hz h =
-    let p : ℕ = pairPlace x z + i in
-    let a : ltb p 1 ≡ false = le-ltb p 1 (omega arith) in
-    let b : ltb p 129 ≡ false = le-ltb p 129 (omega arith) in
-    let c : ltb p 8321 ≡ true = lt-ltb p 8321 (omega arith) in
-    let q : (p - 129) / 2 / 64 ≡ x = omega arith in
-    let e : (p - 129) / 2 ≡ x * 64 + z = omega arith in
-    let f : p - 129 ≡ (64 * x + z) * 2 + i = omega arith in
-    let s : (p - 129) / 2 % 64 ≡ z = ap (λ (k : ℕ). k % 64) e ∙ digits-mod x hz in
-    let u : (p - 129) % 2 ≡ i = ap (λ (k : ℕ). k % 2) f ∙ digits-mod (64 * x + z) h in
-    rw (a, b, c, q, s, u)
+pair-at r x z i hx hz hi =
+    ap₂ (λ (b : Bool) (w : ℕ). if b then w else 0)
+    (pair-belongs (size (r .table)) (length (r .messages)) x z i hx hz hi) (by-pair (inHead r) (inNode r) (inPair r) (inMessage r) x z i hx hz hi)
 
 pub message-at : (r : Ring) (k i : ℕ) → i < 5 → wordAt r (messagePlace k + i) ≡ ofMessage r k i
 unfolding wordAt
 message-at r k i hi =
-    let p : ℕ = messagePlace k + i in
-    let a : ltb p 1 ≡ false = le-ltb p 1 (omega arith) in
-    let b : ltb p 129 ≡ false = le-ltb p 129 (omega arith) in
-    let c : ltb p 8321 ≡ false = le-ltb p 8321 (omega arith) in
-    let q : (p - 8321) / 5 ≡ k = omega arith in
-    let e : p - 8321 ≡ k * 5 + i = omega arith in
-    let u : (p - 8321) % 5 ≡ i = ap (λ (j : ℕ). j % 5) e ∙ digits-mod k hi in
-    rw (a, b, c, q, u)
+    ap₂ (λ (b : Bool) (w : ℕ). if b then w else 0)
+    (message-belongs (size (r .table)) (length (r .messages)) k i hi) (by-message (inHead r) (inNode r) (inPair r) (inMessage r) k i hi)
 
 -- every place is word 0's, a node's, a pair's or a message's: what holds at each of these holds at every place
 pub every-place : (P : ℕ → Type 0) → P 0

@@ -7,9 +7,9 @@ use Rattle.model.specs.Choice.{if_then_else_}
 use Rattle.model.specs.declared.answer.Answer.{Answer}
 use Rattle.model.specs.declared.answer.Answer.the-variants.{Accepted, WrongLength, OpeningOutOfRange, BadKey, NotAnEvent, SameNode, NotARing}
 use Rattle.model.specs.declared.answer.Answer.the-variants.{OutOfTable, NodeOff, AlreadyRunning, ClockSpent, PoolFull, KeyOutOfRange, ListTooShort}
-use Rattle.model.specs.declared.answer.Answer.the-variants.{SidesDiffer, TablesClash, TooManyMessages, SenderFull, NotWatched}
+use Rattle.model.specs.declared.answer.Answer.the-variants.{SidesDiffer, TablesClash, TooManyMessages, SenderFull, NotWatched, NotShort, PlaceTooSmall}
 
--- "answer (0 accepted)"; "Refusals from the input", "Refusals from the state": the numbers 1 to 11; document 02 adds 12 to 18
+-- "answer (0 accepted)"; "Refusals from the input", "Refusals from the state": the numbers 1 to 11; document 02 adds 12 to 20
 abbrev pub numberOf : Answer → ℕ
 numberOf Accepted = 0
 numberOf WrongLength = 1
@@ -30,6 +30,8 @@ numberOf TablesClash = 15
 numberOf TooManyMessages = 16
 numberOf SenderFull = 17
 numberOf NotWatched = 18
+numberOf NotShort = 19
+numberOf PlaceTooSmall = 20
 
 abbrev pub isAccepted : ℕ → Bool
 isAccepted a = eqb a 0

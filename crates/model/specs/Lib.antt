@@ -23,3 +23,4 @@ pub mod Preview
 pub mod Screens
 pub mod Join
 pub mod Listener
+pub mod Short

@@ -1,6 +1,6 @@
 -- The ring's words: writing a ring, reading one, and which words read as a ring.
 use Prim.Native.Nat.{ℕ, _+_, _-_, _*_, _/_, _%_, _^_}
-use mathlib.Core.Bool.{Bool, not, _&&_, _||_}
+use mathlib.Core.Bool.{Bool, true, not, _&&_, _||_}
 use mathlib.Core.List.{List, [], _∷_}
 use lib.ListN.{length, getD}
 use lib.Dec.{ltb, leb, eqb}
@@ -12,9 +12,37 @@ use Rattle.model.specs.Fields.{bits, bit, flag, ofKind}
 use Rattle.model.specs.Types.{types, usesView, usesSubject, namesSpare, usesStamp}
 use Rattle.model.specs.declared.values.Sides.{Sides}
 
--- (x, z) is a "pair .. of different stands"
+-- ---- places
+
+-- "Words 1 + 2s and 2 + 2s for stand s"; "Words from 129, two for each pair (x, z) .. at 129 + 2 times (64 times x + z)";
+-- "Words from 8,321, five a message, oldest first": the first word of each
+abbrev pub nodePlace : ℕ → ℕ
+nodePlace s = 1 + 2 * s
+
+abbrev pub pairPlace : ℕ → ℕ → ℕ
+pairPlace x z = 129 + 2 * (64 * x + z)
+
+abbrev pub messagePlace : ℕ → ℕ
+messagePlace k = 8321 + 5 * k
+
+-- what is said of place i, by whose it is: of word 0, of word j of node s, of the pair (x, z), of message k
+abbrev pub byPlace : {A : Type 0} → A → (ℕ → ℕ → A) → (ℕ → ℕ → ℕ → A) → (ℕ → ℕ → A) → ℕ → A
+byPlace head node pair message i =
+    if ltb i 1 then head
+    else if ltb i 129 then node ((i - 1) / 2) ((i - 1) % 2)
+    else if ltb i 8321 then pair ((i - 129) / 2 / 64) ((i - 129) / 2 % 64) ((i - 129) % 2)
+    else message ((i - 8321) / 5) ((i - 8321) % 5)
+
+-- (x, z) is a "pair .. of different stands" of n
+abbrev pub pairOf : ℕ → ℕ → ℕ → Bool
+pairOf n x z = ltb x n && ltb z n && not (eqb x z)
+
 abbrev pub isPair : Table → ℕ → ℕ → Bool
-isPair t x z = ltb x (size t) && ltb z (size t) && not (eqb x z)
+isPair t x z = pairOf (size t) x z
+
+-- place i belongs to word 0, to one of n nodes, to a pair of them, or to one of m messages
+unfoldable pub belongs : ℕ → ℕ → ℕ → Bool
+belongs n m = byPlace true (λ s j. ltb s n) (λ x z j. pairOf n x z) (λ k j. ltb k m)
 
 -- ---- writing
 
@@ -64,34 +92,23 @@ messageWords m =
     ∷ viewWord (bits 48 16 (toBits 64 (m .view)))
     ∷ []
 
--- word i of node s, of the pair (x, z), of message k; "A word belonging to no stand, pair or message is wholly 0."
-abbrev pub ofNode : Ring → ℕ → ℕ → ℕ
-ofNode r s i = if ltb s (size (r .table)) then getD (nodeWords (key (r .table) s) (r .node s)) i 0 else 0
+-- word 0; word j of node s, of the pair (x, z), of message k
+module _ (r : Ring) where
+  abbrev pub inHead : ℕ
+  inHead = headWord (r .table .sides) (size (r .table)) (length (r .messages))
 
-abbrev pub ofPair : Ring → ℕ → ℕ → ℕ → ℕ
-ofPair r x z i = if isPair (r .table) x z then getD (pairWords (r .node x .own) z) i 0 else 0
+  abbrev pub inNode : ℕ → ℕ → ℕ
+  inNode s j = getD (nodeWords (key (r .table) s) (r .node s)) j 0
 
-abbrev pub ofMessage : Ring → ℕ → ℕ → ℕ
-ofMessage r k i = if ltb k (length (r .messages)) then getD (messageWords (messageAt r k)) i 0 else 0
+  abbrev pub inPair : ℕ → ℕ → ℕ → ℕ
+  inPair x z j = getD (pairWords (r .node x .own) z) j 0
 
--- "Words 1 + 2s and 2 + 2s for stand s"; "Words from 129, two for each pair (x, z) .. at 129 + 2 times (64 times x + z)";
--- "Words from 8,321, five a message, oldest first": the first word of each
-abbrev pub nodePlace : ℕ → ℕ
-nodePlace s = 1 + 2 * s
+  abbrev pub inMessage : ℕ → ℕ → ℕ
+  inMessage k j = getD (messageWords (messageAt r k)) j 0
 
-abbrev pub pairPlace : ℕ → ℕ → ℕ
-pairPlace x z = 129 + 2 * (64 * x + z)
-
-abbrev pub messagePlace : ℕ → ℕ
-messagePlace k = 8321 + 5 * k
-
--- the word at place i, by whose place it is
-unfoldable pub wordAt : Ring → ℕ → ℕ
-wordAt r i =
-    if ltb i 1 then headWord (r .table .sides) (size (r .table)) (length (r .messages))
-    else if ltb i 129 then ofNode r ((i - 1) / 2) ((i - 1) % 2)
-    else if ltb i 8321 then ofPair r ((i - 129) / 2 / 64) ((i - 129) / 2 % 64) ((i - 129) % 2)
-    else ofMessage r ((i - 8321) / 5) ((i - 8321) % 5)
+  -- the word at place i; "A word belonging to no stand, pair or message is wholly 0."
+  unfoldable pub wordAt : ℕ → ℕ
+  wordAt i = if belongs (size (r .table)) (length (r .messages)) i then byPlace inHead inNode inPair inMessage i else 0
 
 -- "A ring fills 13,441 words of 32 bits."
 abbrev pub ringLength : ℕ
@@ -132,19 +149,23 @@ module _ (ws : List ℕ) where
         own = decodeOwn s;
       }
 
-  unfoldable pub decodeMessage : ℕ → Message
-  decodeMessage k =
+  -- the message whose five words begin at place p
+  unfoldable pub decodeMessageAt : ℕ → Message
+  decodeMessageAt p =
       record {
-        type = bits 0 4 (at (messagePlace k));
-        sender = bits 4 6 (at (messagePlace k));
-        receiver = bits 10 6 (at (messagePlace k));
-        subject = bits 16 7 (at (messagePlace k));
-        stamp = bits 0 24 (at (messagePlace k + 1));
+        type = bits 0 4 (at p);
+        sender = bits 4 6 (at p);
+        receiver = bits 10 6 (at p);
+        subject = bits 16 7 (at p);
+        stamp = bits 0 24 (at (p + 1));
         view = ofBits
-            (bits 0 24 (at (messagePlace k + 2))
-            + 2 ^ 24 * bits 0 24 (at (messagePlace k + 3))
-            + 2 ^ 48 * bits 0 16 (at (messagePlace k + 4)));
+            (bits 0 24 (at (p + 2))
+            + 2 ^ 24 * bits 0 24 (at (p + 3))
+            + 2 ^ 48 * bits 0 16 (at (p + 4)));
       }
+
+  abbrev pub decodeMessage : ℕ → Message
+  decodeMessage k = decodeMessageAt (messagePlace k)
 
   unfoldable pub decode : Ring
   decode = record { table = decodeTable; node = decodeNode; messages = tabulate (bits 11 11 (at 0)) decodeMessage }

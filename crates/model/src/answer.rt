@@ -20,4 +20,6 @@ pub enum Answer {
     TooManyMessages,
     SenderFull,
     NotWatched,
+    NotShort,
+    PlaceTooSmall,
 }
