@@ -12,7 +12,7 @@ use Rattle.model.specs.Fields.{bit, bits}
 use Rattle.model.specs.Sets.{Set, count}
 use Rattle.model.specs.Types.{pongReplace, leave}
 use Rattle.model.specs.Ring.{Ring, Message, blank, isRunning, messageAt}
-use Rattle.model.specs.Words.{at, messagePlace, decodeMessage, decode}
+use Rattle.model.specs.Words.{at, messagePlace, decodeMessageAt, decodeMessage, decode}
 use Rattle.model.proofs.Laws.{count-le, count-cong, length-tabulate, getD-tabulate}
 use Rattle.audit_account.specs.Points.{isAcknowledgement, isLateLeave, acknowledgements, lateLeaves}
 
@@ -46,7 +46,7 @@ module _ (ws : List ℕ) where
       → (runs : Bool) → runs ≡ isRunning (decode ws) sender
       → {b c : ℕ} → b ≡ bit (eqb tag pongReplace) → c ≡ bit (eqb tag leave && runs)
       → Looked (a + b) (l + c) (i + 1)
-  unfolding decodeMessage
+  unfolding decodeMessageAt
   looked-more {a} {l} {i} k h w tag sender e f g runs q {b} {c} p s =
       record {
         within = omega arith;

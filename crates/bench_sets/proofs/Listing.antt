@@ -4,13 +4,14 @@ use mathlib.Core.List.{List, [], _∷_, _++_, append-assoc, append-nil}
 use Prim.Native.Nat.{ℕ, _+_, _*_, _^_, _≤_, _<_}
 use native.Mathlib.Omega.{arith}
 use lib.ListN.{length}
+use Rattle.model.proofs.Laws.{length-members}
 use Rattle.bench_lines.specs.Decimal.{spaced}
 use Rattle.bench_lines.specs.Put.{Put}
 use Rattle.bench_lines.proofs.Decimals.{spaced-append}
 use Rattle.bench_lines.proofs.Puts.{put-none, put-more, put-as}
 use Rattle.model.specs.Sets.{ofBits, count, members, lowest}
 use Rattle.sets.specs.Rest.{IsRest}
-use Rattle.sets.proofs.Members.{length-members, members-next}
+use Rattle.sets.proofs.Members.{members-next}
 use Rattle.sets.proofs.Bits.{first-bit, members-end}
 
 -- those before `rest` are put

@@ -9,6 +9,7 @@ use native.Mathlib.Omega.{arith}
 use lib.Dec.{ltb}
 use lib.ListN.{length, getD, take, length-take, length-map}
 use lib.Seq.{ext-getD, getD-take}
+use Rattle.model.proofs.Laws.{map-at}
 use Rattle.model.specs.Choice.{if_then_else_}
 use Rattle.model.specs.Sets.{Set, count}
 use Rattle.ring_head.proofs.Arrays.{Filled}
@@ -29,11 +30,6 @@ greatest-more f y = rw (add-one y)
 pub lowest-more : (keys : List ℕ) (y : ℕ) → lowestOf (y + 1) keys ≡ min (lowestOf y keys) (getD keys y 0)
 unfolding lowestOf
 lowest-more keys y = rw (add-one y)
-
-map-at : (f : ℕ → ℕ) (l : List ℕ) (i : ℕ) → i < length l → getD (map f l) i 0 ≡ f (getD l i 0)
-map-at f [] i h = absurd (not-suc-le-zero h)
-map-at f (x ∷ l) zero h = refl
-map-at f (x ∷ l) (suc i) h = map-at f l i (le-of-suc-le-suc h)
 
 pub behind-filled : (keys out : List ℕ) → length keys ≤ 64 → Filled (λ k. k) out 0 (λ y. behind (getD keys y 0)) (length keys)
     → take (length keys) out ≡ map behind keys

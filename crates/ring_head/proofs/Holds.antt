@@ -13,9 +13,9 @@ use borrow.Author.Tests.{lt-ltb, le-ltb, eq-eqb, ltb-true, ltb-false}
 use Rattle.model.specs.Choice.{if_then_else_}
 use Rattle.model.specs.Leafset.{Table, size, key}
 use Rattle.model.specs.Ring.{Node, Message, Ring, blank}
-use Rattle.model.specs.Words.{isPair, headWord, nodeWords, pairWords, messageWords, ofNode, ofPair, nodePlace, pairPlace, messagePlace, ringLength, wordAt, encode}
+use Rattle.model.specs.Words.{isPair, headWord, nodeWords, pairWords, messageWords, nodePlace, pairPlace, messagePlace, ringLength, belongs, wordAt, encode}
 use Rattle.model.specs.Play.{setNode, setMessages}
-use Rattle.model.proofs.Words.{length-encode, encode-at, node-at, pair-at, message-at, every-place, pair-in}
+use Rattle.model.proofs.Words.{length-encode, encode-at, node-at, pair-at, message-at, every-place, pair-in, ofNode, ofPair}
 use Rattle.model.proofs.Laws.{put-each}
 
 -- ---- words that are a ring's, place by place
@@ -33,7 +33,7 @@ encoded ρ ws h =
     (λ i l. let k : i < ringLength = omega (arith, h .long) in h .word i k ∙ sym (encode-at ρ i k))
 
 pub head-at : (ρ : Ring) → wordAt ρ 0 ≡ headWord (ρ .table .sides) (size (ρ .table)) (length (ρ .messages))
-unfolding wordAt
+unfolding belongs wordAt
 head-at ρ = refl
 
 -- ---- what is a pair, and what is none

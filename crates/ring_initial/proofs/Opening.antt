@@ -13,8 +13,8 @@ use lib.Seq.{getD-set-same, getD-set-other}
 use borrow.Author.Tests.{lt-ltb, le-ltb}
 use Rattle.model.specs.Leafset.{Table, size, key}
 use Rattle.model.specs.Ring.{Ring, initial, cleared}
-use Rattle.model.specs.Words.{isPair, headWord, keyWord, clockWord, pairWords, ofPair, nodePlace, pairPlace, messagePlace, wordAt, encode}
-use Rattle.model.proofs.Words.{node-at, pair-at, message-at, every-place, pair-low, pair-other}
+use Rattle.model.specs.Words.{isPair, headWord, keyWord, clockWord, pairWords, nodePlace, pairPlace, messagePlace, wordAt, encode}
+use Rattle.model.proofs.Words.{node-at, pair-at, message-at, every-place, pair-low, pair-other, ofPair}
 use Rattle.model.proofs.Laws.{clash}
 use Rattle.ring_ranges.specs.Spans.{Patched}
 use Rattle.ring_ranges.proofs.Patches.{patched-more}

@@ -13,14 +13,14 @@ use borrow.Author.Tests.{lt-ltb, le-ltb}
 use Rattle.model.specs.Fields.{bits}
 use Rattle.model.specs.Leafset.{size, key}
 use Rattle.model.specs.Ring.{Node, Message, Ring, cleared}
-use Rattle.model.specs.Words.{sidesOf, headWord, nodeWords, pairWords, isPair, ofNode, ofPair, ofMessage, nodePlace, pairPlace, messagePlace, wordAt, encode}
+use Rattle.model.specs.Words.{sidesOf, headWord, nodeWords, pairWords, isPair, nodePlace, pairPlace, messagePlace, wordAt, encode}
 use Rattle.model.specs.Words.{decodeTable, decodeOwn, decodeNode, decode}
 use Rattle.model.specs.Play.{setMessages}
 use Rattle.model.specs.Join.{raisedOwn, raisedNode, join}
 use Rattle.model.specs.declared.values.Sides.{Sides}
 use Rattle.model.proofs.Laws.{clash, is-false, decide}
 use Rattle.model.proofs.Joins as joins
-use Rattle.model.proofs.Words.{decoded-back, head-reads, node-at, pair-at, message-at, every-place, pair-low, pair-other}
+use Rattle.model.proofs.Words.{decoded-back, head-reads, node-at, pair-at, message-at, every-place, pair-low, pair-other, ofNode, ofPair, ofMessage}
 use Rattle.ring_head.specs.Parts.{Encodes}
 use Rattle.ring_head.proofs.Holds.{Holds, holds, encoded, head-at, pair-yes, pair-high}
 use Rattle.ring_ranges.specs.Spans.{Patched}

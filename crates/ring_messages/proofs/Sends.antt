@@ -9,10 +9,10 @@ use lib.ListN.{length}
 use Rattle.model.specs.Sets.{Set, ofBits, count, lowest, members}
 use Rattle.model.specs.Ring.{Ring, Message}
 use Rattle.model.specs.Play.{setMessages}
-use Rattle.model.proofs.Laws.{and-left}
+use Rattle.model.proofs.Laws.{and-left, length-members}
 use Rattle.model.proofs.Bits.{bit-below}
 use Rattle.sets.specs.Rest.{IsRest}
-use Rattle.sets.proofs.Members.{length-members, members-next}
+use Rattle.sets.proofs.Members.{members-next}
 use Rattle.sets.proofs.Bits.{Rising, rising-rest, rising-first, rising-next, members-end}
 use Rattle.ring_head.specs.Parts.{Encodes}
 

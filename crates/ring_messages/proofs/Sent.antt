@@ -11,7 +11,7 @@ use lib.Seq.{length-take-le, take-all}
 use Rattle.model.specs.Choice.{if_then_else_}
 use Rattle.model.specs.Fields.{bit, bits}
 use Rattle.model.specs.Ring.{Message, messageAt, sentBy}
-use Rattle.model.specs.Words.{at, messagePlace, decodeMessage, decode}
+use Rattle.model.specs.Words.{at, messagePlace, decodeMessageAt, decode}
 use Rattle.model.proofs.Senders.{oneOf, sent-next, sent-le}
 use Rattle.ring_head.proofs.ReadRing.{read-message}
 
@@ -31,7 +31,7 @@ module _ (ws : List ℕ) (x : ℕ) where
 
   pub sent-before-next : {sent k : ℕ} → SentBefore sent k → k < length (decode ws .messages) → {sender one : ℕ}
       → sender ≡ bits 4 6 (at ws (messagePlace k)) → one ≡ bit (eqb sender x) → SentBefore (sent + one) (k + 1)
-  unfolding decodeMessage
+  unfolding decodeMessageAt
   sent-before-next {k = k} s h {sender} {one} is e =
       let same : messageAt (decode ws) k .sender ≡ sender = ap (λ (m : Message). m .sender) (read-message ws k h) ∙ sym is in
       let counts : oneOf x (messageAt (decode ws) k) ≡ one = ap (λ (y : ℕ). if eqb y x then 1 else 0) same ∙ sym (one-is (eqb sender x)) ∙ sym e in

@@ -2,6 +2,7 @@
 use mathlib.Core.Path.{_≡_, refl, sym, ap, _∙_}
 use mathlib.Core.List.{List, [], _∷_, _++_}
 use Prim.Native.Nat.{ℕ, _+_, _-_, _<_, _≤_}
+use native.Mathlib.Nat.{add-zero}
 use native.Mathlib.Omega.{arith}
 use native.Mathlib.Decide.{decLt}
 use lib.ListN.{length, getD, set, take, drop, length-set, List·getD-append}
@@ -31,6 +32,21 @@ module _ (ws ws' : List ℕ) (from to next : ℕ) (f : ℕ → ℕ) (v : ℕ) (s
     where
       here : (i : ℕ) → i ≡ to → getD (set ws' to v) i 0 ≡ f i
       here i q = rw (q, getD-set-same ws' to v 0 (rw (s .long) l)) e
+
+-- k words of another list, from its place `at` on, put from place `place` on
+module _ (ws words : List ℕ) (at place : ℕ) where
+  abbrev pub taken : ℕ → ℕ
+  taken i = getD words (at + (i - place)) 0
+
+  pub span-none : Patched ws ws place (place + 0) taken
+  span-none = rw (add-zero place) (patched-none ws place taken)
+
+  pub span-more : {ws' : List ℕ} (k : ℕ) → Patched ws ws' place (place + k) taken → place + k < length ws
+      → Patched ws (set ws' (place + k) (getD words (at + k) 0)) place (place + (k + 1)) taken
+  span-more {ws'} k s h =
+      let e : at + k ≡ at + (place + k - place) = omega arith in
+      patched-more ws ws' place (place + k) (place + (k + 1)) taken (getD words (at + k) 0) s (omega arith) h
+      (ap (λ (i : ℕ). getD words i 0) e) (omega arith)
 
 -- a span and the next, as one
 pub patched-join : {ws ws' ws'' : List ℕ} {from mid to : ℕ} {f g : ℕ → ℕ} → from ≤ mid → mid ≤ to

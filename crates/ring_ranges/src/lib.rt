@@ -1,4 +1,4 @@
-// A span of a ring's words, moved or cleared; all of them, copied.
+// A span of words, moved, cleared or copied; all of a ring's, copied.
 ghost use mathlib.Core.Path.{_≡_};
 ghost use Prim.Native.Nat.{_+_, _-_, _≤_};
 ghost use lib.ListN.{length, getD};
@@ -42,5 +42,16 @@ pub fn copy(words: &[u32], to: &mut [u32])
 {
     for i in 0..words.len() {
         to[i] = words[i];
+    }
+}
+
+// Copies `count` words from place `at` on to place `place` on.
+pub fn copy_span(words: &[u32], at: usize, to: &mut [u32], place: usize, count: usize)
+    requires words { ⌜ (at + count ≤ length (now words)) × (place + count ≤ length (now to)) ⌝ }
+    ensures value { λ _. ⌜ Patched (now (to .entry)) (now (to .exit)) place (place + count)
+        (λ i. getD (now (words .entry)) (at + (i - place)) 0) ⌝ }
+{
+    for i in 0..count {
+        to[place + i] = words[at + i];
     }
 }

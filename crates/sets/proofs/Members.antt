@@ -34,15 +34,6 @@ members-cong zero S R e = refl
 members-cong (suc n) S R e =
     ap₂ (λ (l : List ℕ) (b : Bool). l ++ (if b then n ∷ [] else [])) (members-cong n S R (λ y h. e y (omega arith))) (e n (le-refl (suc n)))
 
-pub length-members : (n : ℕ) (S : Set) → length (members n S) ≡ count n S
-unfolding members count
-length-members zero S = refl
-length-members (suc n) S = simp length-append (ap₂ (λ (a b : ℕ). a + b) (length-members n S) (go (S n)))
-  where
-    go : (b : Bool) → length (if b then n ∷ [] else []) ≡ (if b then 1 else 0)
-    go true = refl
-    go false = refl
-
 -- s is the lowest member of S, and below n
 pub record First (n : ℕ) (S : Set) (s : ℕ) : Type 0 where
   pub below : s < n

@@ -17,11 +17,10 @@ use Rattle.model.specs.Fields.{bits}
 use Rattle.model.specs.Leafset.{Table, size}
 use Rattle.model.specs.Ring.{Message}
 use Rattle.model.specs.Types.{pongAskRepl}
-use Rattle.model.specs.Words.{at, messageWord, messagePlace, decodeMessage, messageTests, messageFits, ringLength, isType, subjectFits, viewFits}
+use Rattle.model.specs.Words.{at, messageWord, decodeMessageAt, messageTests, messageFits, isType, subjectFits, viewFits}
 use Rattle.model.proofs.Types.{types-use}
 use Rattle.valid_messages.specs.Senders.{sendersRead}
 use Rattle.valid_messages.specs.Messages.{messageReads, messagesRead}
-use Rattle.valid_nodes.specs.Nodes.{clear}
 use Rattle.valid_messages.specs.Rests.{kept, stampFits, restReads}
 use Rattle.valid_messages.specs.Parts.{firstFits, firstReads, Halves}
 use Rattle.valid_nodes.proofs.Gather.{all-cong, all-both}
@@ -62,12 +61,12 @@ fields w =
     let d : bits 0 4 w ≡ w % 2 ^ 4 = lowest 4 w in
     omega arith
 
-module _ (ws : List ℕ) (k : ℕ) where
-  first-kept : kept ws k 0 ≡ eqb (getD ws (messagePlace k) 0 / 2 ^ 23) 192
-  unfolding decodeMessage messageWord
+module _ (ws : List ℕ) (base k : ℕ) where
+  first-kept : kept ws base k 0 ≡ eqb (getD ws (base + 5 * k) 0 / 2 ^ 23) 192
+  unfolding decodeMessageAt messageWord
   first-kept =
-      let w : ℕ = getD ws (messagePlace k) 0 in
-      rw (add-zero (messagePlace k))
+      let w : ℕ = getD ws (base + 5 * k) 0 in
+      rw (add-zero (base + 5 * k))
       (of-kind 23 6 192 w (bits 16 7 w * 2 ^ 16 + bits 10 6 w * 2 ^ 10 + bits 4 6 w * 2 ^ 4 + bits 0 4 w) (fields w) refl)
 
 -- the fields, by the halves of the word
@@ -97,23 +96,23 @@ firstTests n tag fits m =
     ∷ (eqb tag pongAskRepl ⇒ not (eqb (m .subject) (m .sender)) && not (eqb (m .subject) (m .receiver)))
     ∷ []
 
-module _ (ws : List ℕ) (t : Table) (k : ℕ) where
+module _ (ws : List ℕ) (base : ℕ) (t : Table) (k : ℕ) where
   abbrev message : Message
-  message = decodeMessage ws k
+  message = decodeMessageAt ws (base + 5 * k)
 
   -- the tests of a message's first word, as code joins them
   pub first-test : (n tag : ℕ) (fits : Bool) → size t ≡ n → message .type ≡ tag → fits ≡ subjectFits t message
-      → joined (eqb (getD ws (messagePlace k) 0 / 2 ^ 23) 192) (firstTests n tag fits message) ≡ firstReads ws t k
+      → joined (eqb (getD ws (base + 5 * k) 0 / 2 ^ 23) 192) (firstTests n tag fits message) ≡ firstReads ws base t k
   unfolding firstReads firstFits
   first-test n tag fits e f h =
       rw (← e, ← f, h, ← types-use .spare (message .type))
-      (joined-every (eqb (getD ws (messagePlace k) 0 / 2 ^ 23) 192) (take 6 (messageTests t message))
-      ∙ rw (first-kept ws k, and-true (firstFits t message)))
+      (joined-every (eqb (getD ws (base + 5 * k) 0 / 2 ^ 23) 192) (take 6 (messageTests t message))
+      ∙ rw (first-kept ws base k, and-true (firstFits t message)))
 
 -- ---- halves
 
-pub no-halves : (ws : List ℕ) (from : ℕ) (lows highs : List ℕ) → Halves ws from lows highs 0
-no-halves ws from lows highs = record { low = λ k h. absurd (omega arith); high = λ k h. absurd (omega arith) }
+pub no-halves : (ws : List ℕ) (base from : ℕ) (lows highs : List ℕ) → Halves ws base from lows highs 0
+no-halves ws base from lows highs = record { low = λ k h. absurd (omega arith); high = λ k h. absurd (omega arith) }
 
 -- one place more
 more : (v : ℕ → ℕ) (l : List ℕ) (k : ℕ) → k < length l → ((j : ℕ) → j < k → getD l j 0 ≡ v j) → (j : ℕ) → j < k + 1 → getD (set l k (v k)) j 0 ≡ v j
@@ -123,20 +122,23 @@ more v l k h f j i =
       | no d ↦ getD-set-other l k j (v k) 0 d ∙ f j (lt-of-le-ne (omega arith) d)
     ]
 
-pub more-halves : (ws : List ℕ) (from : ℕ) (lows highs : List ℕ) (k : ℕ) → k < length lows → k < length highs → Halves ws from lows highs k
-    → Halves ws from (set lows k (at ws (messagePlace (from + k)) % 2 ^ 16)) (set highs k (at ws (messagePlace (from + k)) / 2 ^ 16)) (k + 1)
-more-halves ws from lows highs k a b h =
+pub more-halves : (ws : List ℕ) (base from : ℕ) (lows highs : List ℕ) (k : ℕ) → k < length lows → k < length highs → Halves ws base from lows highs k
+    → Halves ws base from (set lows k (at ws (base + 5 * (from + k)) % 2 ^ 16)) (set highs k (at ws (base + 5 * (from + k)) / 2 ^ 16)) (k + 1)
+more-halves ws base from lows highs k a b h =
     record {
-      low = more (λ j. at ws (messagePlace (from + j)) % 2 ^ 16) lows k a (h .low);
-      high = more (λ j. at ws (messagePlace (from + j)) / 2 ^ 16) highs k b (h .high);
+      low = more (λ j. at ws (base + 5 * (from + j)) % 2 ^ 16) lows k a (h .low);
+      high = more (λ j. at ws (base + 5 * (from + j)) / 2 ^ 16) highs k b (h .high);
     }
 
 -- ---- a test of all messages, block by block
 
-pub all-blocks : (S : Set) (k n : ℕ) → all (k + n) S ≡ (all k S && all n (λ i. S (k + i)))
+all-blocks : (S : Set) (k n : ℕ) → all (k + n) S ≡ (all k S && all n (λ i. S (k + i)))
 unfolding all
 all-blocks S k zero = rw (add-zero k) (sym (and-true (all k S)))
 all-blocks S k (suc n) = rw (add-suc k n) (ap (λ (b : Bool). b && S (k + n)) (all-blocks S k n) ∙ and-assoc (all k S) (all n (λ i. S (k + i))) (S (k + n)))
+
+pub block-more : (S : Set) (k n : ℕ) (ok read : Bool) → ok ≡ all k S → read ≡ all n (λ i. S (k + i)) → (ok && read) ≡ all (k + n) S
+block-more S k n ok read e f = ap₂ _&&_ e f ∙ sym (all-blocks S k n)
 
 -- ---- messages in parts
 
@@ -154,25 +156,26 @@ fits-split : (t : Table) (m : Message) → messageFits t m ≡ (firstFits t m &&
 unfolding messageFits firstFits
 fits-split t m = every-append (take 6 (messageTests t m)) (stampFits m ∷ viewFits t m ∷ [])
 
-message-split : (ws : List ℕ) (t : Table) (k : ℕ) → messageReads ws t k ≡ (firstReads ws t k && restReads ws t k)
+message-split : (ws : List ℕ) (base : ℕ) (t : Table) (k : ℕ) → messageReads ws base t k ≡ (firstReads ws base t k && restReads ws base t k)
 unfolding messageReads firstReads restReads
-message-split ws t k =
-    ap₂ _&&_ (five (kept ws k)) (and-true (messageFits t m) ∙ fits-split t m)
-    ∙ swap (every (kept ws k 0 ∷ [])) (every rest) (firstFits t m) (every (stampFits m ∷ viewFits t m ∷ []))
+message-split ws base t k =
+    ap₂ _&&_ (five (kept ws base k)) (and-true (messageFits t m) ∙ fits-split t m)
+    ∙ swap (every (kept ws base k 0 ∷ [])) (every rest) (firstFits t m) (every (stampFits m ∷ viewFits t m ∷ []))
     ∙ ap₂ _&&_
-    (ap (λ (b : Bool). every (kept ws k 0 ∷ []) && b) (sym (and-true (firstFits t m))) ∙ sym (every-append (kept ws k 0 ∷ []) (firstFits t m ∷ [])))
+    (ap (λ (b : Bool). every (kept ws base k 0 ∷ []) && b) (sym (and-true (firstFits t m))) ∙ sym (every-append (kept ws base k 0 ∷ []) (firstFits t m ∷ [])))
     (sym (every-append rest (stampFits m ∷ viewFits t m ∷ [])))
   where
     m : Message
-    m = decodeMessage ws k
+    m = decodeMessageAt ws (base + 5 * k)
 
     rest : List Bool
-    rest = kept ws k 1 ∷ kept ws k 2 ∷ kept ws k 3 ∷ kept ws k 4 ∷ []
+    rest = kept ws base k 1 ∷ kept ws base k 2 ∷ kept ws base k 3 ∷ kept ws base k 4 ∷ []
 
-pub messages-split : (ws : List ℕ) (t : Table) (m : ℕ) → messagesRead ws t m
-    ≡ (all m (firstReads ws t) && all m (restReads ws t) && clear ws (messagePlace m) ringLength && sendersRead ws t m)
-unfolding messagesRead clear
-messages-split ws t m =
-    ap (λ (b : Bool). every (b ∷ clear ws (messagePlace m) ringLength ∷ sendersRead ws t m ∷ []))
-    (all-cong (messageReads ws t) (λ k. firstReads ws t k && restReads ws t k) m (λ k h. message-split ws t k) ∙ sym (all-both (firstReads ws t) (restReads ws t) m))
-    ∙ sym (joined-every (all m (firstReads ws t) && all m (restReads ws t)) (clear ws (messagePlace m) ringLength ∷ sendersRead ws t m ∷ []))
+pub messages-split : (ws : List ℕ) (base : ℕ) (t : Table) (m : ℕ) → messagesRead ws base t m
+    ≡ (all m (firstReads ws base t) && all m (restReads ws base t) && sendersRead ws base t m)
+unfolding messagesRead
+messages-split ws base t m =
+    ap (λ (b : Bool). every (b ∷ sendersRead ws base t m ∷ []))
+    (all-cong (messageReads ws base t) (λ k. firstReads ws base t k && restReads ws base t k) m (λ k h. message-split ws base t k)
+    ∙ sym (all-both (firstReads ws base t) (restReads ws base t) m))
+    ∙ sym (joined-every (all m (firstReads ws base t) && all m (restReads ws base t)) (sendersRead ws base t m ∷ []))

@@ -16,7 +16,7 @@ use lib.Arith.{lt-of-le-ne}
 use Rattle.model.specs.Fields.{bits}
 use Rattle.model.specs.Leafset.{Table, size}
 use Rattle.model.specs.Types.{usesStamp, usesView}
-use Rattle.model.specs.Words.{at, messagePlace, decodeMessage}
+use Rattle.model.specs.Words.{at, decodeMessageAt}
 use Rattle.model.proofs.Laws.{same-test, and-left, and-right, if-law, getD-tabulate}
 use Rattle.valid_nodes.proofs.Formats.{lowest, xor-test, xor-above}
 use Rattle.valid_messages.proofs.Lanes.{none-above, above-test, number, limited, short, without-receiver}
@@ -34,29 +34,33 @@ one-shifted b h = shl-exact 1 b 32 (lit< tt) (omega arith) ∙ one-mul (2 ^ b)
 -- ---- many rests
 
 -- what was gathered of word i of k rests is 0 exactly where nothing is wrong there
-pub record Met (ws types receivers : List ℕ) (k i empty met : ℕ) : Type 0 where
-  clear : eqb met 0 ≡ all k (λ j. eqb (wrong ws types receivers j i empty) 0)
-  small : (j : ℕ) → j < k → beyond ws j i empty < 2 ^ 32
+pub record Met (ws : List ℕ) (base : ℕ) (types receivers : List ℕ) (k i empty met : ℕ) : Type 0 where
+  clear : eqb met 0 ≡ all k (λ j. eqb (wrong ws base types receivers j i empty) 0)
+  small : (j : ℕ) → j < k → beyond ws base j i empty < 2 ^ 32
 
-pub none-met : (ws types receivers : List ℕ) (i empty : ℕ) → Met ws types receivers 0 i empty 0
+pub none-met : (ws : List ℕ) (base : ℕ) (types receivers : List ℕ) (i empty : ℕ) → Met ws base types receivers 0 i empty 0
 unfolding all
-none-met ws types receivers i empty = record { clear = refl; small = λ j h. absurd (omega arith) }
+none-met ws base types receivers i empty = record { clear = refl; small = λ j h. absurd (omega arith) }
 
-pub more-met : (ws types receivers : List ℕ) (k i empty met v : ℕ) → Met ws types receivers k i empty met → (v ≡ wrong ws types receivers k i empty) × (beyond ws k i empty < 2 ^ 32) → Met ws types receivers (k + 1) i empty (bitOr met v)
-more-met ws types receivers k i empty met v h e =
+pub more-met : (ws : List ℕ) (base : ℕ) (types receivers : List ℕ) (k i empty met v : ℕ) → Met ws base types receivers k i empty met
+    → (v ≡ wrong ws base types receivers k i empty) × (beyond ws base k i empty < 2 ^ 32) → Met ws base types receivers (k + 1) i empty (bitOr met v)
+more-met ws base types receivers k i empty met v h e =
     record {
-      clear = or-more (λ w. w) (λ a b. refl) (λ j. eqb (wrong ws types receivers j i empty) 0) k met v (h .clear) (ap (λ (w : ℕ). eqb w 0) (e .0));
+      clear = or-more (λ w. w) (λ a b. refl) (λ j. eqb (wrong ws base types receivers j i empty) 0) k met v (h .clear) (ap (λ (w : ℕ). eqb w 0) (e .0));
       small = λ j l. elim (ℕ-discrete j k) [ yes q ↦ rw q (e .1) | no d ↦ h .small j (lt-of-le-ne (omega arith) d) ];
     }
 
-pub met-joined : (ws types receivers : List ℕ) (m a b c d : ℕ) → Met ws types receivers m 0 1879048192 a → Met ws types receivers m 1 2147483648 b → Met ws types receivers m 2 2147483648 c → Met ws types receivers m 3 2147483648 d
-    → ((eqb a 0 && eqb b 0 && eqb c 0 && eqb d 0) ≡ all m (nothingWrong ws types receivers)) × ((k : ℕ) → k < m → Small ws k)
-met-joined ws types receivers m a b c d p q r s = (joined, λ k h. record { stamp = p .small k h; low = q .small k h; middle = r .small k h; high = s .small k h })
+pub met-joined : (ws : List ℕ) (base : ℕ) (types receivers : List ℕ) (m a b c d : ℕ)
+    → Met ws base types receivers m 0 1879048192 a → Met ws base types receivers m 1 2147483648 b
+    → Met ws base types receivers m 2 2147483648 c → Met ws base types receivers m 3 2147483648 d
+    → ((eqb a 0 && eqb b 0 && eqb c 0 && eqb d 0) ≡ all m (nothingWrong ws base types receivers)) × ((k : ℕ) → k < m → Small ws base k)
+met-joined ws base types receivers m a b c d p q r s =
+    (joined, λ k h. record { stamp = p .small k h; low = q .small k h; middle = r .small k h; high = s .small k h })
   where
     at : ℕ → ℕ → ℕ → Bool
-    at i empty k = eqb (wrong ws types receivers k i empty) 0
+    at i empty k = eqb (wrong ws base types receivers k i empty) 0
 
-    joined : (eqb a 0 && eqb b 0 && eqb c 0 && eqb d 0) ≡ all m (nothingWrong ws types receivers)
+    joined : (eqb a 0 && eqb b 0 && eqb c 0 && eqb d 0) ≡ all m (nothingWrong ws base types receivers)
     joined =
         ap₂ _&&_ (ap₂ _&&_ (ap₂ _&&_ (p .clear) (q .clear) ∙ all-both (at 0 1879048192) (at 1 2147483648) m) (r .clear) ∙ all-both (λ k. at 0 1879048192 k && at 1 2147483648 k) (at 2 2147483648) m) (s .clear)
         ∙ all-both (λ k. at 0 1879048192 k && at 1 2147483648 k && at 2 2147483648 k) (at 3 2147483648) m
@@ -144,25 +148,27 @@ room≤ n type (suc i) = if-law (λ v. v ≤ 32) (usesView type) (part n (24 * i
 
 -- ---- one rest
 
-module _ (ws types receivers : List ℕ) (n k : ℕ) (given : Tables types receivers n) where
+module _ (ws : List ℕ) (base : ℕ) (types receivers : List ℕ) (n k : ℕ) (given : Tables types receivers n) where
   abbrev tag : ℕ
-  tag = at ws (messagePlace k) % 16
+  tag = at ws (base + 5 * k) % 16
 
   abbrev receiver : ℕ
-  receiver = at ws (messagePlace k) / 2 ^ 10 % 64
+  receiver = at ws (base + 5 * k) / 2 ^ 10 % 64
 
   -- a word of the rest: short enough, and without the receiver's bit
-  lane : (i empty : ℕ) → i < 4 → beyond ws k i empty < 2 ^ 32
-      → eqb (wrong ws types receivers k i empty) 0 ≡ (ltb (beyond ws k i empty) (2 ^ room n tag i) && eqb (bitAnd (beyond ws k i empty) (receiverBit receiver i)) 0)
+  lane : (i empty : ℕ) → i < 4 → beyond ws base k i empty < 2 ^ 32
+      → eqb (wrong ws base types receivers k i empty) 0
+      ≡ (ltb (beyond ws base k i empty) (2 ^ room n tag i) && eqb (bitAnd (beyond ws base k i empty) (receiverBit receiver i)) 0)
   lane i empty h l =
       or-test (bitAnd u (getD types (4 * tag + i) 0)) (bitAnd u (getD receivers (4 * receiver + i) 0))
       ∙ ap₂ _&&_
-      (ap (λ (m : ℕ). eqb (bitAnd u m) 0) (ap (λ (t : List ℕ). getD t (4 * tag + i) 0) (given .of-types) ∙ type-entry n tag i (mod-lt (at ws (messagePlace k)) (lit< tt)) h)
+      (ap (λ (m : ℕ). eqb (bitAnd u m) 0) (ap (λ (t : List ℕ). getD t (4 * tag + i) 0) (given .of-types)
+      ∙ type-entry n tag i (mod-lt (at ws (base + 5 * k)) (lit< tt)) h)
       ∙ above-test (room n tag i) u (room≤ n tag i) l)
-      (ap (λ (m : ℕ). eqb (bitAnd u m) 0) (given .of-receivers .bit receiver i (mod-lt (at ws (messagePlace k) / 2 ^ 10) (lit< tt)) h))
+      (ap (λ (m : ℕ). eqb (bitAnd u m) 0) (given .of-receivers .bit receiver i (mod-lt (at ws (base + 5 * k) / 2 ^ 10) (lit< tt)) h))
     where
       u : ℕ
-      u = beyond ws k i empty
+      u = beyond ws base k i empty
 
 -- the stamp
 stamp-test : (used : Bool) (w : ℕ) → ltb (bitXor w 1879048192) (2 ^ (if used then 24 else 0)) ≡ (eqb (w / 2 ^ 24) 112 && (used || eqb (bits 0 24 w) 0))
@@ -209,71 +215,84 @@ joined true s true true true limit bit fits clear e f = rw (e, f refl) (last s l
     last true true false = refl
     last true true true = refl
 
-stamp-lane : (ws : List ℕ) (n k r : ℕ)
-    → (ltb (beyond ws k 0 1879048192) (2 ^ room n (at ws (messagePlace k) % 16) 0) && eqb (bitAnd (beyond ws k 0 1879048192) (receiverBit r 0)) 0) ≡ (eqb (at ws (messagePlace k + 1) / 2 ^ 24) 112 && stampFits (decodeMessage ws k))
-unfolding decodeMessage
-stamp-lane ws n k r =
-    rw (ne-eqb 0 (1 + r / 24) (λ i. omega arith), and-zero-r (beyond ws k 0 1879048192), lowest 4 (at ws (messagePlace k)))
-    (and-true (ltb (beyond ws k 0 1879048192) (2 ^ room n (at ws (messagePlace k) % 16) 0)) ∙ stamp-test (usesStamp (at ws (messagePlace k) % 16)) (at ws (messagePlace k + 1)))
+stamp-lane : (ws : List ℕ) (base n k r : ℕ)
+    → (ltb (beyond ws base k 0 1879048192) (2 ^ room n (at ws (base + 5 * k) % 16) 0) && eqb (bitAnd (beyond ws base k 0 1879048192) (receiverBit r 0)) 0)
+    ≡ (eqb (at ws (base + 5 * k + 1) / 2 ^ 24) 112 && stampFits (decodeMessageAt ws (base + 5 * k)))
+unfolding decodeMessageAt
+stamp-lane ws base n k r =
+    rw (ne-eqb 0 (1 + r / 24) (λ i. omega arith), and-zero-r (beyond ws base k 0 1879048192), lowest 4 (at ws (base + 5 * k)))
+    (and-true (ltb (beyond ws base k 0 1879048192) (2 ^ room n (at ws (base + 5 * k) % 16) 0))
+    ∙ stamp-test (usesStamp (at ws (base + 5 * k) % 16)) (at ws (base + 5 * k + 1)))
 
 -- what was tested, in the words of `restReads`
-as-words : (ws : List ℕ) (t : Table) (k n : ℕ) → size t ≡ n → n ≤ 64
+as-words : (ws : List ℕ) (base : ℕ) (t : Table) (k n : ℕ) → size t ≡ n → n ≤ 64
     → every
-    (eqb (at ws (messagePlace k + 1) / 2 ^ 24) 112
-    ∷ ltb (beyond ws k 1 2147483648) (2 ^ 24)
-    ∷ ltb (beyond ws k 2 2147483648) (2 ^ 24)
-    ∷ ltb (beyond ws k 3 2147483648) (2 ^ 16)
-    ∷ stampFits (decodeMessage ws k)
+    (eqb (at ws (base + 5 * k + 1) / 2 ^ 24) 112
+    ∷ ltb (beyond ws base k 1 2147483648) (2 ^ 24)
+    ∷ ltb (beyond ws base k 2 2147483648) (2 ^ 24)
+    ∷ ltb (beyond ws base k 3 2147483648) (2 ^ 16)
+    ∷ stampFits (decodeMessageAt ws (base + 5 * k))
     ∷ every
-    (leb (number (beyond ws k 1 2147483648) (beyond ws k 2 2147483648) (beyond ws k 3 2147483648)) (if usesView (at ws (messagePlace k) % 16) then 2 ^ n - 1 else 0)
-    ∷ not (ofBits (number (beyond ws k 1 2147483648) (beyond ws k 2 2147483648) (beyond ws k 3 2147483648)) (at ws (messagePlace k) / 2 ^ 10 % 64))
+    (leb (number (beyond ws base k 1 2147483648) (beyond ws base k 2 2147483648) (beyond ws base k 3 2147483648))
+    (if usesView (at ws (base + 5 * k) % 16) then 2 ^ n - 1 else 0)
+    ∷ not (ofBits (number (beyond ws base k 1 2147483648) (beyond ws base k 2 2147483648) (beyond ws base k 3 2147483648)) (at ws (base + 5 * k) / 2 ^ 10 % 64))
     ∷ [])
     ∷ [])
-    ≡ restReads ws t k
+    ≡ restReads ws base t k
 unfolding restReads
-as-words ws t k n e few =
+as-words ws base t k n e few =
     rw (
-      second-kept ws k,
-      low-kept ws k ∙ kind-test 24 128 (at ws (messagePlace k + 2)) refl,
-      middle-kept ws k ∙ kind-test 24 128 (at ws (messagePlace k + 3)) refl,
-      high-kept ws k ∙ kind-test 16 32768 (at ws (messagePlace k + 4)) refl,
-      view-test ws k t (rw e few),
-      value 24 (at ws (messagePlace k + 2)) refl,
-      value 24 (at ws (messagePlace k + 3)) refl,
-      value 16 (at ws (messagePlace k + 4)) refl,
+      second-kept ws base k,
+      low-kept ws base k ∙ kind-test 24 128 (at ws (base + 5 * k + 2)) refl,
+      middle-kept ws base k ∙ kind-test 24 128 (at ws (base + 5 * k + 3)) refl,
+      high-kept ws base k ∙ kind-test 16 32768 (at ws (base + 5 * k + 4)) refl,
+      view-test ws base k t (rw e few),
+      value 24 (at ws (base + 5 * k + 2)) refl,
+      value 24 (at ws (base + 5 * k + 3)) refl,
+      value 16 (at ws (base + 5 * k + 4)) refl,
       e,
     )
     refl
 
-pub rest-test : (ws types receivers : List ℕ) (t : Table) (n k : ℕ) → Tables types receivers n → size t ≡ n → n ≤ 64 → Small ws k → nothingWrong ws types receivers k ≡ restReads ws t k
+pub rest-test : (ws : List ℕ) (base : ℕ) (types receivers : List ℕ) (t : Table) (n k : ℕ)
+    → Tables types receivers n → size t ≡ n → n ≤ 64 → Small ws base k → nothingWrong ws base types receivers k ≡ restReads ws base t k
 unfolding restReads
-rest-test ws types receivers t n k given e few s =
-    ap₂ _&&_ (ap₂ _&&_ (ap₂ _&&_ (lane ws types receivers n k given 0 1879048192 (omega arith) (s .stamp) ∙ stamp-lane ws n k (at ws (messagePlace k) / 2 ^ 10 % 64)) (lane ws types receivers n k given 1 2147483648 (omega arith) (s .low))) (lane ws types receivers n k given 2 2147483648 (omega arith) (s .middle))) (lane ws types receivers n k given 3 2147483648 (omega arith) (s .high))
-    ∙ regroup (eqb (at ws (messagePlace k + 1) / 2 ^ 24) 112 && stampFits (decodeMessage ws k)) (ltb a (2 ^ room n type 1)) (ltb b (2 ^ room n type 2)) (ltb c (2 ^ room n type 3)) (eqb (bitAnd a (receiverBit to 1)) 0) (eqb (bitAnd b (receiverBit to 2)) 0) (eqb (bitAnd c (receiverBit to 3)) 0)
-    ∙ joined (eqb (at ws (messagePlace k + 1) / 2 ^ 24) 112) (stampFits (decodeMessage ws k)) (ltb a (2 ^ 24)) (ltb b (2 ^ 24)) (ltb c (2 ^ 16)) (leb (number a b c) (if usesView type then 2 ^ n - 1 else 0)) (not (ofBits (number a b c) to))
+rest-test ws base types receivers t n k given e few s =
+    ap₂ _&&_ (ap₂ _&&_ (ap₂ _&&_
+    (lane ws base types receivers n k given 0 1879048192 (omega arith) (s .stamp) ∙ stamp-lane ws base n k (at ws (base + 5 * k) / 2 ^ 10 % 64))
+    (lane ws base types receivers n k given 1 2147483648 (omega arith) (s .low)))
+    (lane ws base types receivers n k given 2 2147483648 (omega arith) (s .middle)))
+    (lane ws base types receivers n k given 3 2147483648 (omega arith) (s .high))
+    ∙ regroup (eqb (at ws (base + 5 * k + 1) / 2 ^ 24) 112 && stampFits (decodeMessageAt ws (base + 5 * k)))
+    (ltb a (2 ^ room n type 1)) (ltb b (2 ^ room n type 2)) (ltb c (2 ^ room n type 3))
+    (eqb (bitAnd a (receiverBit to 1)) 0) (eqb (bitAnd b (receiverBit to 2)) 0) (eqb (bitAnd c (receiverBit to 3)) 0)
+    ∙ joined (eqb (at ws (base + 5 * k + 1) / 2 ^ 24) 112) (stampFits (decodeMessageAt ws (base + 5 * k)))
+    (ltb a (2 ^ 24)) (ltb b (2 ^ 24)) (ltb c (2 ^ 16)) (leb (number a b c) (if usesView type then 2 ^ n - 1 else 0)) (not (ofBits (number a b c) to))
     (ltb a (2 ^ room n type 1) && ltb b (2 ^ room n type 2) && ltb c (2 ^ room n type 3))
     (eqb (bitAnd a (receiverBit to 1)) 0 && eqb (bitAnd b (receiverBit to 2)) 0 && eqb (bitAnd c (receiverBit to 3)) 0)
     (limited (usesView type) n a b c few)
-    (λ h. without-receiver to a b c (mod-lt (at ws (messagePlace k) / 2 ^ 10) (lit< tt)) (short a b c h))
-    ∙ as-words ws t k n e few
+    (λ h. without-receiver to a b c (mod-lt (at ws (base + 5 * k) / 2 ^ 10) (lit< tt)) (short a b c h))
+    ∙ as-words ws base t k n e few
   where
     a : ℕ
-    a = beyond ws k 1 2147483648
+    a = beyond ws base k 1 2147483648
 
     b : ℕ
-    b = beyond ws k 2 2147483648
+    b = beyond ws base k 2 2147483648
 
     c : ℕ
-    c = beyond ws k 3 2147483648
+    c = beyond ws base k 3 2147483648
 
     type : ℕ
-    type = at ws (messagePlace k) % 16
+    type = at ws (base + 5 * k) % 16
 
     to : ℕ
-    to = at ws (messagePlace k) / 2 ^ 10 % 64
+    to = at ws (base + 5 * k) / 2 ^ 10 % 64
 
 -- ---- all of them
 
-pub rests-test : (ws types receivers : List ℕ) (t : Table) (n m : ℕ) (r : Bool) → Tables types receivers n → size t ≡ n → n ≤ 64 → ((k : ℕ) → k < m → Small ws k) → r ≡ all m (nothingWrong ws types receivers) → r ≡ all m (restReads ws t)
-rests-test ws types receivers t n m r given e few s f =
-    f ∙ all-cong (nothingWrong ws types receivers) (restReads ws t) m (λ k h. rest-test ws types receivers t n k given e few (s k h))
+pub rests-test : (ws : List ℕ) (base : ℕ) (types receivers : List ℕ) (t : Table) (n m : ℕ) (r : Bool)
+    → Tables types receivers n → size t ≡ n → n ≤ 64 → ((k : ℕ) → k < m → Small ws base k)
+    → r ≡ all m (nothingWrong ws base types receivers) → r ≡ all m (restReads ws base t)
+rests-test ws base types receivers t n m r given e few s f =
+    f ∙ all-cong (nothingWrong ws base types receivers) (restReads ws base t) m (λ k h. rest-test ws base types receivers t n k given e few (s k h))

@@ -15,7 +15,7 @@ use Rattle.model.specs.Fields.{bits}
 use Rattle.model.specs.Leafset.{Table, size}
 use Rattle.model.specs.WellFormed.{Each, nil, cons}
 use Rattle.model.specs.Types.{usesView}
-use Rattle.model.specs.Words.{viewWord, stampWord, messagePlace, decodeMessage, viewFits}
+use Rattle.model.specs.Words.{viewWord, stampWord, decodeMessageAt, viewFits}
 use Rattle.model.proofs.Laws.{clash, decide, is-false, same-test, and-left, and-in, implies-in, implies-out, not-in, not-out, all-in, all-out, every-in, every-out, or-left, or-right, or-case}
 use Rattle.model.proofs.Lists.{first, rest}
 use Rattle.model.proofs.Bits.{no-bit-above, bit-below}
@@ -92,15 +92,15 @@ module _ (tag n r v : ℕ) where
       split true false c = refl
       split false b c = refl
 
-module _ (ws : List ℕ) (k : ℕ) where
+module _ (ws : List ℕ) (base k : ℕ) where
   abbrev low : ℕ
-  low = getD ws (messagePlace k + 2) 0
+  low = getD ws (base + 5 * k + 2) 0
 
   abbrev middle : ℕ
-  middle = getD ws (messagePlace k + 3) 0
+  middle = getD ws (base + 5 * k + 3) 0
 
   abbrev high : ℕ
-  high = getD ws (messagePlace k + 4) 0
+  high = getD ws (base + 5 * k + 4) 0
 
   -- the view as a number
   abbrev pub view : ℕ
@@ -112,26 +112,26 @@ module _ (ws : List ℕ) (k : ℕ) where
   whole : toBits 64 (ofBits view) ≡ view
   whole = toBits-ofBits 64 view view<
 
-  pub second-kept : kept ws k 1 ≡ eqb (getD ws (messagePlace k + 1) 0 / 2 ^ 24) 112
-  unfolding decodeMessage stampWord
-  second-kept = plain 24 7 112 (getD ws (messagePlace k + 1) 0) refl
+  pub second-kept : kept ws base k 1 ≡ eqb (getD ws (base + 5 * k + 1) 0 / 2 ^ 24) 112
+  unfolding decodeMessageAt stampWord
+  second-kept = plain 24 7 112 (getD ws (base + 5 * k + 1) 0) refl
 
-  pub low-kept : kept ws k 2 ≡ eqb (getD ws (messagePlace k + 2) 0 / 2 ^ 24) 128
-  unfolding decodeMessage viewWord
+  pub low-kept : kept ws base k 2 ≡ eqb (getD ws (base + 5 * k + 2) 0 / 2 ^ 24) 128
+  unfolding decodeMessageAt viewWord
   low-kept =
       ap (λ (p : ℕ). eqb low (8 * 2 ^ 28 + p))
       (ap (bits 0 24) whole ∙ field 0 24 (bits 0 24 middle + 2 ^ 24 * bits 0 16 high) (bits 0 24 low) 0 (omega arith) (lit< tt) (bits< 0 24 low))
       ∙ plain 24 8 128 low refl
 
-  pub middle-kept : kept ws k 3 ≡ eqb (getD ws (messagePlace k + 3) 0 / 2 ^ 24) 128
-  unfolding decodeMessage viewWord
+  pub middle-kept : kept ws base k 3 ≡ eqb (getD ws (base + 5 * k + 3) 0 / 2 ^ 24) 128
+  unfolding decodeMessageAt viewWord
   middle-kept =
       ap (λ (p : ℕ). eqb middle (8 * 2 ^ 28 + p))
       (ap (bits 24 24) whole ∙ field 24 24 (bits 0 16 high) (bits 0 24 middle) (bits 0 24 low) (omega arith) (bits< 0 24 low) (bits< 0 24 middle))
       ∙ plain 24 8 128 middle refl
 
-  pub high-kept : kept ws k 4 ≡ eqb (getD ws (messagePlace k + 4) 0 / 2 ^ 16) 32768
-  unfolding decodeMessage viewWord
+  pub high-kept : kept ws base k 4 ≡ eqb (getD ws (base + 5 * k + 4) 0 / 2 ^ 16) 32768
+  unfolding decodeMessageAt viewWord
   high-kept =
       ap (λ (p : ℕ). eqb high (8 * 2 ^ 28 + p))
       (ap (bits 48 16) whole
@@ -141,8 +141,11 @@ module _ (ws : List ℕ) (k : ℕ) where
 
   -- "A view holds only stands below n, and not its receiver."
   pub view-test : (t : Table) → size t ≤ 64
-      → viewFits t (decodeMessage ws k) ≡ every (leb view (if usesView (getD ws (messagePlace k) 0 % 16) then 2 ^ size t - 1 else 0) ∷ not (ofBits view (bits 10 6 (getD ws (messagePlace k) 0))) ∷ [])
-  unfolding decodeMessage
+      → viewFits t (decodeMessageAt ws (base + 5 * k))
+      ≡ every (leb view (if usesView (getD ws (base + 5 * k) 0 % 16) then 2 ^ size t - 1 else 0)
+      ∷ not (ofBits view (bits 10 6 (getD ws (base + 5 * k) 0)))
+      ∷ [])
+  unfolding decodeMessageAt
   view-test t few =
-      let first : ℕ = getD ws (messagePlace k) 0 in
+      let first : ℕ = getD ws (base + 5 * k) 0 in
       view-fits (bits 0 4 first) (size t) (bits 10 6 first) view few view< (bits< 10 6 first) ∙ rw (lowest 4 first) refl

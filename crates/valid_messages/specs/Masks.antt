@@ -9,7 +9,7 @@ use lib.ListN.{getD}
 use Rattle.model.specs.Choice.{if_then_else_}
 use Rattle.model.specs.Sets.{tabulate}
 use Rattle.model.specs.Types.{usesView, usesStamp}
-use Rattle.model.specs.Words.{at, messagePlace}
+use Rattle.model.specs.Words.{at}
 
 -- how many of the 24 nodes from `from` on are below n
 abbrev pub part : ℕ → ℕ → ℕ
@@ -41,28 +41,28 @@ pub record Tables (types receivers : List ℕ) (n : ℕ) : Type 0 where
   pub of-types : types ≡ ofTypes n
   pub of-receivers : OfReceivers receivers
 
--- what word i of the rest of message k has beyond an empty one
-abbrev pub beyond : List ℕ → ℕ → ℕ → ℕ → ℕ
-beyond ws k i empty = bitXor (at ws (messagePlace k + (1 + i))) empty
+-- what word i of the rest of message k has beyond an empty one, with message 0 at place base
+abbrev pub beyond : List ℕ → ℕ → ℕ → ℕ → ℕ → ℕ
+beyond ws base k i empty = bitXor (at ws (base + 5 * k + (1 + i))) empty
 
 -- and what is wrong in that
-abbrev pub wrong : List ℕ → List ℕ → List ℕ → ℕ → ℕ → ℕ → ℕ
-wrong ws types receivers k i empty =
+abbrev pub wrong : List ℕ → ℕ → List ℕ → List ℕ → ℕ → ℕ → ℕ → ℕ
+wrong ws base types receivers k i empty =
     bitOr
-    (bitAnd (beyond ws k i empty) (getD types (4 * (at ws (messagePlace k) % 16) + i) 0))
-    (bitAnd (beyond ws k i empty) (getD receivers (4 * (at ws (messagePlace k) / 2 ^ 10 % 64) + i) 0))
+    (bitAnd (beyond ws base k i empty) (getD types (4 * (at ws (base + 5 * k) % 16) + i) 0))
+    (bitAnd (beyond ws base k i empty) (getD receivers (4 * (at ws (base + 5 * k) / 2 ^ 10 % 64) + i) 0))
 
 -- nothing is wrong in the rest of message k
-abbrev pub nothingWrong : List ℕ → List ℕ → List ℕ → ℕ → Bool
-nothingWrong ws types receivers k =
-    eqb (wrong ws types receivers k 0 1879048192) 0
-    && eqb (wrong ws types receivers k 1 2147483648) 0
-    && eqb (wrong ws types receivers k 2 2147483648) 0
-    && eqb (wrong ws types receivers k 3 2147483648) 0
+abbrev pub nothingWrong : List ℕ → ℕ → List ℕ → List ℕ → ℕ → Bool
+nothingWrong ws base types receivers k =
+    eqb (wrong ws base types receivers k 0 1879048192) 0
+    && eqb (wrong ws base types receivers k 1 2147483648) 0
+    && eqb (wrong ws base types receivers k 2 2147483648) 0
+    && eqb (wrong ws base types receivers k 3 2147483648) 0
 
 -- its words have 32 bits
-pub record Small (ws : List ℕ) (k : ℕ) : Type 0 where
-  pub stamp : beyond ws k 0 1879048192 < 2 ^ 32
-  pub low : beyond ws k 1 2147483648 < 2 ^ 32
-  pub middle : beyond ws k 2 2147483648 < 2 ^ 32
-  pub high : beyond ws k 3 2147483648 < 2 ^ 32
+pub record Small (ws : List ℕ) (base k : ℕ) : Type 0 where
+  pub stamp : beyond ws base k 0 1879048192 < 2 ^ 32
+  pub low : beyond ws base k 1 2147483648 < 2 ^ 32
+  pub middle : beyond ws base k 2 2147483648 < 2 ^ 32
+  pub high : beyond ws base k 3 2147483648 < 2 ^ 32

@@ -1,10 +1,9 @@
 // Whether the rests of the messages read: the stamp and the view. Each type and each receiver has four words of bits
 // that have to be those of an empty rest, so that a message is tested without a branch, its four words at once.
 ghost use mathlib.Core.Path.{_≡_};
-ghost use Prim.Native.Nat.{ℕ, _-_, _^_, _<_, _≤_};
+ghost use Prim.Native.Nat.{ℕ, _+_, _*_, _-_, _^_, _<_, _≤_};
 ghost use lib.Bits.{bitXor};
 ghost use lib.ListN.{length};
-ghost use Rattle.model.specs.Words.{ringLength};
 ghost use Rattle.model.specs.Sets.{all};
 ghost use Rattle.model.specs.Leafset.{Table, size};
 ghost use Rattle.valid_messages.specs.Rests.{restReads};
@@ -13,7 +12,6 @@ ghost use Rattle.valid_messages.specs.Masks.{beyond, wrong as wrongAt, n
 use word_ring::MessageWord;
 use word_ring::StampWord;
 use word_ring::ViewWord;
-use word_ring::place;
 
 const NO_STAMP: u32 = StampWord::EMPTY;
 
@@ -90,17 +88,19 @@ fn apart(word: u32, empty: u32) -> u32
 // What is wrong in word i of the rest of message k.
 fn wrong(
     words: &[u32],
+    base: usize,
     types: &[u32; 64],
     receivers: &[u32; 288],
     k: usize,
     i: usize,
     empty: u32,
 ) -> u32
-    requires words { ⌜ (length (now words) ≡ ringLength) × (k < 1024) × (i < 4) ⌝ }
-    ensures value { λ r. ⌜ r ≡ wrongAt (now (words .entry)) (now (types .entry)) (now (receivers .entry)) k i empty ⌝ }
-    ensures small { λ r. ⌜ beyond (now (words .entry)) k i empty < 2 ^ 32 ⌝ }
+    requires words { ⌜ (base + 5 * (k + 1) ≤ length (now words)) × (i < 4) ⌝ }
+    ensures value { λ r. ⌜ r
+        ≡ wrongAt (now (words .entry)) base (now (types .entry)) (now (receivers .entry)) k i empty ⌝ }
+    ensures small { λ r. ⌜ beyond (now (words .entry)) base k i empty < 2 ^ 32 ⌝ }
 {
-    let at = place::MESSAGES + 5 * k;
+    let at = base + 5 * k;
     let first = words[at];
     let met = apart(words[at + (1 + i)], empty);
     (met & types[4 * ((first % 16) as usize) + i])
@@ -108,32 +108,37 @@ fn wrong(
 }
 
 // Nothing is wrong in m rests.
-fn nothing_wrong(words: &[u32], types: &[u32; 64], receivers: &[u32; 288], m: usize) -> bool
-    requires length { ⌜ length (now words) ≡ ringLength ⌝ }
-    requires bounds { ⌜ m ≤ 1024 ⌝ }
+fn nothing_wrong(
+    words: &[u32],
+    base: usize,
+    types: &[u32; 64],
+    receivers: &[u32; 288],
+    m: usize,
+) -> bool
+    requires words { ⌜ base + 5 * m ≤ length (now words) ⌝ }
     ensures value { λ r. ⌜ r
-        ≡ all m (nothingWrong (now (words .entry)) (now (types .entry)) (now (receivers .entry))) ⌝ }
-    ensures small { λ r. ⌜ ((k : ℕ) → k < m → Small (now (words .entry)) k) ⌝ }
+        ≡ all m (nothingWrong (now (words .entry)) base (now (types .entry)) (now (receivers .entry))) ⌝ }
+    ensures small { λ r. ⌜ ((k : ℕ) → k < m → Small (now (words .entry)) base k) ⌝ }
 {
     let mut stamp = 0;
     let mut low = 0;
     let mut middle = 0;
     let mut high = 0;
     for k in 0..m {
-        stamp = stamp | wrong(words, types, receivers, k, 0, NO_STAMP);
-        low = low | wrong(words, types, receivers, k, 1, NO_VIEW);
-        middle = middle | wrong(words, types, receivers, k, 2, NO_VIEW);
-        high = high | wrong(words, types, receivers, k, 3, NO_VIEW);
+        stamp = stamp | wrong(words, base, types, receivers, k, 0, NO_STAMP);
+        low = low | wrong(words, base, types, receivers, k, 1, NO_VIEW);
+        middle = middle | wrong(words, base, types, receivers, k, 2, NO_VIEW);
+        high = high | wrong(words, base, types, receivers, k, 3, NO_VIEW);
     }
     (stamp == 0) & (low == 0) & (middle == 0) & (high == 0)
 }
 
 // The rests of m messages.
-pub fn rests_read(words: &[u32], n: u32, m: usize) -> bool
-    requires words { ⌜ (length (now words) ≡ ringLength) × (n ≤ 64) × (m ≤ 1024) ⌝ }
-    ensures value { λ r. ⌜ ((t : Table) → size t ≡ n → r ≡ all m (restReads (now (words .entry)) t)) ⌝ }
+pub fn rests_read(words: &[u32], base: usize, n: u32, m: usize) -> bool
+    requires words { ⌜ (base + 5 * m ≤ length (now words)) × (n ≤ 64) ⌝ }
+    ensures value { λ r. ⌜ ((t : Table) → size t ≡ n → r ≡ all m (restReads (now (words .entry)) base t)) ⌝ }
 {
     let types = of_types(n);
     let receivers = of_receivers();
-    nothing_wrong(words, &types, &receivers, m)
+    nothing_wrong(words, base, &types, &receivers, m)
 }

@@ -13,9 +13,9 @@ use borrow.Author.Tests.{eqb-true, eqb-false, eq-eqb, ne-eqb}
 use Rattle.model.specs.Sets.{all}
 use Rattle.model.specs.Leafset.{size, key}
 use Rattle.model.specs.Fields.{bits, flag}
-use Rattle.model.specs.Words.{keyWord, clockWord, nodePlace, keysDiffer, decodeTable}
+use Rattle.model.specs.Words.{keyWord, clockWord, keysDiffer, decodeTable}
 use Rattle.model.proofs.Laws.{or-left, or-right, or-case, clash, not-in, not-out, same-test, all-in, all-out, length-tabulate, getD-tabulate}
-use Rattle.valid_nodes.specs.Nodes.{clear, sizeOf, keyAt, clockAt, nodeReads, nodesRead}
+use Rattle.valid_nodes.specs.Nodes.{sizeOf, keyAt, clockAt, nodeReads, nodesRead}
 use Rattle.valid_nodes.specs.Hashes.{keyOf, hashOf, isNew}
 use Rattle.valid_nodes.proofs.Gather.{two, all-both, all-cong}
 use Rattle.valid_nodes.proofs.Formats.{key-format, clock-format, xor-above}
@@ -39,11 +39,11 @@ module _ (ws : List ℕ) where
 
 module _ (ws : List ℕ) (n : ℕ) where
   pub nodes-tests : (all n (λ s. eqb (keyAt ws s) (keyWord (bits 0 24 (keyAt ws s)) (flag 24 (keyAt ws s))))
-      && all n (λ s. eqb (clockAt ws s) (clockWord (bits 0 24 (clockAt ws s)))) && clear ws (nodePlace n) 129) ≡ nodesRead ws n
+      && all n (λ s. eqb (clockAt ws s) (clockWord (bits 0 24 (clockAt ws s))))) ≡ nodesRead ws n
   unfolding nodesRead nodeReads
   nodes-tests =
-      ap (λ (b : Bool). b && clear ws (nodePlace n) 129) (all-both key-fits clock-fits n ∙ all-cong (λ s. key-fits s && clock-fits s) (λ s. nodeReads (keyAt ws s) (clockAt ws s)) n (λ s h. two (key-fits s) (clock-fits s)))
-      ∙ two (all n (λ s. nodeReads (keyAt ws s) (clockAt ws s))) (clear ws (nodePlace n) 129)
+      all-both key-fits clock-fits n
+      ∙ all-cong (λ s. key-fits s && clock-fits s) (λ s. nodeReads (keyAt ws s) (clockAt ws s)) n (λ s h. two (key-fits s) (clock-fits s))
     where
       key-fits : ℕ → Bool
       key-fits s = eqb (keyAt ws s) (keyWord (bits 0 24 (keyAt ws s)) (flag 24 (keyAt ws s)))

@@ -41,10 +41,6 @@ headReads w =
 unfoldable pub nodeReads : ℕ → ℕ → Bool
 nodeReads k c = every (eqb k (keyWord (bits 0 24 k) (flag 24 k)) ∷ eqb c (clockWord (bits 0 24 c)) ∷ [])
 
--- n nodes, and nothing after them
+-- n nodes
 unfoldable pub nodesRead : List ℕ → ℕ → Bool
-nodesRead ws n =
-    every
-    (all n (λ s. nodeReads (keyAt ws s) (clockAt ws s))
-    ∷ clear ws (nodePlace n) 129
-    ∷ [])
+nodesRead ws n = all n (λ s. nodeReads (keyAt ws s) (clockAt ws s))

@@ -1,21 +1,18 @@
 // The words of the nodes.
 ghost use mathlib.Core.Path.{_≡_};
 ghost use mathlib.Core.Bool.{true, false};
-ghost use Prim.Native.Nat.{_≤_, _<_};
+ghost use Prim.Native.Nat.{_+_, _*_, _≤_, _<_};
 ghost use lib.ListN.{length};
-ghost use Rattle.model.specs.Words.{ringLength, keysDiffer, decodeTable};
+ghost use Rattle.model.specs.Words.{keysDiffer, decodeTable};
 ghost use Rattle.valid_nodes.specs.Nodes.{sizeOf, nodesRead};
 ghost use Rattle.valid_nodes.specs.Hashes.{hashOf, keyOf, isNew};
-use super::clear::clear;
 use word_ring::ClockWord;
 use word_ring::KeyWord;
 use word_ring::place;
 
-// The words of n nodes, and nothing after them. What is or-ed is 0 in a word of the right kind whose unnamed bits
-// are 0.
+// The words of n nodes. What is or-ed is 0 in a word of the right kind whose unnamed bits are 0.
 pub fn nodes_read(words: &[u32], n: usize) -> bool
-    requires length { ⌜ length (now words) ≡ ringLength ⌝ }
-    requires bounds { ⌜ n ≤ 64 ⌝ }
+    requires words { ⌜ (1 + 2 * n ≤ length (now words)) × (n ≤ 64) ⌝ }
     ensures value { λ r. ⌜ r ≡ nodesRead (now (words .entry)) n ⌝ }
 {
     let mut keys = 0;
@@ -25,13 +22,12 @@ pub fn nodes_read(words: &[u32], n: usize) -> bool
         keys = keys | (words[at] ^ KeyWord::EMPTY);
         clocks = clocks | (words[at + 1] ^ ClockWord::EMPTY);
     }
-    (keys >> 25 == 0) & (clocks >> 24 == 0) & clear(words, place::NODES + 2 * n, place::PAIRS)
+    (keys >> 25 == 0) & (clocks >> 24 == 0)
 }
 
 // The hash of the key of node x.
 fn hash(words: &[u32], x: usize) -> usize
-    requires length { ⌜ length (now words) ≡ ringLength ⌝ }
-    requires bounds { ⌜ x < 64 ⌝ }
+    requires words { ⌜ (1 + 2 * x < length (now words)) × (x < 64) ⌝ }
     ensures value { λ r. ⌜ r ≡ hashOf (keyOf (now (words .entry)) x) ⌝ }
 {
     let key = words[place::NODES + 2 * x] % KeyWord::RUNNING;
@@ -40,8 +36,7 @@ fn hash(words: &[u32], x: usize) -> usize
 
 // The key of node x is not met before x.
 fn key_is_new(words: &[u32], x: usize) -> bool
-    requires length { ⌜ length (now words) ≡ ringLength ⌝ }
-    requires bounds { ⌜ x < 64 ⌝ }
+    requires words { ⌜ (1 + 2 * x < length (now words)) × (x < 64) ⌝ }
     ensures value { λ r. ⌜ r ≡ isNew (now (words .entry)) x ⌝ }
 {
     let key = words[place::NODES + 2 * x] % KeyWord::RUNNING;
@@ -54,7 +49,7 @@ fn key_is_new(words: &[u32], x: usize) -> bool
 
 // The same, looked for only where the key's hash was met.
 fn hashed_is_new(words: &[u32], x: usize, met: bool) -> bool
-    requires words { ⌜ (length (now words) ≡ ringLength) × (x < 64) × (met ≡ false → isNew (now words) x ≡ true) ⌝ }
+    requires words { ⌜ (1 + 2 * x < length (now words)) × (x < 64) × (met ≡ false → isNew (now words) x ≡ true) ⌝ }
     ensures value { λ r. ⌜ r ≡ isNew (now (words .entry)) x ⌝ }
 {
     if !met {
@@ -65,7 +60,7 @@ fn hashed_is_new(words: &[u32], x: usize, met: bool) -> bool
 
 // The n keys differ.
 pub fn keys_differ(words: &[u32], n: usize) -> bool
-    requires words { ⌜ (length (now words) ≡ ringLength) × (n ≤ 64) × (n ≡ sizeOf (now words)) ⌝ }
+    requires words { ⌜ (1 + 2 * n ≤ length (now words)) × (n ≤ 64) × (n ≡ sizeOf (now words)) ⌝ }
     ensures value { λ r. ⌜ r ≡ keysDiffer (decodeTable (now (words .entry))) ⌝ }
 {
     let mut met = [false; 512];

@@ -1,3 +1,4 @@
 pub mod RowTests
 pub mod PairFormats
 pub mod PairTest
+pub mod ShortRows

@@ -2,7 +2,7 @@
 use mathlib.Core.Path.{_≡_, refl, sym, ap, _∙_}
 use Prim.Native.Nat.{ℕ, zero, suc, _+_, _-_, _*_, _/_, _%_, _^_, _≤_, _<_}
 use native.Mathlib.Numerals.{add-one}
-use native.Mathlib.Nat.{le-refl, zero-add, mod-lt, mod-eq-of-lt, div-add-mod'}
+use native.Mathlib.Nat.{zero-add, mod-lt, mod-eq-of-lt, div-add-mod'}
 use native.Mathlib.Omega.{arith}
 use native.Mathlib.Decide.{decLt, ℕ-discrete}
 use mathlib.Core.Bool.{Bool, true, false, not, _&&_, _||_, and-true, and-false}
@@ -16,7 +16,7 @@ use Rattle.model.specs.Sets.{Set, count, all, without}
 use Rattle.model.specs.Fields.{bits, flag}
 use Rattle.model.specs.Words.{pairWord}
 use Rattle.model.specs.WellFormed.{nil, cons}
-use Rattle.model.proofs.Laws.{decide, is-false, same-test, every-in, every-out, all-in, all-out, count-le, count-cong, count-more}
+use Rattle.model.proofs.Laws.{decide, is-false, same-test, every-in, every-out, all-in, all-out, count-le, count-all, count-cong, count-more}
 use Rattle.sets.proofs.Members.{count-without}
 use Rattle.model.proofs.Lists.{first, rest}
 use Rattle.valid_nodes.proofs.Formats.{lowest, xor-test}
@@ -145,11 +145,6 @@ pair-test clock n x z w p v d u hc hn hx hz hw hd e g i =
 
 -- ---- a row, by the count of pairs that fit
 
-count-all : (n : ℕ) (S : Set) → ((z : ℕ) → z < n → S z ≡ true) → count n S ≡ n
-unfolding count
-count-all zero S f = refl
-count-all (suc n) S f = rw (f n (le-refl (suc n))) (ap (λ (k : ℕ). k + 1) (count-all n S (λ z h. f z (omega arith))) ∙ add-one n)
-
 full : (n : ℕ) (S : Set) → eqb (count n S) n ≡ all n S
 full n S =
     same-test (eqb (count n S) n) (all n S)
@@ -160,6 +155,11 @@ full n S =
 pub count-next : (S : Set) (z fit r : ℕ) → fit ≡ count z S → r ≡ (if S z then 1 else 0) → fit + r ≡ count (z + 1) S
 unfolding count
 count-next S z fit r e f = rw (add-one, e, f) refl
+
+-- what is counted from 0 on
+pub count-whole : (S : Set) (z fit : ℕ) → count 0 S + fit ≡ count z S → fit ≡ count z S
+unfolding count
+count-whole S z fit e = sym (zero-add fit) ∙ e
 
 -- all but x, which is none
 pub others-full : (n x : ℕ) (S : Set) → x < n → S x ≡ false → eqb (count n S + 1) n ≡ all n (λ z. eqb z x || S z)

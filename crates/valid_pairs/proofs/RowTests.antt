@@ -198,7 +198,7 @@ table-apart b x z w t hx hz e = ap (bitXor w) (ap (λ (l : List ℕ). getD l (63
 
 -- ---- a row
 
-two-of-three : (a b : Bool) → (a && b) ≡ every (a ∷ b ∷ true ∷ [])
+pub two-of-three : (a b : Bool) → (a && b) ≡ every (a ∷ b ∷ true ∷ [])
 two-of-three true true = refl
 two-of-three true false = refl
 two-of-three false b = refl

@@ -1,5 +1,5 @@
 -- The pairs.
-use Prim.Native.Nat.{ℕ, _+_}
+use Prim.Native.Nat.{ℕ, _+_, _-_, _*_}
 use mathlib.Core.Bool.{Bool, not, _&&_, _||_}
 use mathlib.Core.List.{List, [], _∷_}
 use lib.Dec.{ltb, leb, eqb}
@@ -7,6 +7,7 @@ use Rattle.model.specs.Choice.{if_then_else_, _⇒_, every}
 use Rattle.model.specs.Sets.{all, noneNode}
 use Rattle.model.specs.Fields.{bits, flag}
 use Rattle.model.specs.Words.{at, pairWord, spareWord, pairPlace}
+use Rattle.model.specs.Short.{shortPair}
 use Rattle.valid_nodes.specs.Nodes.{clear, keyAt, clockAt}
 
 module _ (ws : List ℕ) where
@@ -37,15 +38,35 @@ spareReads n x z w p =
     ∷ (not (flag 24 w) ⇒ eqb (bits 0 7 p) noneNode)
     ∷ [])
 
--- the two words of (x, z): 0 where x is z; a node that is off neither holds z nor has it as a candidate
+-- the two words from place p are those of the pair of x with another z: a node that is off neither holds z nor has it as a candidate
+abbrev pub apartReads : List ℕ → ℕ → ℕ → ℕ → ℕ → Bool
+apartReads ws n x z p =
+    every
+    (linkReads (bits 0 24 (clockAt ws x)) (at ws p)
+    ∷ spareReads n x z (at ws p) (at ws (p + 1))
+    ∷ (not (flag 24 (keyAt ws x)) ⇒ not (flag 24 (at ws p)) && not (flag 25 (at ws p)))
+    ∷ [])
+
+-- the two words of (x, z): 0 where x is z
 unfoldable pub pairReads : List ℕ → ℕ → ℕ → ℕ → Bool
 pairReads ws n x z =
     if eqb x z then eqb (linkAt ws x z) 0 && eqb (spareAt ws x z) 0
-    else every
-    (linkReads (bits 0 24 (clockAt ws x)) (linkAt ws x z)
-    ∷ spareReads n x z (linkAt ws x z) (spareAt ws x z)
-    ∷ (not (flag 24 (keyAt ws x)) ⇒ not (flag 24 (linkAt ws x z)) && not (flag 25 (linkAt ws x z)))
-    ∷ [])
+    else apartReads ws n x z (pairPlace x z)
+
+-- how many of the pairs of x with others come before that with z
+abbrev pub inRow : ℕ → ℕ → ℕ
+inRow x z = if ltb z x then z else z - 1
+
+-- the pair of x with z in a row that begins at place `row` and has none of x with itself
+abbrev pub inRowReads : List ℕ → ℕ → ℕ → ℕ → ℕ → Bool
+inRowReads ws n x row z = eqb z x || apartReads ws n x z (row + 2 * inRow x z)
+
+-- such rows are those of a short ring
+abbrev pub shortPairReads : List ℕ → ℕ → ℕ → ℕ → Bool
+shortPairReads ws n x z = eqb z x || apartReads ws n x z (shortPair n x z)
+
+unfoldable pub shortPairsRead : List ℕ → ℕ → Bool
+shortPairsRead ws n = all n (λ x. all n (shortPairReads ws n x))
 
 -- the pairs of x with n nodes, and nothing after them
 unfoldable pub rowReads : List ℕ → ℕ → ℕ → Bool
@@ -55,9 +76,16 @@ rowReads ws n x = every (all n (pairReads ws n x) ∷ clear ws (pairPlace x n) (
 unfoldable pub pairsRead : List ℕ → ℕ → Bool
 pairsRead ws n = every (all n (rowReads ws n) ∷ clear ws (pairPlace n 0) 8321 ∷ [])
 
--- the pair of a running x with another z
+-- the two words from place p are those of the pair of a running x with another z
+abbrev pub runningReads : List ℕ → ℕ → ℕ → ℕ → ℕ → Bool
+runningReads ws n x z p = linkReads (bits 0 24 (clockAt ws x)) (at ws p) && spareReads n x z (at ws p) (at ws (p + 1))
+
+-- the first word of (x, z) standing at base + 2 * z
+abbrev pub runReads : List ℕ → ℕ → ℕ → ℕ → ℕ → Bool
+runReads ws n x base z = runningReads ws n x z (base + 2 * z)
+
 abbrev pub otherReads : List ℕ → ℕ → ℕ → ℕ → Bool
-otherReads ws n x z = linkReads (bits 0 24 (clockAt ws x)) (linkAt ws x z) && spareReads n x z (linkAt ws x z) (spareAt ws x z)
+otherReads ws n x z = runningReads ws n x z (pairPlace x z)
 
 abbrev pub othersRead : List ℕ → ℕ → ℕ → ℕ → Bool
 othersRead ws n x z = eqb z x || otherReads ws n x z

@@ -1,7 +1,7 @@
 -- What the code tests of a row of pairs: each word without the bits that it must have.
 use mathlib.Core.Path.{_≡_}
 use Prim.Native.Nat.{ℕ, _+_, _/_, _^_, _≤_, _<_}
-use mathlib.Core.Bool.{Bool, true}
+use mathlib.Core.Bool.{Bool, true, _&&_}
 use mathlib.Core.List.{List, [], _∷_}
 use lib.Bits.{bitXor}
 use lib.Dec.{ltb, leb, eqb}
@@ -9,7 +9,7 @@ use lib.ListN.{length, set, replicate}
 use Rattle.model.specs.Choice.{if_then_else_, every}
 use Rattle.model.specs.Sets.{all}
 use Rattle.model.specs.Fields.{bits, flag}
-use Rattle.model.specs.Words.{ringLength}
+use Rattle.model.specs.Words.{ringLength, at}
 use Rattle.valid_nodes.specs.Nodes.{keyAt, clockAt}
 use Rattle.valid_pairs.specs.Pairs.{linkAt, spareAt}
 
@@ -19,6 +19,10 @@ noLink = 805306368
 
 abbrev pub noSpare : ℕ
 noSpare = 1073741888
+
+-- the two words from place p are those of a pair without a link and a spare
+abbrev pub nothingAt : List ℕ → ℕ → Bool
+nothingAt ws p = eqb (at ws p) noLink && eqb (at ws (p + 1)) noSpare
 
 -- b wherever 63 - x + z is read, but 0 where x is z
 abbrev pub offDiagonal : ℕ → List ℕ

@@ -1,5 +1,6 @@
 // Whether the words of the pairs read, row by row.
 pub mod rows;
+pub mod short;
 
 ghost use mathlib.Core.Path.{_≡_};
 ghost use mathlib.Core.Bool.{_&&_};

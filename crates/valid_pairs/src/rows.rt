@@ -1,12 +1,12 @@
 // The row of a running node in one pass, spares and all: the quicker way where it has spares.
 ghost use mathlib.Core.Path.{_≡_};
 ghost use mathlib.Core.Bool.{_&&_};
-ghost use Prim.Native.Nat.{_^_, _≤_, _<_};
+ghost use Prim.Native.Nat.{_+_, _*_, _^_, _≤_, _<_};
 ghost use lib.ListN.{length};
 ghost use Rattle.model.specs.Words.{ringLength};
 ghost use Rattle.model.specs.Choice.{if_then_else_};
-ghost use Rattle.model.specs.Sets.{all};
-ghost use Rattle.valid_pairs.specs.Pairs.{linkAt, linkReads, spareReads, othersRead};
+ghost use Rattle.model.specs.Sets.{count, all};
+ghost use Rattle.valid_pairs.specs.Pairs.{linkAt, linkReads, spareReads, runReads, othersRead};
 use word_ring::KeyWord;
 use word_ring::PairWord;
 use word_ring::SpareWord;
@@ -21,6 +21,12 @@ const HELD_FROM_1: u32 = PairWord::EMPTY + PairWord::HELD + 1;
 pub struct Row {
     pub fits: bool,
     pub bare: bool,
+}
+
+// Of a run of pairs: how many fit, and which bits their second words have.
+pub struct Run {
+    pub fit: u32,
+    pub met: u32,
 }
 
 // The words w and p of the pair of x with another z.
@@ -46,16 +52,19 @@ fn one_if(b: bool) -> u32
     0
 }
 
-// The pairs of a running x with the other nodes: all of them fit, and that of x with itself, which is 0, does not.
-pub fn whole_row(words: &[u32], x: usize, n: usize) -> Row
-    requires words { ⌜ (length (now words) ≡ ringLength) × (n ≤ 64) × (x < n) × (linkAt (now words) x x ≡ 0) ⌝ }
-    ensures fits { λ r. ⌜ r .fits ≡ all n (othersRead (now (words .entry)) n x) ⌝ }
+// The pairs of a running x with the nodes from `from` up to `to`, the first word of that with z being at base + 2 * z.
+pub fn fitting(words: &[u32], base: usize, x: usize, n: usize, from: usize, to: usize) -> Run
+    requires words { ⌜ (base + 2 * to ≤ length (now words)) × (2 * n < length (now words)) ⌝ }
+    requires bounds { ⌜ (n ≤ 64) × (x < n) × (from ≤ to) × (to ≤ n) ⌝ }
+    ensures counted { λ r. ⌜ count from (runReads (now (words .entry)) n x base) + r .fit
+        ≡ count to (runReads (now (words .entry)) n x base) ⌝ }
+    ensures bound { λ r. ⌜ r .fit + from ≤ to ⌝ }
 {
     let clock = words[place::NODES + 2 * x + 1] % KeyWord::RUNNING;
     let mut fit = 0;
     let mut met = 0;
-    for z in 0..n {
-        let at = place::PAIRS + 2 * (64 * x + z);
+    for z in from..to {
+        let at = base + 2 * z;
         fit = fit
             + one_if(pair_fits(
                 words[at],
@@ -67,8 +76,17 @@ pub fn whole_row(words: &[u32], x: usize, n: usize) -> Row
             ));
         met = met | words[at + 1];
     }
+    Run { fit: fit, met: met }
+}
+
+// The pairs of a running x with the other nodes: all of them fit, and that of x with itself, which is 0, does not.
+pub fn whole_row(words: &[u32], x: usize, n: usize) -> Row
+    requires words { ⌜ (length (now words) ≡ ringLength) × (n ≤ 64) × (x < n) × (linkAt (now words) x x ≡ 0) ⌝ }
+    ensures fits { λ r. ⌜ r .fits ≡ all n (othersRead (now (words .entry)) n x) ⌝ }
+{
+    let run = fitting(words, place::PAIRS + 128 * x, x, n, 0, n);
     Row {
-        fits: fit + 1 == n as u32,
-        bare: met == SpareWord::NONE,
+        fits: run.fit + 1 == n as u32,
+        bare: run.met == SpareWord::NONE,
     }
 }

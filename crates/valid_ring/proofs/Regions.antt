@@ -16,13 +16,13 @@ use Rattle.model.specs.Ring.{Message, messageAt, blank}
 use Rattle.model.specs.Fields.{bits, flag}
 use Rattle.model.specs.WellFormed.{Each, nil, cons}
 use Rattle.model.specs.Words.{sidesOf, sidesFit, at, headWord, keyWord, clockWord, pairWord, spareWord, nodePlace, pairPlace, messagePlace, between}
-use Rattle.model.specs.Words.{inRange, keysDiffer, isPair, ofNode, ofPair, ofMessage, nodeWords, pairWords, messageWords, wordAt, ringLength}
+use Rattle.model.specs.Words.{inRange, keysDiffer, isPair, nodeWords, pairWords, messageWords, belongs, wordAt, ringLength}
 use Rattle.model.specs.Words.{decodeTable, decodeOwn, decodeNode, decodeMessage, decode, pairFits, nodeFits, messageFits, sendersFit, ringFits}
 use Rattle.model.specs.Words.{formatFits, readsAsRing}
 use Rattle.model.proofs.Laws.{between-low, between-high, and-left, and-right, and-in, implies-in, implies-out, not-in, not-out, decide, is-false}
 use Rattle.model.proofs.Laws.{same-test, every-in, every-out, all-in, all-out, length-tabulate, getD-tabulate}
 use Rattle.model.proofs.Lists.{first, rest}
-use Rattle.model.proofs.Words.{node-at, pair-at, message-at, every-place, pair-low, pair-other, ReadsAsRing, reads-in, reads-out}
+use Rattle.model.proofs.Words.{node-at, pair-at, message-at, every-place, pair-low, pair-other, ReadsAsRing, reads-in, reads-out, ofNode, ofPair, ofMessage}
 use Rattle.valid_messages.specs.Senders.{sendersRead}
 use Rattle.valid_messages.specs.Messages.{messageReads, messagesRead}
 use Rattle.valid_nodes.specs.Nodes.{clear, sizeOf, countOf, keyAt, clockAt, headReads, nodeReads, nodesRead}
@@ -45,7 +45,7 @@ module _ (ws : List ℕ) where
   unfolding decode
   count-is = length-tabulate (decodeMessage ws) (countOf ws)
 
-  senders-are : sendersRead ws (decodeTable ws) (countOf ws) ≡ sendersFit (decode ws)
+  senders-are : sendersRead ws 8321 (decodeTable ws) (countOf ws) ≡ sendersFit (decode ws)
   unfolding decode sendersRead sendersFit
   senders-are = refl
 
@@ -114,7 +114,7 @@ module _ (ws : List ℕ) where
       rw (e, l, size-is ws)
 
   head-word : wordAt (decode ws) 0 ≡ headWord (sidesOf (at ws 0)) (sizeOf ws) (countOf ws)
-  unfolding wordAt decode decodeTable
+  unfolding belongs wordAt decode decodeTable
   head-word = rw (size-is ws, count-is)
 
   -- x and z are nodes
@@ -179,14 +179,18 @@ module _ (ws : List ℕ) where
     nodes-read : nodesRead ws (sizeOf ws) ≡ true
     unfolding nodesRead nodeReads
     nodes-read =
-        every-in (cons (all-in (sizeOf ws) (λ s. nodeReads (keyAt ws s) (clockAt ws s)) node)
-        (cons (unused (nodePlace (sizeOf ws)) 129 (omega arith) (omega arith) (λ s j hs hj h l. omega arith) (λ x z j hx hz hj h l. absurd (omega arith)) (λ k j hk hj h l. absurd (omega arith))) nil))
+        all-in (sizeOf ws) (λ s. nodeReads (keyAt ws s) (clockAt ws s)) node
       where
         node : (s : ℕ) → s < sizeOf ws → nodeReads (keyAt ws s) (clockAt ws s) ≡ true
         node s h =
             let l : s < 64 = omega (arith, size-high) in
             every-in (cons (eq-eqb (keyAt ws s) (keyWord (bits 0 24 (keyAt ws s)) (flag 24 (keyAt ws s))) (ap (at ws) (sym (add-zero (nodePlace s))) ∙ place (nodePlace s + 0) (omega arith) ∙ node-at (decode ws) s 0 l (lit< tt) ∙ node-word s 0 h))
             (cons (eq-eqb (clockAt ws s) (clockWord (bits 0 24 (clockAt ws s))) (place (nodePlace s + 1) (omega arith) ∙ node-at (decode ws) s 1 l (lit< tt) ∙ node-word s 1 h)) nil))
+
+    after-nodes : clear ws (nodePlace (sizeOf ws)) 129 ≡ true
+    after-nodes =
+        unused (nodePlace (sizeOf ws)) 129 (omega arith) (omega arith)
+        (λ s j hs hj h l. omega arith) (λ x z j hx hz hj h l. absurd (omega arith)) (λ k j hk hj h l. absurd (omega arith))
 
     -- what fits of node x
     module _ (x : ℕ) (hx : x < sizeOf ws) where
@@ -251,16 +255,18 @@ module _ (ws : List ℕ) where
         every-in (cons (all-in (sizeOf ws) (rowReads ws (sizeOf ws)) row-reads)
         (cons (unused (pairPlace (sizeOf ws) 0) 8321 (omega arith) (omega arith) (λ s j hs hj h l. absurd (omega arith)) (λ y z j hy hz hj h l k _. absurd (omega arith)) (λ k j hk hj h l. absurd (omega arith))) nil))
 
-    messages-read : messagesRead ws (decodeTable ws) (countOf ws) ≡ true
-    unfolding messagesRead messageReads clear
+    after-messages : clear ws (messagePlace (countOf ws)) ringLength ≡ true
+    after-messages =
+        unused (messagePlace (countOf ws)) ringLength (omega arith) (omega arith)
+        (λ s j hs hj h l. absurd (omega arith)) (λ y z j hy hz hj h l _ _. absurd (omega arith)) (λ k j hk hj h l. omega arith)
+
+    messages-read : messagesRead ws 8321 (decodeTable ws) (countOf ws) ≡ true
+    unfolding messagesRead messageReads
     messages-read =
-        every-in (cons (all-in (countOf ws) (messageReads ws (decodeTable ws)) message)
-        (cons
-        (unused (messagePlace (countOf ws)) ringLength (omega arith) (omega arith)
-        (λ s j hs hj h l. absurd (omega arith)) (λ y z j hy hz hj h l _ _. absurd (omega arith)) (λ k j hk hj h l. omega arith))
-        (cons (senders-are ∙ first (rest (rest (rest (rest (rest tests)))))) nil)))
+        every-in (cons (all-in (countOf ws) (messageReads ws 8321 (decodeTable ws)) message)
+        (cons (senders-are ∙ first (rest (rest (rest (rest (rest tests)))))) nil))
       where
-        message : (k : ℕ) → k < countOf ws → messageReads ws (decodeTable ws) k ≡ true
+        message : (k : ℕ) → k < countOf ws → messageReads ws 8321 (decodeTable ws) k ≡ true
         message k h =
             every-in (cons (all-in 5 (λ j. eqb (at ws (messagePlace k + j)) (getD (messageWords (decodeMessage ws k)) j 0))
             (λ j hj. eq-eqb (at ws (messagePlace k + j)) (getD (messageWords (decodeMessage ws k)) j 0) (place (messagePlace k + j) (omega (arith, count-high)) ∙ message-at (decode ws) k j hj ∙ message-word k j h)))
@@ -282,9 +288,9 @@ module _ (ws : List ℕ) where
     unfolding headReads
     in-head = every-out _ (first regions)
 
-    in-nodes : Each (λ b. b ≡ true) (all (sizeOf ws) (λ s. nodeReads (keyAt ws s) (clockAt ws s)) ∷ clear ws (nodePlace (sizeOf ws)) 129 ∷ [])
+    in-nodes : all (sizeOf ws) (λ s. nodeReads (keyAt ws s) (clockAt ws s)) ≡ true
     unfolding nodesRead
-    in-nodes = every-out _ (first (rest regions))
+    in-nodes = first (rest regions)
 
     in-pairs : Each (λ b. b ≡ true) (all (sizeOf ws) (rowReads ws (sizeOf ws)) ∷ clear ws (pairPlace (sizeOf ws) 0) 8321 ∷ [])
     unfolding pairsRead
@@ -295,11 +301,10 @@ module _ (ws : List ℕ) where
     in-row x h = every-out _ (all-out (sizeOf ws) (rowReads ws (sizeOf ws)) (first in-pairs) x h)
 
     in-messages : Each (λ b. b ≡ true)
-        (all (countOf ws) (messageReads ws (decodeTable ws))
-        ∷ clear ws (messagePlace (countOf ws)) ringLength
-        ∷ sendersRead ws (decodeTable ws) (countOf ws)
+        (all (countOf ws) (messageReads ws 8321 (decodeTable ws))
+        ∷ sendersRead ws 8321 (decodeTable ws) (countOf ws)
         ∷ [])
-    unfolding messagesRead clear
+    unfolding messagesRead
     in-messages = every-out _ (first (rest (rest (rest (rest regions)))))
 
     in-message : (k : ℕ) → k < countOf ws → Each (λ b. b ≡ true)
@@ -307,21 +312,23 @@ module _ (ws : List ℕ) where
         ∷ messageFits (decodeTable ws) (decodeMessage ws k)
         ∷ [])
     unfolding messageReads
-    in-message k h = every-out _ (all-out (countOf ws) (messageReads ws (decodeTable ws)) (first in-messages) k h)
+    in-message k h = every-out _ (all-out (countOf ws) (messageReads ws 8321 (decodeTable ws)) (first in-messages) k h)
 
     node-format : (s j : ℕ) → s < 64 → j < 2 → at ws (nodePlace s + j) ≡ ofNode (decode ws) s j
     unfolding nodeReads
     node-format s j hs hj =
         elim (decLt s (sizeOf ws)) [
           | yes h ↦ each-word s h j hj ∙ sym (node-word s j h)
-          | no d ↦ clear-out ws (nodePlace (sizeOf ws)) 129 (first (rest in-nodes)) (nodePlace s + j) (omega arith) (omega arith) ∙ sym (node-none s j (omega arith))
+          | no d ↦
+              clear-out ws (nodePlace (sizeOf ws)) 129 (first (rest (rest (rest (rest (rest (rest regions))))))) (nodePlace s + j) (omega arith) (omega arith)
+              ∙ sym (node-none s j (omega arith))
         ]
       where
         each-word : (s : ℕ) → s < sizeOf ws → (j : ℕ) → j < 2
             → at ws (nodePlace s + j) ≡ getD (keyWord (bits 0 24 (keyAt ws s)) (flag 24 (keyAt ws s)) ∷ clockWord (bits 0 24 (clockAt ws s)) ∷ []) j 0
         each-word s h =
             let f = every-out (eqb (keyAt ws s) (keyWord (bits 0 24 (keyAt ws s)) (flag 24 (keyAt ws s))) ∷ eqb (clockAt ws s) (clockWord (bits 0 24 (clockAt ws s))) ∷ [])
-            (all-out (sizeOf ws) (λ s. nodeReads (keyAt ws s) (clockAt ws s)) (first in-nodes) s h) in
+            (all-out (sizeOf ws) (λ s. nodeReads (keyAt ws s) (clockAt ws s)) in-nodes s h) in
             two-words ws (nodePlace s) (λ j. getD (keyWord (bits 0 24 (keyAt ws s)) (flag 24 (keyAt ws s)) ∷ clockWord (bits 0 24 (clockAt ws s)) ∷ []) j 0) (eqb-true (keyAt ws s) _ (first f)) (eqb-true (clockAt ws s) _ (first (rest f)))
 
     -- of a pair: what its words are, and what is tested of it
@@ -401,7 +408,8 @@ module _ (ws : List ℕ) where
               (all-out 5 (λ j. eqb (at ws (messagePlace k + j)) (getD (messageWords (decodeMessage ws k)) j 0)) (first (in-message k h)) j hj)
               ∙ sym (message-word k j h)
           | no d ↦
-              clear-out ws (messagePlace (countOf ws)) ringLength (first (rest in-messages)) (messagePlace k + j) (omega arith) (omega arith)
+              clear-out ws (messagePlace (countOf ws)) ringLength (first (rest (rest (rest (rest (rest regions))))))
+              (messagePlace k + j) (omega arith) (omega arith)
               ∙ sym (message-none k j (omega arith))
         ]
 
@@ -446,7 +454,7 @@ module _ (ws : List ℕ) where
         (cons (all-in (size (decodeTable ws)) (λ x. nodeFits (decodeTable ws) (decodeNode ws x) x) (λ x h. node-fits x (rw (size-is ws) at h)))
         (cons (all-in (length (decode ws .messages)) (λ k. messageFits (decodeTable ws) (messageAt (decode ws) k))
         (λ k h. rw (message-is k (rw count-is at h)) (first (rest (in-message k (rw count-is at h))))))
-        (cons (sym senders-are ∙ first (rest (rest in-messages))) nil))))))
+        (cons (sym senders-are ∙ first (rest in-messages)) nil))))))
 
 -- Words read as a ring exactly where each of their regions does.
 pub regions-read : (ws : List ℕ) → length ws ≡ ringLength → readsAsRing ws ≡ regionsRead ws
@@ -454,7 +462,8 @@ unfolding regionsRead
 regions-read ws long =
     same-test (readsAsRing ws) (regionsRead ws)
     (λ e. let r = reads-out ws e in
-    every-in (cons (head-reads ws long r) (cons (nodes-read ws long r) (cons (first (rest (tests ws long r))) (cons (pairs-read ws long r) (cons (messages-read ws long r) nil))))))
+    every-in (cons (head-reads ws long r) (cons (nodes-read ws long r) (cons (first (rest (tests ws long r)))
+    (cons (pairs-read ws long r) (cons (messages-read ws long r) (cons (after-messages ws long r) (cons (after-nodes ws long r) nil))))))))
     (λ e. reads-in ws (record { long = long; format = format ws e; fits = fits ws e }))
 
 -- ---- as the code joins the regions
@@ -471,6 +480,16 @@ module _ (ws : List ℕ) (long : length ws ≡ ringLength) where
   head-fails e = sym (regions-read ws long ∙ rw e)
 
   pub after-head : headReads (at ws 0) ≡ true
-      → (nodesRead ws (sizeOf ws) && keysDiffer (decodeTable ws) && pairsRead ws (sizeOf ws) && messagesRead ws (decodeTable ws) (countOf ws)) ≡ readsAsRing ws
+      → (nodesRead ws (sizeOf ws) && keysDiffer (decodeTable ws) && pairsRead ws (sizeOf ws)
+      && messagesRead ws 8321 (decodeTable ws) (countOf ws) && clear ws (messagePlace (countOf ws)) ringLength
+      && clear ws (nodePlace (sizeOf ws)) 129) ≡ readsAsRing ws
   unfolding regionsRead
-  after-head e = rw (regions-read ws long, e) (joined-every (nodesRead ws (sizeOf ws)) (keysDiffer (decodeTable ws) ∷ pairsRead ws (sizeOf ws) ∷ messagesRead ws (decodeTable ws) (countOf ws) ∷ []))
+  after-head e =
+      rw (regions-read ws long, e)
+      (joined-every (nodesRead ws (sizeOf ws))
+      (keysDiffer (decodeTable ws)
+      ∷ pairsRead ws (sizeOf ws)
+      ∷ messagesRead ws 8321 (decodeTable ws) (countOf ws)
+      ∷ clear ws (messagePlace (countOf ws)) ringLength
+      ∷ clear ws (nodePlace (sizeOf ws)) 129
+      ∷ []))

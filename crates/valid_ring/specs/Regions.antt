@@ -3,8 +3,8 @@ use mathlib.Core.Bool.{Bool}
 use mathlib.Core.List.{List, [], _∷_}
 use Prim.Native.Nat.{ℕ}
 use Rattle.model.specs.Choice.{every}
-use Rattle.model.specs.Words.{at, keysDiffer, decodeTable}
-use Rattle.valid_nodes.specs.Nodes.{sizeOf, countOf, headReads, nodesRead}
+use Rattle.model.specs.Words.{at, nodePlace, messagePlace, keysDiffer, decodeTable, ringLength}
+use Rattle.valid_nodes.specs.Nodes.{clear, sizeOf, countOf, headReads, nodesRead}
 use Rattle.valid_pairs.specs.Pairs.{pairsRead}
 use Rattle.valid_messages.specs.Messages.{messagesRead}
 
@@ -15,7 +15,9 @@ regionTests ws =
     ∷ nodesRead ws (sizeOf ws)
     ∷ keysDiffer (decodeTable ws)
     ∷ pairsRead ws (sizeOf ws)
-    ∷ messagesRead ws (decodeTable ws) (countOf ws)
+    ∷ messagesRead ws 8321 (decodeTable ws) (countOf ws)
+    ∷ clear ws (messagePlace (countOf ws)) ringLength
+    ∷ clear ws (nodePlace (sizeOf ws)) 129
     ∷ []
 
 unfoldable pub regionsRead : List ℕ → Bool

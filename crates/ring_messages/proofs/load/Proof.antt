@@ -1,12 +1,12 @@
 use borrow.Author.Needs.{needs}
 use Rattle.model.specs.Sets.{ofBits}
 use Rattle.model.proofs.Fields.{bits<}
-use Rattle.model.specs.Words.{decodeMessage}
+use Rattle.model.specs.Words.{decodeMessageAt}
 use Rattle.ring_messages.proofs.load.Statement.{statement}
 use Rattle.ring_messages.proofs.load.Tie as tie
 
 returns : tie.Need-returns
-unfolding decodeMessage
+unfolding decodeMessageAt
 returns c =
     record {
       message = λ i. record {

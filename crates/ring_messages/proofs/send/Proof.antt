@@ -4,9 +4,9 @@ use Prim.Native.Nat.{ℕ, _+_, _≤_}
 use native.Mathlib.Omega.{arith}
 use lib.ListN.{length, length-map}
 use borrow.Author.Needs.{needs}
+use Rattle.model.proofs.Laws.{length-members}
 use Rattle.model.specs.Sets.{ofBits, members, count}
 use Rattle.model.specs.Ring.{Message}
-use Rattle.sets.proofs.Members.{length-members}
 use Rattle.ring_messages.proofs.send.Statement.{statement}
 use Rattle.ring_messages.proofs.send.Tie as tie
 

@@ -1,5 +1,4 @@
-use mathlib.Core.Path.{_≡_, refl, sym, ap₂, _∙_}
-use mathlib.Core.Bool.{_&&_}
+use mathlib.Core.Path.{_≡_, refl}
 use Prim.Native.Nat.{zero-le, _-_, _≤_}
 use native.Mathlib.Omega.{arith}
 use denote.Ref.{now}
@@ -7,15 +6,15 @@ use borrow.Author.Needs.{needs}
 use Rattle.model.specs.Leafset.{Table, size}
 use Rattle.model.specs.Sets.{all}
 use Rattle.valid_messages.specs.Parts.{firstReads}
-use Rattle.valid_messages.proofs.MessageTests.{all-blocks}
+use Rattle.valid_messages.proofs.MessageTests.{block-more}
 use Rattle.valid_messages.proofs.firsts_read.Statement.{statement}
 use Rattle.valid_messages.proofs.firsts_read.Tie as tie
 
 abbrev Inv-loop : tie.InvT-loop
-Inv-loop words n m ok₀ from₀ ok from = (from ≤ m) × ((t : Table) → size t ≡ n → ok ≡ all from (firstReads words t))
+Inv-loop words base n m ok₀ from₀ ok from = (from ≤ m) × ((t : Table) → size t ≡ n → ok ≡ all from (firstReads words base t))
 
 abbrev μ-loop : tie.MeasureT-loop
-μ-loop words n m ok₀ from₀ ok from = m - from
+μ-loop words base n m ok₀ from₀ ok from = m - from
 
 loop-holds : tie.Need-loop-holds Inv-loop μ-loop
 unfolding all
@@ -29,9 +28,11 @@ loop-less c =
 loop-again : tie.Need-loop-again Inv-loop μ-loop
 loop-again c =
     let l = c .before .before .before .loop in
-    let count = c .before .block-size .result in (
+    let start = c .before .before .before .before .before in (
       omega (arith, l .inv .0, c .before .block-size .ensures .0),
-      λ t e. ap₂ _&&_ (l .inv .1 t e) (c .block-reads .ensures t e) ∙ sym (all-blocks (firstReads (now (c .before .before .before .before .before .args .words)) t) (l .from) count),
+      λ t e.
+          block-more (firstReads (now (start .args .words)) (start .args .base) t) (l .from) (c .before .block-size .result) (l .ok) (c .block-reads .result)
+          (l .inv .1 t e) (c .block-reads .ensures t e),
     )
 
 returns : tie.Need-returns Inv-loop μ-loop

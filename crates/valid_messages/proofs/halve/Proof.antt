@@ -10,21 +10,23 @@ use Rattle.valid_messages.proofs.halve.Statement.{statement}
 use Rattle.valid_messages.proofs.halve.Tie as tie
 
 abbrev Inv-loop : tie.InvT-loop
-Inv-loop words from count lows₀ highs₀ k₀ lows highs k = (k ≤ count) × (length lows ≡ 64) × (length highs ≡ 64) × Halves words from lows highs k
+Inv-loop words base from count lows₀ highs₀ k₀ lows highs k = (k ≤ count) × (length lows ≡ 64) × (length highs ≡ 64) × Halves words base from lows highs k
 
 abbrev μ-loop : tie.MeasureT-loop
-μ-loop words from count lows₀ highs₀ k₀ lows highs k = count - k
+μ-loop words base from count lows₀ highs₀ k₀ lows highs k = count - k
 
 loop-holds : tie.Need-loop-holds Inv-loop μ-loop
-loop-holds c = (zero-le, search needs, search needs, no-halves _ _ _ _)
+loop-holds c = (zero-le, search needs, search needs, no-halves _ _ _ _ _)
 
 loop-again : tie.Need-loop-again Inv-loop μ-loop
 loop-again c =
-    let l = c .before .before .before .loop in (
+    let at-loop = c .before .before .before in
+    let l = at-loop .loop in
+    let a = at-loop .before .before .before .before .args in (
       search needs,
       simp length-set (l .inv .1),
       simp length-set (l .inv .2),
-      rw (c .upper .ensures) (more-halves (now (c .before .before .before .before .before .before .before .args .words)) (c .before .before .before .before .before .before .before .args .from) (l .lows) (l .highs) (l .k) (omega arith) (omega arith) (l .inv .3)),
+      rw (c .upper .ensures) (more-halves (now (a .words)) (a .base) (a .from) (l .lows) (l .highs) (l .k) (omega arith) (omega arith) (l .inv .3)),
     )
 
 returns : tie.Need-returns Inv-loop μ-loop

@@ -12,27 +12,29 @@ use Rattle.valid_messages.proofs.halves_fit.Tie as tie
 
 abbrev Inv-loop : tie.InvT-loop
 Inv-loop lows highs n count ok₀ k₀ ok k =
-    (k ≤ count) × ((ws : List ℕ) (t : Table) (from : ℕ) → size t ≡ n → Halves ws from lows highs count → ok ≡ all k (λ i. firstReads ws t (from + i)))
+    (k ≤ count) × ((ws : List ℕ) (base : ℕ) (t : Table) (from : ℕ) → size t ≡ n → Halves ws base from lows highs count
+    → ok ≡ all k (λ i. firstReads ws base t (from + i)))
 
 abbrev μ-loop : tie.MeasureT-loop
 μ-loop lows highs n count ok₀ k₀ ok k = count - k
 
 loop-holds : tie.Need-loop-holds Inv-loop μ-loop
 unfolding all
-loop-holds c = (zero-le, λ ws t from e h. refl)
+loop-holds c = (zero-le, λ ws base t from e h. refl)
 
 loop-again : tie.Need-loop-again Inv-loop μ-loop
 loop-again c =
     let l = c .before .before .before .before .loop in (
       search needs,
-      λ ws t from e h. all-more (λ i. firstReads ws t (from + i)) (l .k) (l .ok) (c .first-fits .result) (l .inv .1 ws t from e h) (c .first-fits .ensures ws t (from + l .k) e (sym (h .low (l .k) (search needs))) (sym (h .high (l .k) (search needs)))),
+      λ ws base t from e h. all-more (λ i. firstReads ws base t (from + i)) (l .k) (l .ok) (c .first-fits .result) (l .inv .1 ws base t from e h)
+          (c .first-fits .ensures ws base t (from + l .k) e (sym (h .low (l .k) (search needs))) (sym (h .high (l .k) (search needs)))),
     )
 
 returns : tie.Need-returns Inv-loop μ-loop
-returns c ws t from e h =
+returns c ws base t from e h =
     let l = c .before .loop in
     let done : l .k ≡ c .before .before .args .count = omega arith in
-    rw done at (l .inv .1 ws t from e h)
+    rw done at (l .inv .1 ws base t from e h)
 
 pub halves-fit-spec : {M : Type 1} → statement M
 halves-fit-spec =

@@ -3,8 +3,7 @@ use lib.ListN.{length, length-map}
 use lib.Dec.{lit≤}
 use borrow.Author.Needs.{needs}
 use Rattle.model.specs.Sets.{ofBits}
-use Rattle.model.proofs.Laws.{count-le}
-use Rattle.sets.proofs.Members.{length-members}
+use Rattle.model.proofs.Laws.{count-le, length-members}
 use Rattle.records.specs.Effects.{sendsOf}
 use Rattle.records.specs.declared.effect.Sends.{Sends}
 use Rattle.records.proofs.effect.count.Statement.{statement}

@@ -10,10 +10,10 @@ use Rattle.valid_messages.proofs.senders.count.Statement.{statement}
 use Rattle.valid_messages.proofs.senders.count.Tie as tie
 
 abbrev Inv-loop : tie.InvT-loop
-Inv-loop words from to counts₀ k₀ counts k = (k ≤ to) × Counts words k counts
+Inv-loop words base from to counts₀ k₀ counts k = (k ≤ to) × Counts words base k counts
 
 abbrev μ-loop : tie.MeasureT-loop
-μ-loop words from to counts₀ k₀ counts k = to - k
+μ-loop words base from to counts₀ k₀ counts k = to - k
 
 loop-holds : tie.Need-loop-holds Inv-loop μ-loop
 loop-holds c = let start = c .before .before in (start .pre .0 .1, start .pre .1)
@@ -29,7 +29,7 @@ add-counts-2 c =
     let at-loop = c .before .before .before .before .before in
     let start = at-loop .before .before .before in
     let low = rw (at-loop .loop .inv .1 .long) at (slice-read-counts c) in
-    let high = count-high _ (at-loop .loop .k) (at-loop .loop .counts) (at-loop .loop .inv .1) _ low in
+    let high = count-high _ _ (at-loop .loop .k) (at-loop .loop .counts) (at-loop .loop .inv .1) _ low in
     record { fits = omega (arith, high, at-loop .loop .inv .0, start .pre .0 .2) }
 
 slice-write-counts : tie.Need-slice-write-counts Inv-loop μ-loop
@@ -39,7 +39,7 @@ loop-again : tie.Need-loop-again Inv-loop μ-loop
 loop-again c =
     let at-loop = c .before .before .before .before .before in
     let low = rw (at-loop .loop .inv .1 .long) at (slice-read-counts c) in
-    (search needs, one-counted _ (at-loop .loop .k) (at-loop .loop .counts) (at-loop .loop .inv .1) _ low (c .before .before .sender .ensures))
+    (search needs, one-counted _ _ (at-loop .loop .k) (at-loop .loop .counts) (at-loop .loop .inv .1) _ low (c .before .before .sender .ensures))
 
 same-length : tie.Need-same-length Inv-loop μ-loop
 same-length c =

@@ -32,7 +32,7 @@ hashed-is-new-requires : tie.Need-hashed-is-new-requires Inv-loop μ-loop
 hashed-is-new-requires c κs =
     let l = c .before .before .loop in
     let ws = now (c .before .before .before .before .args .words) in (
-      c .before .before .before .before .pre .0,
+      omega arith,
       omega arith,
       λ unmet. unmet-new (l .met) ws (l .x) (l .inv .3) (ap (λ (i : ℕ). getD (l .met) i false) (sym (c .hash .ensures)) ∙ unmet),
     )

@@ -30,7 +30,7 @@ loop-holds c = (search needs, refl, refl)
 loop-again : tie.Need-loop-again Inv-loop μ-loop
 loop-again c =
     let l = c .before .before .before .loop in
-    let ws = now (c .before .before .before .before .before .args .words) in (
+    let ws = now (c .before .before .before .before .args .words) in (
       search needs,
       or-more (λ w. w / 2 ^ 25) (above 25) (λ i. eqb (keyAt ws i) (keyWord (bits 0 24 (keyAt ws i)) (flag 24 (keyAt ws i)))) (l .s) (l .keys) _ (l .inv .1) (key-word (keyAt ws (l .s))),
       or-more (λ w. w / 2 ^ 24) (above 24) (λ i. eqb (clockAt ws i) (clockWord (bits 0 24 (clockAt ws i)))) (l .s) (l .clocks) _ (l .inv .2) (clock-word (clockAt ws (l .s))),
@@ -38,10 +38,10 @@ loop-again c =
 
 returns : tie.Need-returns Inv-loop μ-loop
 returns c =
-    let l = c .before .before .loop in
-    let a = c .before .before .before .before .args in
+    let l = c .before .loop in
+    let a = c .before .before .args in
     let e : l .s ≡ a .n = omega arith in
-    ap₂ _&&_ (ap₂ _&&_ (rw e at (l .inv .1)) (rw e at (l .inv .2))) (c .clear .ensures) ∙ nodes-tests (now (a .words)) (a .n)
+    ap₂ _&&_ (rw e at (l .inv .1)) (rw e at (l .inv .2)) ∙ nodes-tests (now (a .words)) (a .n)
 
 pub nodes-read-spec : {M : Type 1} → statement M
 nodes-read-spec =
@@ -49,4 +49,4 @@ nodes-read-spec =
     (tie.spec
     Inv-loop μ-loop loop-holds (λ c. search needs) (λ c. search needs) (λ c. search needs) (λ c. search needs)
     (λ c. search needs) (λ c. search needs) (λ c. search needs) (λ c. search needs) (λ c. search needs)
-    loop-again (λ c. search needs) (λ c. search needs) (λ c κs. search needs) returns)
+    loop-again returns)
