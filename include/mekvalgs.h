@@ -26,6 +26,10 @@ extern "C" {
 /* The number of words of a ring. */
 #define MEKVALGS_RING_LENGTH 13441
 
+/* The number of words of the short edition of a ring with n nodes and m messages, and the most that there are. */
+#define MEKVALGS_SHORT_LENGTH(n, m) (1 + 2 * (n) * (n) + 5 * (m))
+#define MEKVALGS_MAX_SHORT_LENGTH 13313
+
 #define MEKVALGS_MAX_LEAF 8
 #define MEKVALGS_MAX_NODES 64
 #define MEKVALGS_MAX_MESSAGES 1024
@@ -53,7 +57,9 @@ enum mekvalgs_answer {
     MEKVALGS_TABLES_CLASH = 15,        /* join: more than 64 nodes, or a key that both have */
     MEKVALGS_TOO_MANY_MESSAGES = 16,   /* join: more than 1,024 messages */
     MEKVALGS_SENDER_FULL = 17,         /* more than 256 messages of the acting or answering node would be left */
-    MEKVALGS_NOT_WATCHED = 18          /* hear: the node is not watched */
+    MEKVALGS_NOT_WATCHED = 18,         /* hear: the node is not watched */
+    MEKVALGS_NOT_SHORT = 19,           /* lengthen: the words are not the short edition of a ring */
+    MEKVALGS_PLACE_TOO_SMALL = 20      /* shorten: the lent place is shorter than the short edition */
 };
 
 /* The kinds of event words. */
@@ -180,6 +186,19 @@ uint32_t mekvalgs_read_event(uint32_t word, uint32_t *kind, uint32_t *first, uin
  * one that is not 0, off or deliver one that is neither 0 nor 1, and timer one that is none of 0, 2, 3 and 4), 5; the
  * word is 0 where refused. */
 uint32_t mekvalgs_write_event(uint32_t kind, uint32_t first, uint32_t second, uint32_t *word);
+
+/* The short edition of a ring, to be stored: word 0, then the words that belong to a node, a pair of different nodes or
+ * a message, in the ring's order. edition gets them, and written says how many: MEKVALGS_SHORT_LENGTH of the ring's n
+ * and m. Words of edition beyond them are not touched.
+ * Answers 0, 1, 6, 20. Where refused, edition is as it was and written is 0. */
+uint32_t mekvalgs_shorten(const uint32_t *words, uint64_t length, uint32_t *edition, uint64_t places,
+                          uint32_t *written);
+
+/* The ring of a short edition: words becomes the ring whose short edition the edition_length words are. What words
+ * holds before does not matter.
+ * Answers 0, 1, 19 (no words, not as many as word 0 says, or not those of a ring). Where refused, words is as it
+ * was. */
+uint32_t mekvalgs_lengthen(const uint32_t *edition, uint64_t edition_length, uint32_t *words, uint64_t length);
 
 /* A listener needs no ring. It is which nodes are watched, bit s for node s, and of each watched node its silence, the
  * ticks since it was heard as far as its window, and its window. The caller keeps the three, all 0 at first, and lends

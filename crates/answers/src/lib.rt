@@ -28,6 +28,8 @@ pub fn number(answer: Answer) -> u32
         Answer::TooManyMessages => 16,
         Answer::SenderFull => 17,
         Answer::NotWatched => 18,
+        Answer::NotShort => 19,
+        Answer::PlaceTooSmall => 20,
     }
 }
 

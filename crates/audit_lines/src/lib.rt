@@ -83,6 +83,8 @@ fn put_answer(out: &mut [u8], at: usize, answer: Answer) -> usize
             )
         }
         Answer::NotWatched => at,
+        Answer::NotShort => at,
+        Answer::PlaceTooSmall => at,
     }
 }
 

@@ -79,7 +79,7 @@ pub fn put_end(out: &mut [u8], at: usize) -> usize
     put_bytes(out, at, b"</svg>\n")
 }
 
-// Puts a whole drawing that says why no ring is opened.
+// Puts a whole drawing that says why there is no ring.
 pub fn put_refusal(out: &mut [u8], refusal: u32) -> usize
     requires room { ⌜ 900 ≤ length (now out) ⌝ }
     ensures room { λ r. ⌜ Room (now (out .entry)) (now (out .exit)) 0 r 900 ⌝ }
@@ -91,7 +91,7 @@ pub fn put_refusal(out: &mut [u8], refusal: u32) -> usize
     put_end(out, words)
 }
 
-// Puts what a refusal of an opening means.
+// Puts what a refusal of an opening or of a short ring means.
 fn put_reason(out: &mut [u8], at: usize, refusal: u32) -> usize
     requires room { ⌜ at + 60 ≤ length (now out) ⌝ }
     ensures room { λ r. ⌜ Room (now (out .entry)) (now (out .exit)) at r 60 ⌝ }
@@ -102,6 +102,9 @@ fn put_reason(out: &mut [u8], at: usize, refusal: u32) -> usize
             at,
             b": the first word is at fault, or a key is missing</text>\n",
         );
+    }
+    if refusal == 19 {
+        return put_bytes(out, at, b": the words are no short ring</text>\n");
     }
     put_bytes(out, at, b": a key is at fault, or two are equal</text>\n")
 }

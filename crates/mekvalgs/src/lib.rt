@@ -9,6 +9,7 @@ ghost use Rattle.model.specs.Questions.{leafsetAnswer, leafsetOf, connectionAns
 ghost use Rattle.model.specs.Words.{decode};
 ghost use Rattle.model.specs.Preview.{previewBuffer};
 ghost use Rattle.model.specs.Join.{joinBuffer};
+ghost use Rattle.model.specs.Short.{shortenBuffer, lengthenBuffer};
 ghost use Rattle.model.specs.Route.{routeBuffer};
 ghost use Rattle.model.specs.Reach.{reachOf};
 ghost use Rattle.model.specs.Screens.{conductorOf, technicianOf, stampsOf, sparesOf, messagesOf};
@@ -72,6 +73,29 @@ pub extern "C" fn mekvalgs_join(first: &[u32], second: &[u32], joined: &mut [u32
     ensures sources { λ _. ⌜ (now (first .exit) ≡ now (first .entry)) × (now (second .exit) ≡ now (second .entry)) ⌝ }
 {
     answers::number(call_join::join(first, second, joined))
+}
+
+// The short edition of a ring, in the lent place.
+#[no_mangle]
+pub extern "C" fn mekvalgs_shorten(words: &[u32], edition: &mut [u32], written: &mut u32) -> u32
+    ensures edition { λ r. ⌜ record { answer = r; length = now (written .exit); place = now (edition .exit) }
+        ≡ shortenBuffer (now (words .entry)) (now (edition .entry)) ⌝ }
+    ensures ring { λ _. ⌜ now (words .exit) ≡ now (words .entry) ⌝ }
+{
+    let shortened = call_short::shorten(words, edition);
+    *written = shortened.written;
+    let answer = shortened.answer;
+    answers::number(answer)
+}
+
+// The ring of a short edition.
+#[no_mangle]
+pub extern "C" fn mekvalgs_lengthen(edition: &[u32], words: &mut [u32]) -> u32
+    ensures words { λ r. ⌜ record { answer = r; words = now (words .exit) }
+        ≡ lengthenBuffer (now (edition .entry)) (now (words .entry)) ⌝ }
+    ensures edition { λ _. ⌜ now (edition .exit) ≡ now (edition .entry) ⌝ }
+{
+    answers::number(call_short::lengthen(edition, words))
 }
 
 // Plays the script on the ring; the answers' numbers, as far as there are places for them.

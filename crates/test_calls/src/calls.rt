@@ -7,6 +7,7 @@ use super::joins;
 use super::line::Outcome;
 use super::memory;
 use super::screens;
+use super::shorts;
 use call_open::open;
 use test_lines::Command;
 use test_lines::digests;
@@ -33,6 +34,8 @@ pub fn call(
         command::CONDUCTOR..=command::MESSAGES => screens::show(command, words, stamps, spares),
         command::JOIN => joins::join(words, command, second, third),
         command::JOIN_ITSELF => joins::join_itself(words, command, second, third),
+        command::SHORTEN => shorts::shorten(words, command, third),
+        command::LENGTHEN => shorts::lengthen(words, command, third),
         _ => previewed(words, command, second),
     }
 }

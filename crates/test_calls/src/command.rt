@@ -69,4 +69,10 @@ pub const JOIN_ITSELF: u32 = 22;
 // The reach from node a to the owner of key b.
 pub const REACH: u32 = 23;
 
+// Turns the buffer short, in the first a words of the third one.
+pub const SHORTEN: u32 = 24;
+
+// Makes the first a words of the third buffer long, in the buffer.
+pub const LENGTHEN: u32 = 25;
+
 // Every other number previews the word a, with the first b words of the second buffer.

@@ -8,6 +8,7 @@ mod joins;
 mod line;
 mod memory;
 mod screens;
+mod shorts;
 
 ghost use mathlib.Core.Path.{_≡_};
 ghost use lib.ListN.{length};
@@ -96,8 +97,8 @@ fn run_all(
 }
 
 // The list has keys, and after them a script; or a script alone. The places take the answers of its words, or the
-// nodes of a route. The second buffer is for previews and, with the third, for joins; stamps and
-// spares are the technician's.
+// nodes of a route. The second buffer is for previews and, with the third, for joins; the third takes short rings, too.
+// Stamps and spares are the technician's.
 fn main() {
     let mut words = [0u32; WORDS];
     let mut list = [0u32; 1200];

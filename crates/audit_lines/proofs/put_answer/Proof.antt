@@ -83,6 +83,14 @@ returns-19 : tie.Need-returns-19
 unfolding answerText
 returns-19 c = answered (c .enum-told19 .given .1) (put-none _ _) refl (lit≤ tt)
 
+returns-20 : tie.Need-returns-20
+unfolding answerText
+returns-20 c = answered (c .enum-told20 .given .1) (put-none _ _) refl (lit≤ tt)
+
+returns-21 : tie.Need-returns-21
+unfolding answerText
+returns-21 c = answered (c .enum-told21 .given .1) (put-none _ _) refl (lit≤ tt)
+
 pub put-answer-spec : {M : Type 1} → statement M
 put-answer-spec =
     tie.close
@@ -96,10 +104,10 @@ put-answer-spec =
     (λ c. search needs) (λ c. search needs) (λ c κs. search needs) (λ c. search needs) (λ c. search needs)
     (λ c κs. search needs) (λ c. search needs) (λ c. search needs) (λ c κs. search needs)
     (λ c. search needs) (λ c. search needs) (λ c. search needs) (λ c. search needs) (λ c. search needs)
-    (λ c. search needs) (λ c. search needs) (λ c κs. search needs) (λ c. search needs)
+    (λ c. search needs) (λ c. search needs) (λ c κs. search needs) (λ c. search needs) (λ c. search needs) (λ c. search needs)
     (λ c. search needs) returns (λ c. search needs) returns-2
     (λ c. search needs) returns-3 (λ c. search needs) returns-4 (λ c. search needs) returns-5
     (λ c. search needs) returns-6 (λ c. search needs) returns-7 (λ c. search needs) returns-8
     (λ c. search needs) returns-9 (λ c. search needs) returns-10 (λ c. search needs) returns-11
     (λ c. search needs) returns-12 returns-13 returns-14 returns-15 returns-16 returns-17
-    (λ c. search needs) returns-18 returns-19)
+    (λ c. search needs) returns-18 returns-19 returns-20 returns-21)
