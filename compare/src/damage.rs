@@ -27,6 +27,15 @@ pub fn damage(random: &mut Random, words: &[u32], at_bound: usize) -> Damage {
     Damage { pokes, event: None }
 }
 
+/// One damage of the ring, done.
+pub fn spoil(random: &mut Random, words: &mut [u32], at_bound: usize) {
+    for poke in damage(random, words, at_bound).pokes {
+        if let Step::Poke(at, value) = poke {
+            words[at] = value;
+        }
+    }
+}
+
 fn pair_at(x: usize, z: usize) -> usize {
     129 + 2 * (64 * x + z)
 }

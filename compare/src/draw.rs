@@ -1,4 +1,4 @@
-//! The drawing of the ring that a script leaves, as an SVG, over any implementation.
+//! The drawing of the ring that a script leaves, or of a short ring from a log, as an SVG, over any implementation.
 //!
 //! All numbers are whole, and a division rounds down. A line of the SVG ends with a newline; the texts are below.
 //!
@@ -87,12 +87,32 @@ pub fn run(ring: &dyn Ring, input: &[u8]) -> String {
             }
             Drawing::new(ring, &words).text()
         }
-        Err(refusal) => refused(refusal),
+        Err(refusal) => refused(refusal, bench::fault(refusal)),
     }
 }
 
-fn refused(refusal: u32) -> String {
-    let fault = bench::fault(refusal);
+/// The drawing of a short ring, or of the refusal. A tail under 4 bytes makes it another length than its word 0 says.
+pub fn show(ring: &dyn Ring, input: &[u8]) -> String {
+    let mut words = vec![0; crate::LENGTH];
+    let (whole, tail) = input.split_at(input.len() / 4 * 4);
+    let short: Vec<u32> = whole.chunks_exact(4).map(bench::little_endian).collect();
+    match ring.lengthen(&short, &mut words) {
+        0 if tail.is_empty() => Drawing::new(ring, &words).text(),
+        _ => refused(19, "the words are no short ring"),
+    }
+}
+
+/// The short ring that a script leaves; a refused script leaves none.
+pub fn log(ring: &dyn Ring, input: &[u8]) -> Vec<u8> {
+    let (mut words, mut short) = (vec![0; crate::LENGTH], vec![0; crate::LENGTH]);
+    if let Ok(events) = bench::open(ring, &mut words, input) {
+        events.chunks_exact(4).for_each(|event| _ = ring.play(&mut words, bench::little_endian(event)));
+    }
+    let written = ring.shorten(&words, &mut short).written as usize;
+    short[..written].iter().flat_map(|word| word.to_le_bytes()).collect()
+}
+
+fn refused(refusal: u32, fault: &str) -> String {
     format!("{HEAD}<text class='t' x='40' y='66'>no ring, refusal {refusal}: {fault}</text>\n{END}")
 }
 

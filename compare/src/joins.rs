@@ -2,7 +2,7 @@
 
 use crate::alike;
 use crate::case::{Fault, Runner, Step};
-use crate::damage::damage;
+use crate::damage::spoil;
 use crate::look;
 use crate::random::Random;
 use crate::ring::{Ring, Sides};
@@ -92,6 +92,11 @@ fn source(random: &mut Random, ring: &dyn Ring, sides: Sides, keys: &[u32]) -> S
     }
 }
 
+/// The words of such a ring.
+pub fn any_ring(random: &mut Random, ring: &dyn Ring, sides: Sides, keys: &[u32]) -> Vec<u32> {
+    source(random, ring, sides, keys).words
+}
+
 fn made(random: &mut Random, sides: Sides, keys: &[u32]) -> Source {
     let share = random.pick(&[20, 60, 90, 100]);
     let running: Vec<bool> = keys.iter().map(|_| random.percent(share)).collect();
@@ -140,11 +145,7 @@ fn damaged(random: &mut Random, source: &mut Source) {
     if !random.percent(8) {
         return;
     }
-    for poke in damage(random, &source.words, 2).pokes {
-        if let Step::Poke(at, value) = poke {
-            source.words[at] = value;
-        }
-    }
+    spoil(random, &mut source.words, 2);
     source.reached = false;
 }
 
@@ -173,8 +174,8 @@ fn talkative(random: &mut Random, source: &mut Source) {
     }
 }
 
-/// What the third buffer has before: words that all differ, zeros, ones, a ring.
-fn old_words(random: &mut Random, first: &[u32]) -> Vec<u32> {
+/// What a buffer that is written has before, one word more than a ring: words that all differ, zeros, ones, a ring.
+pub fn old_words(random: &mut Random, first: &[u32]) -> Vec<u32> {
     let number = random.word();
     match random.below(5) {
         0 => vec![0; LENGTH + 1],

@@ -31,6 +31,7 @@ pub mod script;
 pub mod self_test;
 pub mod senders;
 pub mod shorten;
+pub mod shorts;
 pub mod speed;
 #[cfg(feature = "library")]
 pub mod stack;
@@ -45,7 +46,7 @@ use ring::Ring;
 /// "A ring fills 13,441 words of 32 bits."
 pub const LENGTH: usize = 13_441;
 
-/// Answers are from 0 to 17.
+/// Answers are from 0 to 17, but for those of listeners and short editions.
 pub const ANSWERS: usize = 18;
 
 /// The library, where it is linked, and the reference.

@@ -1,7 +1,7 @@
 //! The proved library, linked: the only file that knows its C interface. A slice goes as pointer and length.
 
 use crate::listener::{Listener, Record};
-use crate::ring::{Conductor, Ring, Routed, Sides, Technician};
+use crate::ring::{Conductor, Ring, Routed, Shortened, Sides, Technician};
 
 #[link(name = "mekvalgs", kind = "static")]
 extern "C" {
@@ -13,6 +13,10 @@ extern "C" {
     fn mekvalgs_join(
         first: *const u32, first_len: u64, second: *const u32, second_len: u64, joined: *mut u32, joined_len: u64,
     ) -> u32;
+    fn mekvalgs_shorten(
+        words: *const u32, len: u64, edition: *mut u32, places: u64, written: *mut u32,
+    ) -> u32;
+    fn mekvalgs_lengthen(edition: *const u32, edition_len: u64, words: *mut u32, len: u64) -> u32;
     fn mekvalgs_play_all(
         words: *mut u32, len: u64, script: *const u32, script_len: u64, answers: *mut u8, places: u64,
     ) -> u32;
@@ -84,6 +88,20 @@ impl Ring for Library {
                 joined.len() as u64,
             )
         }
+    }
+
+    fn shorten(&self, words: &[u32], place: &mut [u32]) -> Shortened {
+        let mut written = u32::MAX;
+        let answer = unsafe {
+            mekvalgs_shorten(
+                words.as_ptr(), words.len() as u64, place.as_mut_ptr(), place.len() as u64, &mut written,
+            )
+        };
+        Shortened { answer, written }
+    }
+
+    fn lengthen(&self, short: &[u32], words: &mut [u32]) -> u32 {
+        unsafe { mekvalgs_lengthen(short.as_ptr(), short.len() as u64, words.as_mut_ptr(), words.len() as u64) }
     }
 
     fn play_all(&self, words: &mut [u32], list: &[u32], answers: &mut [u8]) -> u32 {

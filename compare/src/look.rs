@@ -63,3 +63,19 @@ pub fn busiest(words: &[u32]) -> (usize, usize) {
 pub fn receiver(words: &[u32], position: usize) -> usize {
     (words[8_321 + 5 * position] >> 10 & 63) as usize
 }
+
+/// The short edition by word 0, of any words.
+pub fn short(words: &[u32]) -> Vec<u32> {
+    let (n, m) = (nodes(words).min(64), messages(words).min(1_024));
+    let others = |x: usize| (0..n).filter(move |&z| z != x);
+    let pairs = (0..n).flat_map(|x| others(x).map(move |z| 129 + 2 * (64 * x + z)));
+    let pairs = pairs.flat_map(|at| [words[at], words[at + 1]]);
+    let messages = &words[8_321..8_321 + 5 * m];
+    words[..1 + 2 * n].iter().copied().chain(pairs).chain(messages.iter().copied()).collect()
+}
+
+/// How many words the short edition has, by word 0.
+pub fn short_length(word: u32) -> usize {
+    let (n, m) = ((word >> 4 & 127) as usize, (word >> 11 & 2_047) as usize);
+    1 + 2 * n * n + 5 * m
+}

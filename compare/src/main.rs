@@ -4,7 +4,7 @@ use compare::agree::{self, Found, Plan};
 use compare::ring::Ring;
 use compare::script::Mix;
 use compare::routes::Made;
-use compare::{alike, edges, joins, listener, reaches, self_test, speed, stage, vectors};
+use compare::{alike, edges, joins, listener, reaches, self_test, shorts, speed, stage, vectors};
 use compare::{every_listener, every_ring, fast_listeners, fast_rings};
 use std::path::Path;
 use std::process::ExitCode;
@@ -12,14 +12,16 @@ use std::time::Instant;
 
 const USAGE: &str = "compare [all | agree | unbroken | self-test | speed | stack | stage | vectors]
     [seed=1] [events=5000000] [damaged=1000000] [routes=EVENTS/10] [reaches=EVENTS/10]
-    [previews=EVENTS/10] [screens=EVENTS/10] [joins=EVENTS/25] [listens=EVENTS/5]
-    [nodes=64] [threads=CORES]
+    [previews=EVENTS/10] [screens=EVENTS/10] [joins=EVENTS/25] [shorts=EVENTS/25]
+    [listens=EVENTS/5] [nodes=64] [threads=CORES]
     [mixes=gentle,chaos,garbage,replacement,talkative]
     [vectors=FOLDER] [slip=NAME] [seeds=5]";
 
 struct Options {
     mode: String,
     plan: Plan,
+    /// Conversions each way between the editions of a ring.
+    shorts: u64,
     /// Calls on listener records.
     listens: u64,
     /// The mixes for demand 3.
@@ -42,9 +44,9 @@ fn options() -> Option<Options> {
     let (events, mixes, steady) = (5_000_000, Mix::ALL.to_vec(), vec![Mix::Gentle, Mix::Replacement]);
     let (damaged, routes, reaches, previews, screens, joins) = (1_000_000, 0, 0, 0, 0, 0);
     let plan = Plan { seed: 1, events, damaged, routes, reaches, previews, screens, joins, mixes, nodes: 64, threads };
-    let [mut routes, mut reaches, mut previews, mut screens, mut joins, mut listens] = [None; 6];
+    let [mut routes, mut reaches, mut previews, mut screens, mut joins, mut shorts, mut listens] = [None; 7];
     let mode = "all".to_string();
-    let mut options = Options { mode, plan, listens: 0, steady, vectors: None, slip: None, seeds: 5 };
+    let mut options = Options { mode, plan, shorts: 0, listens: 0, steady, vectors: None, slip: None, seeds: 5 };
     for word in std::env::args().skip(1) {
         match word.split_once('=') {
             None => options.mode = word,
@@ -56,6 +58,7 @@ fn options() -> Option<Options> {
             Some(("previews", value)) => previews = Some(value.parse().ok()?),
             Some(("screens", value)) => screens = Some(value.parse().ok()?),
             Some(("joins", value)) => joins = Some(value.parse().ok()?),
+            Some(("shorts", value)) => shorts = Some(value.parse().ok()?),
             Some(("listens", value)) => listens = Some(value.parse().ok()?),
             Some(("nodes", value)) => options.plan.nodes = value.parse().ok().filter(|n| (1..=64).contains(n))?,
             Some(("threads", value)) => options.plan.threads = value.parse().ok().filter(|&count| count > 0)?,
@@ -74,6 +77,7 @@ fn options() -> Option<Options> {
     options.plan.previews = previews.unwrap_or(options.plan.events / 10);
     options.plan.screens = screens.unwrap_or(options.plan.events / 10);
     options.plan.joins = joins.unwrap_or(options.plan.events / 25);
+    options.shorts = shorts.unwrap_or(options.plan.events / 25);
     options.listens = listens.unwrap_or(options.plan.events / 5);
     Some(options)
 }
@@ -123,6 +127,7 @@ fn speed_table() -> bool {
     speed::previews(&fast_rings());
     speed::screens(&fast_rings());
     speed::joins(&fast_rings());
+    speed::shorts(&fast_rings());
     speed::listeners(&fast_rings(), &fast_listeners());
     true
 }
@@ -161,8 +166,8 @@ fn agree_all(options: &Options) -> bool {
     let (tally, found) = agree::run(plan, &rings);
     println!("{tally}\n{:.0} seconds", start.elapsed().as_secs_f64());
     let made = made_rings(plan, &rings) & reached_rings(plan, &rings);
-    let made = made & alike_rings(plan, &rings) & joined_rings(plan, &rings) & listeners_agree(options);
-    made & differences.is_empty() & numbers_agree & nothing(plan, &rings, found)
+    let made = made & alike_rings(plan, &rings) & joined_rings(plan, &rings) & short_rings(options, &rings);
+    made & listeners_agree(options) & differences.is_empty() & numbers_agree & nothing(plan, &rings, found)
 }
 
 /// Event words read and written under C's names, where the library is linked.
@@ -210,6 +215,15 @@ fn joined_rings(plan: &Plan, rings: &[&dyn Ring]) -> bool {
     let start = Instant::now();
     let joins::Made { tally, found } = joins::Made::run(plan.seed, plan.joins, plan.threads, rings);
     println!("{tally}\n{} joins found wrong, {:.0} seconds", found.len(), start.elapsed().as_secs_f64());
+    found.iter().take(1).for_each(|line| println!("{line}"));
+    found.is_empty()
+}
+
+/// Rings turned short, and short inputs made long.
+fn short_rings(options: &Options, rings: &[&dyn Ring]) -> bool {
+    let (start, Plan { seed, threads, .. }) = (Instant::now(), &options.plan);
+    let shorts::Made { tally, found } = shorts::Made::run(*seed, options.shorts, *threads, rings);
+    println!("{tally}\n{} conversions found wrong, {:.0} seconds", found.len(), start.elapsed().as_secs_f64());
     found.iter().take(1).for_each(|line| println!("{line}"));
     found.is_empty()
 }

@@ -7,8 +7,9 @@ mod joins;
 pub mod listener;
 mod reaches;
 mod senders;
+mod shorts;
 
-use crate::ring::{play_each, Conductor, Ring, Routed, Sides, Technician};
+use crate::ring::{play_each, Conductor, Ring, Routed, Shortened, Sides, Technician};
 use crate::LENGTH;
 use std::collections::BTreeSet;
 
@@ -251,6 +252,48 @@ pub enum Slip {
     SenderLost,
     /// A polite off is never refused with 17.
     SenderLeaves,
+    /// The short edition keeps the words of a node with itself.
+    ShortOwnPair,
+    /// The short edition lacks the last message.
+    ShortMessageLess,
+    /// In the short edition each node is followed by its pairs.
+    ShortNodeThenPairs,
+    /// In the short edition the pairs (x, z) come by z first.
+    ShortOtherFirst,
+    /// Refusal 20 for a longer place, too.
+    ShortLongerPlace,
+    /// A place of one word less is filled as far as it goes.
+    ShortPlaceLess,
+    /// Refusal 19 where the place is too small.
+    ShortPlace19,
+    /// Refusal 20 of an empty place before refusal 6.
+    ShortPlaceFirst,
+    /// Words of the place beyond the short edition become 0.
+    ShortBeyond,
+    /// Refused, the place gets the ring's first words.
+    ShortRefusedWrites,
+    /// Refusal 20 gives the length that the place lacks.
+    ShortRefusedLength,
+    /// A short input with n = 0 is made long.
+    ShortNoNodes,
+    /// A short input with m above 1,024 is made long; the last messages are dropped.
+    ShortMessage1025,
+    /// A short input of one word more is made long.
+    ShortOneLonger,
+    /// A short input is made long though the words don't read as a ring.
+    ShortUnread,
+    /// A short input with 257 of a sender is made long.
+    ShortSender257,
+    /// Made long, words that belong to nothing stay as they are.
+    ShortOldKept,
+    /// The long buffer is cleared before refusal 19.
+    ShortWritesFirst,
+    /// Refusal 6 for the long buffer's old words.
+    ShortOldRead,
+    /// Refusal 19 before refusal 1.
+    ShortLongLast,
+    /// A short input is made long in a longer buffer, too.
+    ShortLongerLong,
     /// Reads as a ring with a commit stamp one above the clock.
     CommitAboveClock,
     /// Reads as a ring with a node as its own spare.
@@ -268,7 +311,7 @@ pub enum Slip {
 }
 
 impl Slip {
-    pub const ALL: [Slip; 125] = [
+    pub const ALL: [Slip; 146] = [
         Slip::StampNotAbove,
         Slip::CommitZero,
         Slip::AskerAsSpare,
@@ -387,6 +430,27 @@ impl Slip {
         Slip::SenderOneFits,
         Slip::SenderLost,
         Slip::SenderLeaves,
+        Slip::ShortOwnPair,
+        Slip::ShortMessageLess,
+        Slip::ShortNodeThenPairs,
+        Slip::ShortOtherFirst,
+        Slip::ShortLongerPlace,
+        Slip::ShortPlaceLess,
+        Slip::ShortPlace19,
+        Slip::ShortPlaceFirst,
+        Slip::ShortBeyond,
+        Slip::ShortRefusedWrites,
+        Slip::ShortRefusedLength,
+        Slip::ShortNoNodes,
+        Slip::ShortMessage1025,
+        Slip::ShortOneLonger,
+        Slip::ShortUnread,
+        Slip::ShortSender257,
+        Slip::ShortOldKept,
+        Slip::ShortWritesFirst,
+        Slip::ShortOldRead,
+        Slip::ShortLongLast,
+        Slip::ShortLongerLong,
         Slip::CommitAboveClock,
         Slip::OwnSpare,
         Slip::ReceiverInView,
@@ -404,6 +468,11 @@ impl Slip {
     /// Those of reaches.
     pub fn of_reach(self) -> bool {
         format!("{self:?}").starts_with("Reach")
+    }
+
+    /// Those of short editions.
+    pub fn of_short(self) -> bool {
+        format!("{self:?}").starts_with("Short")
     }
 }
 
@@ -1320,6 +1389,14 @@ impl Ring for Plain {
 
     fn join(&self, first: &[u32], second: &[u32], joined: &mut [u32]) -> u32 {
         self.join_rings(first, second, joined)
+    }
+
+    fn shorten(&self, words: &[u32], place: &mut [u32]) -> Shortened {
+        self.shorten_ring(words, place)
+    }
+
+    fn lengthen(&self, short: &[u32], words: &mut [u32]) -> u32 {
+        self.lengthen_ring(short, words)
     }
 
     fn leafset_of(&self, words: &[u32], node: u32) -> (u32, u64) {

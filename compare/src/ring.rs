@@ -56,6 +56,14 @@ impl Routed {
     }
 }
 
+/// What a ring turned short gives beside the words in its place.
+#[derive(Clone, Copy, Debug, PartialEq, Eq)]
+pub struct Shortened {
+    pub answer: u32,
+    /// "the length written, 0 if refused"
+    pub written: u32,
+}
+
 /// What the conductor's screen shows, bit s of a set for node s.
 #[derive(Clone, Debug, PartialEq, Eq)]
 pub struct Conductor {
@@ -115,6 +123,12 @@ pub trait Ring: Sync {
 
     /// Writes the join of two rings over a third buffer: the first's nodes keep their numbers.
     fn join(&self, first: &[u32], second: &[u32], joined: &mut [u32]) -> u32;
+
+    /// Writes the short edition of the ring over the first words of a place.
+    fn shorten(&self, words: &[u32], place: &mut [u32]) -> Shortened;
+
+    /// Writes the ring of a short edition over the words.
+    fn lengthen(&self, short: &[u32], words: &mut [u32]) -> u32;
 
     /// Plays the words of a list, and writes the answer of each to its place, if there is one. Answers for the buffer
     /// alone: by 1 or 6 nothing is played. Where an implementation has no such call they are played one by one.

@@ -11,6 +11,7 @@ use crate::reference::Reference;
 use crate::ring::Ring;
 use crate::routes::Made;
 use crate::script::Mix;
+use crate::shorts;
 
 /// Wrong programs that part nodes: found by demand 3 alone, without another implementation.
 const PARTING: [Slip; 2] = [Slip::ReleaseAtTimer3, Slip::ReleaseWithoutHold];
@@ -33,6 +34,23 @@ const ON_MADE_RINGS: [Slip; 2] = [Slip::ReachSpanMiddle, Slip::ReachSpanLast];
 
 /// Wrong programs whose conductor sees too much: found by rings alike for the conductor alone.
 const TELLING: [Slip; 2] = [Slip::ScreenClock, Slip::ScreenCandidates];
+
+/// Wrong programs whose conversions write where they may not, or lead elsewhere there and back: found without another
+/// implementation.
+const NOT_BACK: [Slip; 12] = [
+    Slip::ShortOwnPair,
+    Slip::ShortMessageLess,
+    Slip::ShortPlaceLess,
+    Slip::ShortBeyond,
+    Slip::ShortRefusedWrites,
+    Slip::ShortRefusedLength,
+    Slip::ShortNoNodes,
+    Slip::ShortMessage1025,
+    Slip::ShortOneLonger,
+    Slip::ShortSender257,
+    Slip::ShortOldKept,
+    Slip::ShortWritesFirst,
+];
 
 /// Wrong listeners that the note's claims alone find, without another implementation.
 const UNLIKE_CLAIMS: [ListenerSlip; 12] = [
@@ -64,7 +82,7 @@ pub fn run(plan: &Plan, only: Option<&str>) -> usize {
     let by_join = by_join.filter(|&slip| !joins_wrongly(plan, slip, only.is_some()));
     let by_reach = Slip::ALL.into_iter().filter(|slip| slip.of_reach()).filter(wanted);
     let by_reach = by_reach.filter(|&slip| !reaches_wrongly(plan, slip, &[&Reference, &Plain { slip: Some(slip) }]));
-    let by_script = |slip: &Slip| !slip.of_join() && !ON_MADE_RINGS.contains(slip);
+    let by_script = |slip: &Slip| !slip.of_join() && !slip.of_short() && !ON_MADE_RINGS.contains(slip);
     let by_difference = Slip::ALL.into_iter().filter(by_script).filter(wanted).filter(|&slip| {
         let wrong = Plain { slip: Some(slip) };
         !finds(&agreement, &[&Reference, &wrong], slip, "difference", only.is_some())
@@ -82,7 +100,26 @@ pub fn run(plan: &Plan, only: Option<&str>) -> usize {
         + alone(&agreement, &MISLEADING, "preview")
         + alone(&agreement, &TALKING, "bound");
     let of_rings = by_difference + by_themselves + by_end.count() + by_owner.count() + by_pair.count();
-    of_rings + unfound_listeners(plan, only)
+    of_rings + unfound_conversions(plan, only) + unfound_listeners(plan, only)
+}
+
+/// How many wrong conversions were not found, beside another implementation or by themselves.
+fn unfound_conversions(plan: &Plan, only: Option<&str>) -> usize {
+    let wanted = |slip: &Slip| only.is_none_or(|only| only == format!("{slip:?}"));
+    let unfound = |slip: Slip, way: &str, right: &[&dyn Ring]| {
+        let wrong = Plain { slip: Some(slip) };
+        let rings: Vec<&dyn Ring> = right.iter().copied().chain([&wrong as &dyn Ring]).collect();
+        let made = shorts::Made::run(plan.seed, 20_000, plan.threads, &rings);
+        let name = format!("{slip:?}");
+        let found = made.found.first().map_or("NOT FOUND in 20000 conversions", |found| found);
+        let head = found.lines().next().unwrap_or_default();
+        println!("{name:<20} {way:<11} {}", if only.is_some() { found } else { head });
+        made.found.is_empty()
+    };
+    let beside = Slip::ALL.into_iter().filter(|slip| slip.of_short()).filter(wanted);
+    let alone = NOT_BACK.into_iter().filter(wanted);
+    beside.filter(|&slip| unfound(slip, "short", &[&Reference])).count()
+        + alone.filter(|&slip| unfound(slip, "and back", &[])).count()
 }
 
 /// How many wrong listeners were not found, beside another implementation or by the claims.

@@ -413,6 +413,58 @@ fn join_times(first: &[u32], second: &[u32], rings: &[&dyn Ring]) -> (Vec<[f64; 
     (shortest, copy)
 }
 
+/// Conversions between the editions of a ring whose nodes hold each other, beside one reading and what they write: a
+/// copy of the short edition, and one pass over a ring's words; the shortest of rounds in turns.
+pub fn shorts(rings: &[&dyn Ring]) {
+    print!("{:<40}{:>8}{:>8}", "nanoseconds a conversion, the shortest", "copy", "pass");
+    for ring in rings {
+        print!("{:>20}{:>8}{:>10}{:>8}{:>10}", format!("{} shorten", ring.name()), "", "lengthen", "", "reading");
+    }
+    println!("  and over reading and writing");
+    for (n, messages) in [(64, 0), (64, 415), (64, 1_024), (8, 0), (8, 415)] {
+        let words = full_of(0..n, messages, false);
+        let (times, [copy, pass]) = short_times(&words, rings);
+        let length = look::short_length(words[0]);
+        print!("{:<40}{copy:>8.0}{pass:>8.0}", format!("  n {n}, m {messages}, {length} words"));
+        for [shorten, lengthen, reading] in times {
+            let over = [shorten / (reading + copy), lengthen / (reading + pass)];
+            print!("{shorten:>20.0}{:>8.2}{lengthen:>10.0}{:>8.2}{reading:>10.0}", over[0], over[1]);
+        }
+        println!();
+    }
+}
+
+/// Nanoseconds of each conversion and of a reading of each ring; of a copy of the short edition and of a pass.
+fn short_times(long: &[u32], rings: &[&dyn Ring]) -> (Vec<[f64; 3]>, [f64; 2]) {
+    let mut shortest = vec![[f64::MAX; 3]; rings.len()];
+    let mut writing = [f64::MAX; 2];
+    let short = look::short(long);
+    let (mut place, mut words) = (short.clone(), vec![0; LENGTH]);
+    for _ in 0..10 * ROUNDS {
+        for (ring, shortest) in rings.iter().zip(&mut shortest) {
+            let times = [
+                each(&[0], |_| ring.shorten(black_box(long), &mut place).written),
+                each(&[0], |_| ring.lengthen(black_box(&short), &mut words)),
+                each(&[64], |node| ring.leafset_of(black_box(long), node).0),
+            ];
+            shortest.iter_mut().zip(times).for_each(|(shortest, time)| *shortest = shortest.min(time));
+            let times = [
+                each(&[0], |_| {
+                    place.copy_from_slice(black_box(&short));
+                    0
+                }),
+                each(&[0], |word| {
+                    black_box(&mut words).fill(word);
+                    0
+                }),
+            ];
+            writing.iter_mut().zip(times).for_each(|(shortest, time)| *shortest = shortest.min(time));
+        }
+    }
+    assert!(rings.iter().all(|ring| ring.lengthen(&short, &mut words) == 0 && words == long));
+    (shortest, writing)
+}
+
 /// Calls on a record of 64 watched nodes beside an event on a ring of as many, of the usual load; the shortest of
 /// rounds in turns, and a tick over an event.
 pub fn listeners(rings: &[&dyn Ring], listeners: &[&dyn Listener]) {

@@ -49,6 +49,7 @@ fn measure() {
     line("play", events.iter().map(|&word| depth(&mut || _ = ring.play(&mut words, word))).max().unwrap());
     line("preview", preview_depth(sides, &keys, &events));
     line("join", join_depth());
+    ["shorten", "lengthen"].into_iter().zip(short_depths(&words)).for_each(|(name, bytes)| line(name, bytes));
     line("leafset", (0..64).map(|s| depth(&mut || _ = ring.leafset_of(&words, s))).max().unwrap());
     line("connected", (0..64).map(|s| depth(&mut || _ = ring.connected(&words, s, 63 - s))).max().unwrap());
     line("groups", depth(&mut || _ = ring.groups(&words)));
@@ -92,6 +93,17 @@ fn join_depth() -> usize {
     let depth = depth(&mut || answer = library::Library.join(&rings[0], &rings[1], &mut joined));
     assert!(answer == 0, "accepted");
     depth
+}
+
+/// The ring turned short, and made long again.
+fn short_depths(words: &[u32]) -> [usize; 2] {
+    let ring = library::Library;
+    let (mut place, mut long) = (vec![0; LENGTH], vec![0; LENGTH]);
+    let mut written = 0;
+    let shorten = depth(&mut || written = ring.shorten(words, &mut place).written as usize);
+    let lengthen = depth(&mut || _ = ring.lengthen(&place[..written], &mut long));
+    assert!(long == words, "there and back");
+    [shorten, lengthen]
 }
 
 /// The route with the most hops: 64 nodes in a row, each of which holds the next, from the first to the last.

@@ -355,6 +355,55 @@ impl Book {
         &self.plain.third[..LENGTH]
     }
 
+    /// Puts a short input into the third buffer.
+    pub fn short(&mut self, words: &[u32]) {
+        for (at, &word) in (0..).zip(words) {
+            if self.plain.third[at as usize] != word {
+                self.fill_third(at, at + 1, word);
+            }
+        }
+    }
+
+    /// The first words of the third buffer.
+    pub fn third(&self, length: usize) -> &[u32] {
+        &self.plain.third[..length]
+    }
+
+    /// The ring turned short in so many words of the third buffer. Words beyond it stay; refused, all do.
+    pub fn shorten(&mut self, places: usize, answer: u32) {
+        let mut expected = self.plain.third.clone();
+        let short = if answer == 0 { look::short(self.words()) } else { Vec::new() };
+        expected[..short.len()].copy_from_slice(&short);
+        let line = self.call(Command::SHORTEN, [places as u32, 0, 0, 0], answer);
+        let section = self.tally.section;
+        assert!(line.changed == 0, "{section}: a ring turned short was written");
+        assert!(self.plain.third == expected, "{section}: the place of a short edition");
+        assert_eq!(line.value % 100_000, short.len() as u64, "{section}: the length of a short edition");
+        if answer == 0 {
+            let sizes = (look::nodes(self.words()), look::messages(self.words()));
+            count(&mut self.tally.shortened, sizes);
+        }
+    }
+
+    /// The first words of the third buffer made long: the ring of which they are the short edition.
+    pub fn lengthen(&mut self, length: usize, answer: u32) {
+        let third = self.plain.third.clone();
+        self.call(Command::LENGTHEN, [length as u32, 0, 0, 0], answer);
+        assert!(self.plain.third == third, "{}: a short input was written", self.tally.section);
+        count(&mut self.tally.inputs, length);
+        if answer == 0 {
+            assert!(look::short(self.words()) == third[..length], "{}: a ring made long", self.tally.section);
+            let sizes = (look::nodes(self.words()), look::messages(self.words()));
+            count(&mut self.tally.lengthened, sizes);
+        }
+    }
+
+    /// A short input that the implementations alone judge.
+    pub fn lengthen_any(&mut self, length: usize) {
+        let answer = Plain { slip: None }.lengthen(self.third(length), &mut vec![0; LENGTH]);
+        self.lengthen(length, answer);
+    }
+
     pub fn fill_screen(&mut self, stamp: u32, spare: u32) {
         self.run(Command::FILL_SCREEN, [stamp, spare, 0, 0]);
     }

@@ -2,7 +2,7 @@
 
 use super::event_word;
 use crate::command::{digest, set_words, Command};
-use crate::ring::{Conductor, Ring, Routed, Sides, Technician};
+use crate::ring::{Conductor, Ring, Routed, Shortened, Sides, Technician};
 use crate::LENGTH;
 use std::fmt;
 
@@ -31,6 +31,8 @@ impl Command {
     pub const JOIN: u32 = 21;
     pub const JOIN_ITSELF: u32 = 22;
     pub const REACH: u32 = 23;
+    pub const SHORTEN: u32 = 24;
+    pub const LENGTHEN: u32 = 25;
 }
 
 /// What a call gives: the answer, the value that comes with it, how many words it changed, and the digest of all words.
@@ -51,8 +53,8 @@ impl fmt::Display for Line {
 }
 
 /// A buffer of one word more than a ring, a list with keys and after them a script, places for the answers of its words
-/// or for the nodes of a route, a second buffer for previews and joins and a third one for joins, as long as the first,
-/// and what the screens show.
+/// or for the nodes of a route, a second buffer for previews and joins and a third one for joins and short editions, as
+/// long as the first, and what the screens show.
 #[derive(Clone)]
 pub struct Machine<'a> {
     ring: &'a dyn Ring,
@@ -146,6 +148,8 @@ impl<'a> Machine<'a> {
             Command::TECHNICIAN => self.technician(command),
             Command::MESSAGES => self.messages(command),
             Command::JOIN | Command::JOIN_ITSELF => self.join(command),
+            Command::SHORTEN => self.shorten(command),
+            Command::LENGTHEN => (self.ring.lengthen(&self.third[..a as usize], words), 0),
             _ => self.preview(command),
         }
     }
@@ -205,6 +209,14 @@ impl<'a> Machine<'a> {
         let second = if itself { first } else { &self.second[..command.a as usize] };
         let answer = self.ring.join(first, second, &mut self.third[..command.b as usize]);
         (answer, digest(self.second.iter().chain(&self.third).copied()))
+    }
+
+    /// A short edition, in some words of the third buffer: the value has the digest of all, then the length written, in
+    /// five decimal digits.
+    fn shorten(&mut self, command: Command) -> (u32, u64) {
+        let words = &self.words[..command.lent as usize];
+        let Shortened { answer, written } = self.ring.shorten(words, &mut self.third[..command.a as usize]);
+        (answer, digest(self.third.iter().copied()) * 100_000 + written as u64)
     }
 
     /// The value is the digest of all that the screen shows.

@@ -16,6 +16,7 @@ mod replays;
 mod routes;
 mod screens;
 mod senders;
+mod shorts;
 mod steps;
 mod tally;
 
@@ -39,5 +40,6 @@ pub fn all() -> Book {
     joins::write(&mut book);
     reaches::write(&mut book);
     senders::write(&mut book);
+    shorts::write(&mut book);
     book
 }

@@ -4,6 +4,7 @@ use crate::command::Command;
 use crate::events::TIMERS;
 use std::collections::BTreeMap;
 use std::fmt;
+use std::ops::RangeInclusive;
 
 /// How often each sort of case came.
 #[derive(Default)]
@@ -35,6 +36,11 @@ pub struct Tally {
     /// Accepted joins, by the two numbers of nodes, and by the two numbers of messages.
     pub joined: BTreeMap<(usize, usize), usize>,
     pub joined_messages: BTreeMap<(usize, usize), usize>,
+    /// Accepted conversions each way, by n and m.
+    pub shortened: BTreeMap<(usize, usize), usize>,
+    pub lengthened: BTreeMap<(usize, usize), usize>,
+    /// Short inputs, by length.
+    pub inputs: BTreeMap<usize, usize>,
     /// Words damaged.
     pub damages: usize,
 }
@@ -55,7 +61,7 @@ pub fn kind(word: u32) -> u32 {
 }
 
 /// The answers that each call can give.
-const CALLS: [(&str, u32, &[u32]); 17] = [
+const CALLS: [(&str, u32, &[u32]); 19] = [
     ("open", Command::OPEN, &[0, 1, 2, 3]),
     ("play", Command::PLAY, &[0, 1, 4, 5, 6, 7, 8, 9, 10, 11, 17]),
     ("leafset", Command::LEAFSET, &[0, 1, 6, 7, 8]),
@@ -73,6 +79,8 @@ const CALLS: [(&str, u32, &[u32]); 17] = [
     ("join", Command::JOIN, &[0, 1, 6, 14, 15, 16]),
     ("joined with itself", Command::JOIN_ITSELF, &[1, 6, 15]),
     ("reach", Command::REACH, &[0, 1, 6, 7, 8, 12]),
+    ("shorten", Command::SHORTEN, &[0, 1, 6, 20]),
+    ("lengthen", Command::LENGTHEN, &[0, 1, 19]),
 ];
 
 /// The answers that playing or previewing a word of each event kind can give.
@@ -100,9 +108,13 @@ const LIMITS: [(u32, usize); 3] = [(1, 0), (64, 0), (64, 1_024)];
 const JOINED: [(usize, usize); 3] = [(1, 63), (63, 1), (32, 32)];
 const JOINED_MESSAGES: [(usize, usize); 3] = [(512, 512), (1_024, 0), (0, 1_024)];
 
+/// Conversions of small rings and of rings at their limits, and the lengths of small inputs.
+const EDITIONS: [(usize, usize); 6] = [(1, 0), (2, 0), (2, 1), (64, 0), (64, 1), (64, 1_024)];
+const SMALL: RangeInclusive<usize> = 0..=20;
+
 impl Tally {
     /// Every answer that can come has come, and no other; every type was delivered and echoed, every timer accepted,
-    /// reaches of 0 to 24 hops made, rings at their limits shown, and joined.
+    /// reaches of 0 to 24 hops made, rings at their limits shown, joined and converted.
     pub fn is_full(&self) -> bool {
         let every_event = |counts: &BTreeMap<(u32, u32), usize>| {
             counts.keys().filter(|(kind, _)| *kind >= 9).copied().eq(each(&EVENTS))
@@ -119,6 +131,8 @@ impl Tally {
             && LIMITS.iter().all(|limit| self.shown.contains_key(limit))
             && JOINED.iter().all(|sizes| self.joined.contains_key(sizes))
             && JOINED_MESSAGES.iter().all(|sizes| self.joined_messages.contains_key(sizes))
+            && EDITIONS.iter().all(|sizes| self.shortened.contains_key(sizes) && self.lengthened.contains_key(sizes))
+            && SMALL.into_iter().all(|length| self.inputs.contains_key(&length))
     }
 }
 
@@ -141,7 +155,10 @@ impl fmt::Display for Tally {
         writeln!(f, "accepted routes, by hops: {:?}", self.hops)?;
         writeln!(f, "accepted reaches, by hops: {:?}", self.reached)?;
         writeln!(f, "accepted screens, by n and m: {:?}", self.shown)?;
-        write!(f, "accepted joins, by n: {:?}, by m: {:?}", self.joined, self.joined_messages)
+        writeln!(f, "accepted joins, by n: {:?}, by m: {:?}", self.joined, self.joined_messages)?;
+        writeln!(f, "turned short, by n and m: {:?}", self.shortened)?;
+        writeln!(f, "made long, by n and m: {:?}", self.lengthened)?;
+        write!(f, "short inputs, by length: {:?}", self.inputs)
     }
 }
 

@@ -1,5 +1,5 @@
-//! Document 01 over the lent words, in place and tuned by hand: no allocation, and no copy of the buffer but a preview's.
-//! Written from the document's text alone.
+//! Document 01 over the lent words, in place and tuned by hand: no allocation, and no copy of the buffer but that of a
+//! preview and of a short ring made long. Written from the document's text alone.
 
 mod events;
 mod joins;
@@ -13,9 +13,10 @@ mod reaches;
 mod row;
 mod screens;
 mod sets;
+mod shorts;
 mod validity;
 
-use crate::ring::{Conductor, Ring, Routed, Sides, Technician};
+use crate::ring::{Conductor, Ring, Routed, Shortened, Sides, Technician};
 use events::Event;
 use layout::*;
 use place::Place;
@@ -41,6 +42,15 @@ impl Ring for Reference {
 
     fn join(&self, first: &[u32], second: &[u32], joined: &mut [u32]) -> u32 {
         answer(joins::join(first, second, joined))
+    }
+
+    fn shorten(&self, words: &[u32], place: &mut [u32]) -> Shortened {
+        let (answer, written) = with_answer(shorts::shorten(words, place));
+        Shortened { answer, written }
+    }
+
+    fn lengthen(&self, short: &[u32], words: &mut [u32]) -> u32 {
+        answer(shorts::lengthen(short, words))
     }
 
     fn leafset_of(&self, words: &[u32], node: u32) -> (u32, u64) {
