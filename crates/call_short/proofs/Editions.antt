@@ -10,7 +10,7 @@ use lib.Seq.{ext-getD, getD-append-add, getD-drop}
 use lib.Dec.{ltb, eqb}
 use borrow.Author.Tests.{ltb-true, lt-ltb, le-ltb}
 use Rattle.model.specs.Answers.{firstOf, isAccepted, numberOf}
-use Rattle.model.specs.Words.{ringLength, at, nodePlace, decodeTable, decodeMessage, decode, readsAsRing}
+use Rattle.model.specs.Words.{ringLength, at, nodePlace, decodeTable, decodeMessage, decode, readsAsRing, sizeIn, countIn}
 use Rattle.model.specs.Buffer.{Written, ringRefusals, ringAnswer}
 use Rattle.model.specs.WellFormed.{nil, cons}
 use Rattle.model.specs.declared.answer.Answer.{Answer}
@@ -22,7 +22,7 @@ use Rattle.model.proofs.Short.{short-out, reads-bounds, shortened-length, messa
 use Rattle.model.proofs.Answers.{none-applies, stays, passes}
 use Rattle.answers.specs.Applied.{written}
 use Rattle.call_refusals.proofs.Refused.{ring-reads}
-use Rattle.model.specs.Short.{shortLength, sizeIn, countIn, shortMessage, shortened, longWord, lengthened, readsAsShort, tooSmall, shortenAnswer}
+use Rattle.model.specs.Short.{shortLength, shortMessage, shortened, longWord, lengthened, readsAsShort, tooSmall, shortenAnswer}
 use Rattle.model.specs.Short.{shortenBuffer, lengthenRefusals, lengthenAnswer, lengthenBuffer}
 use Rattle.model.specs.Sets.{tabulate}
 use Rattle.model.specs.Fields.{bits}

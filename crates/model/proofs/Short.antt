@@ -18,8 +18,9 @@ use Rattle.model.specs.Ring.{Ring}
 use Rattle.model.specs.Answers.{firstOf}
 use Rattle.model.specs.WellFormed.{nil, cons}
 use Rattle.model.specs.Words.{nodePlace, pairPlace, messagePlace, pairOf, belongs, ringLength, at, wordAt, decodeTable, decodeMessage, decode}
+use Rattle.model.specs.Words.{sizeIn, countIn}
 use Rattle.model.specs.Words.{readsAsRing}
-use Rattle.model.specs.Short.{places, shortLength, sizeIn, countIn, shortened, longWord, lengthened, readsAsShort, shortRow, shortPair}
+use Rattle.model.specs.Short.{places, shortLength, shortened, longWord, lengthened, readsAsShort, shortRow, shortPair}
 use Rattle.model.specs.Short.{shortMessage, shortenAnswer, shortenBuffer, lengthenAnswer, lengthenBuffer}
 use Rattle.model.proofs.Laws.{if-law, decide, every-in, every-out, count-parts, count-none, count-all, length-members, map-at, length-tabulate}
 use Rattle.model.proofs.Laws.{getD-tabulate}

@@ -7,7 +7,8 @@ use lib.ListN.{length, replicate}
 use Rattle.model.specs.Sets.{Set, all, count, members, tabulateFrom}
 use Rattle.model.specs.Answers.{firstOf, numberOf}
 use Rattle.model.specs.Words.{nodePlace, pairPlace, messagePlace, belongs, headWord, wordAt, decodeTable, decode, formatFits, readsAsRing}
-use Rattle.model.specs.Short.{sizeIn, countIn, shortPair, shortMessage, longWord, readsAsShort, shortenRefusals, shortenAnswer, shortenBuffer}
+use Rattle.model.specs.Words.{sizeIn, countIn}
+use Rattle.model.specs.Short.{shortPair, shortMessage, longWord, readsAsShort, shortenRefusals, shortenAnswer, shortenBuffer}
 use Rattle.model.specs.Short.{lengthenRefusals, lengthenAnswer, lengthenBuffer}
 use Rattle.model.specs.declared.answer.Answer.the-variants.{NotShort, PlaceTooSmall}
 

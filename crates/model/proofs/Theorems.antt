@@ -16,7 +16,7 @@ use Rattle.model.specs.Ring.{Own, Message, Ring, initial, holds, isRunni
 use Rattle.model.specs.Types.{types}
 use Rattle.model.specs.Steps.{stepByType}
 use Rattle.model.specs.WellFormed.{WellFormedTable, WellFormed, Each}
-use Rattle.model.specs.Words.{ringLength, belongs, wordAt, encode, decode, sendersFit, readsAsRing}
+use Rattle.model.specs.Words.{ringLength, belongs, wordAt, encode, decode, sendersFit, readsAsRing, sizeIn, countIn}
 use Rattle.model.specs.Answers.{isAccepted}
 use Rattle.model.specs.Events.{wordOf, eventAnswer, sameNode, writeEvent, readEvent, readingOf}
 use Rattle.model.specs.Play.{after, actor, refusals, playAnswer, playWord, playAll}
@@ -25,7 +25,7 @@ use Rattle.model.specs.Questions.{leafsetOf}
 use Rattle.model.specs.Route.{nextOf, goesOn, route, Converged, routeAnswer, routeBuffer}
 use Rattle.model.specs.Reach.{spans, here, oneMore, owner, next, reach, toLast, reachAnswer, reachOf}
 use Rattle.model.specs.Preview.{previewBuffer, Call, PreviewsChangeNothing}
-use Rattle.model.specs.Short.{sizeIn, countIn, shortened, lengthened, readsAsShort, shortenBuffer, lengthenBuffer}
+use Rattle.model.specs.Short.{shortened, lengthened, readsAsShort, shortenBuffer, lengthenBuffer}
 use Rattle.model.specs.Screens.{conductorOf, messagesOf, Alike}
 use Rattle.model.specs.Connection.{Connected, connected, groups, CountsGroups}
 use Rattle.model.specs.Listener.{Listener, emptyListener, grown, silent, answerOf, noticesOf, leaves, listenerOf, emptyRecord, afterRecord}

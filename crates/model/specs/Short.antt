@@ -7,8 +7,7 @@ use lib.Dec.{ltb, eqb}
 use Rattle.model.specs.Choice.{if_then_else_, every}
 use Rattle.model.specs.Sets.{count, members, tabulate}
 use Rattle.model.specs.Answers.{Refusal, firstOf, isAccepted}
-use Rattle.model.specs.Fields.{bits}
-use Rattle.model.specs.Words.{belongs, ringLength, at, readsAsRing}
+use Rattle.model.specs.Words.{belongs, ringLength, at, sizeIn, countIn, readsAsRing}
 use Rattle.model.specs.Buffer.{Written, writes, wrongLength, ringRefusals}
 
 -- "word 0, then only the words that belong to a stand, pair or message, in ring order": their places, for n nodes and m messages
@@ -18,13 +17,6 @@ places n m = members ringLength (belongs n m)
 -- "Its length follows from n and m."
 abbrev pub shortLength : ℕ → ℕ → ℕ
 shortLength n m = length (places n m)
-
--- n and m, as word 0 has them: the first word of both forms
-abbrev pub sizeIn : List ℕ → ℕ
-sizeIn ws = bits 4 7 (at ws 0)
-
-abbrev pub countIn : List ℕ → ℕ
-countIn ws = bits 11 11 (at ws 0)
 
 -- where row x of the pairs begins in a short ring of n nodes: after the nodes, rows of n - 1 pairs
 abbrev pub shortRow : ℕ → ℕ → ℕ

@@ -127,8 +127,15 @@ module _ (ws : List ℕ) where
   abbrev pub at : ℕ → ℕ
   at i = getD ws i 0
 
+  -- n and m, as word 0 has them
+  abbrev pub sizeIn : ℕ
+  sizeIn = bits 4 7 (at 0)
+
+  abbrev pub countIn : ℕ
+  countIn = bits 11 11 (at 0)
+
   unfoldable pub decodeTable : Table
-  decodeTable = record { sides = sidesOf (at 0); keys = tabulate (bits 4 7 (at 0)) (λ s. bits 0 24 (at (nodePlace s))) }
+  decodeTable = record { sides = sidesOf (at 0); keys = tabulate sizeIn (λ s. bits 0 24 (at (nodePlace s))) }
 
   -- of what is no pair: nothing
   unfoldable pub decodeOwn : ℕ → Own
@@ -168,7 +175,7 @@ module _ (ws : List ℕ) where
   decodeMessage k = decodeMessageAt (messagePlace k)
 
   unfoldable pub decode : Ring
-  decode = record { table = decodeTable; node = decodeNode; messages = tabulate (bits 11 11 (at 0)) decodeMessage }
+  decode = record { table = decodeTable; node = decodeNode; messages = tabulate countIn decodeMessage }
 
 -- ---- "Words read as a ring when all this fits"
 

@@ -51,9 +51,7 @@ fn copy_nodes(joined: &mut [u32], second: &[u32], n: usize, k: usize)
     ensures value { λ _. ⌜ Patched (now (joined .entry)) (now (joined .exit)) (nodePlace n) (nodePlace (n + k))
         (λ i. getD (now (second .entry)) (i - 2 * n) 0) ⌝ }
 {
-    for i in place::NODES + 2 * n..place::NODES + 2 * (n + k) {
-        joined[i] = second[i - 2 * n];
-    }
+    ring_ranges::copy_span(second, place::NODES, joined, place::NODES + 2 * n, 2 * k);
 }
 
 // Adds the second's k nodes to the first ring's n, whose words have the messages of both already.

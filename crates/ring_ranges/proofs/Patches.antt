@@ -48,6 +48,11 @@ module _ (ws words : List ℕ) (at place : ℕ) where
       patched-more ws ws' place (place + k) (place + (k + 1)) taken (getD words (at + k) 0) s (omega arith) h
       (ap (λ (i : ℕ). getD words i 0) e) (omega arith)
 
+-- the same span, by another name of what is in it
+pub patched-as : {ws ws' : List ℕ} {from to : ℕ} {f g : ℕ → ℕ} → Patched ws ws' from to f → ((i : ℕ) → from ≤ i → i < to → f i ≡ g i)
+    → Patched ws ws' from to g
+patched-as p e = record { long = p .long; low = p .low; inside = λ i h k. p .inside i h k ∙ e i h k; high = p .high }
+
 -- a span and the next, as one
 pub patched-join : {ws ws' ws'' : List ℕ} {from mid to : ℕ} {f g : ℕ → ℕ} → from ≤ mid → mid ≤ to
     → Patched ws ws' from mid f → Patched ws' ws'' mid to g → ((i : ℕ) → mid ≤ i → i < to → g i ≡ f i) → Patched ws ws'' from to f

@@ -7,16 +7,12 @@ use native.Mathlib.Omega.{arith}
 use lib.ListN.{length, getD}
 use Rattle.model.specs.Sets.{tabulate}
 use mathlib.Core.Bool.{false}
-use Rattle.model.specs.Words.{at, at as wordOf, pairPlace, belongs, ringLength}
-use Rattle.model.specs.Short.{sizeIn, countIn, shortRow, shortMessage, shortened, longWord}
-use Rattle.model.proofs.Short.{Run, run-short, run-long, node-run, first-run, second-run, message-run, no-node, not-itself, no-pair, no-row, no-message}
+use Rattle.model.specs.Words.{at, at as wordOf, pairPlace, belongs, ringLength, sizeIn, countIn}
+use Rattle.model.specs.Short.{shortRow, shortMessage, shortened, longWord}
+use Rattle.model.proofs.Short.{row-room, Run, run-short, run-long, node-run, first-run, second-run, message-run, no-node, not-itself, no-pair, no-row}
+use Rattle.model.proofs.Short.{no-message}
 use Rattle.ring_ranges.specs.Spans.{Patched}
-use Rattle.ring_ranges.proofs.Patches.{patched-none, patched-join, patched-all}
-
--- the same span, by another name of what is in it
-pub patched-as : {ws ws' : List ℕ} {from to : ℕ} {f g : ℕ → ℕ} → Patched ws ws' from to f → ((i : ℕ) → from ≤ i → i < to → f i ≡ g i)
-    → Patched ws ws' from to g
-patched-as p e = record { long = p .long; low = p .low; inside = λ i h k. p .inside i h k ∙ e i h k; high = p .high }
+use Rattle.ring_ranges.proofs.Patches.{patched-as, patched-join, patched-all}
 
 in-short : (ws : List ℕ) {n a k p : ℕ} → n ≡ sizeIn ws → Run n (countIn ws) a k p → (i : ℕ) → p ≤ i → i < p + k
     → getD ws (a + (i - p)) 0 ≡ at (shortened ws) i
@@ -37,11 +33,19 @@ out-long short n m a k f i h l =
 
 -- ---- the rows, one after the other
 
-pub row-next : (n x : ℕ) → shortRow n x + 2 * (n - 1) ≡ shortRow n (x + 1)
+row-next : (n x : ℕ) → shortRow n x + 2 * (n - 1) ≡ shortRow n (x + 1)
 row-next n x =
     let s : x + 1 ≡ suc x = omega arith in
     let e : (n - 1) * (x + 1) ≡ (n - 1) * x + (n - 1) = ap (λ (k : ℕ). (n - 1) * k) s ∙ mul-suc (n - 1) x in
     omega (arith, e)
+
+-- where a row begins, while x of n rows have been copied: it has room, and the next one follows
+module _ (n x : ℕ) {at : ℕ} (is : at ≡ shortRow n x) where
+  pub row-fits : {long : ℕ} → x < n → shortRow n n ≤ long → at + 2 * (n - 1) ≤ long
+  row-fits h room = omega (arith, is, row-room n x h, room)
+
+  pub row-after : at + 2 * (n - 1) ≡ shortRow n (x + 1)
+  row-after = ap (λ (a : ℕ). a + 2 * (n - 1)) is ∙ row-next n x
 
 pub row-first : (n : ℕ) → 1 + 2 * n ≡ shortRow n 0
 row-first n = let e : (n - 1) * 0 ≡ 0 = mul-zero (n - 1) in omega (arith, e)

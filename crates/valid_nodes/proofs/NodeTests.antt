@@ -13,9 +13,9 @@ use borrow.Author.Tests.{eqb-true, eqb-false, eq-eqb, ne-eqb}
 use Rattle.model.specs.Sets.{all}
 use Rattle.model.specs.Leafset.{size, key}
 use Rattle.model.specs.Fields.{bits, flag}
-use Rattle.model.specs.Words.{keyWord, clockWord, keysDiffer, decodeTable}
+use Rattle.model.specs.Words.{keyWord, clockWord, keysDiffer, decodeTable, sizeIn}
 use Rattle.model.proofs.Laws.{or-left, or-right, or-case, clash, not-in, not-out, same-test, all-in, all-out, length-tabulate, getD-tabulate}
-use Rattle.valid_nodes.specs.Nodes.{sizeOf, keyAt, clockAt, nodeReads, nodesRead}
+use Rattle.valid_nodes.specs.Nodes.{keyAt, clockAt, nodeReads, nodesRead}
 use Rattle.valid_nodes.specs.Hashes.{keyOf, hashOf, isNew}
 use Rattle.valid_nodes.proofs.Gather.{two, all-both, all-cong}
 use Rattle.valid_nodes.proofs.Formats.{key-format, clock-format, xor-above}
@@ -29,13 +29,13 @@ clock-word w = xor-above 24 w 1342177280 ∙ sym (clock-format w)
 -- ---- the table that the words decode to
 
 module _ (ws : List ℕ) where
-  pub size-is : size (decodeTable ws) ≡ sizeOf ws
+  pub size-is : size (decodeTable ws) ≡ sizeIn ws
   unfolding decodeTable
-  size-is = length-tabulate (λ s. bits 0 24 (keyAt ws s)) (sizeOf ws)
+  size-is = length-tabulate (λ s. bits 0 24 (keyAt ws s)) (sizeIn ws)
 
-  pub key-is : (s : ℕ) → s < sizeOf ws → key (decodeTable ws) s ≡ bits 0 24 (keyAt ws s)
+  pub key-is : (s : ℕ) → s < sizeIn ws → key (decodeTable ws) s ≡ bits 0 24 (keyAt ws s)
   unfolding decodeTable
-  key-is s h = getD-tabulate (λ s. bits 0 24 (keyAt ws s)) 0 (sizeOf ws) s h
+  key-is s h = getD-tabulate (λ s. bits 0 24 (keyAt ws s)) 0 (sizeIn ws) s h
 
 module _ (ws : List ℕ) (n : ℕ) where
   pub nodes-tests : (all n (λ s. eqb (keyAt ws s) (keyWord (bits 0 24 (keyAt ws s)) (flag 24 (keyAt ws s))))
@@ -52,7 +52,7 @@ module _ (ws : List ℕ) (n : ℕ) where
       clock-fits s = eqb (clockAt ws s) (clockWord (bits 0 24 (clockAt ws s)))
 
   -- no key is met before it, so the keys differ
-  pub keys-tests : n ≡ sizeOf ws → all n (isNew ws) ≡ keysDiffer (decodeTable ws)
+  pub keys-tests : n ≡ sizeIn ws → all n (isNew ws) ≡ keysDiffer (decodeTable ws)
   unfolding keysDiffer isNew
   keys-tests e =
       same-test (all n (λ x. all x (λ y. not (eqb (key-of y) (key-of x))))) (keysDiffer (decodeTable ws))
@@ -83,8 +83,8 @@ module _ (ws : List ℕ) (n : ℕ) where
 
       new : keysDiffer (decodeTable ws) ≡ true → (x y : ℕ) → x < n → y < x → not (eqb (key-of y) (key-of x)) ≡ true
       new t x y hx hy =
-          let hx₁ : x < sizeOf ws = rw e at hx in
-          let hy₁ : y < sizeOf ws = omega arith in
+          let hx₁ : x < sizeIn ws = rw e at hx in
+          let hy₁ : y < sizeIn ws = omega arith in
           or-case (eqb y x) (not (eqb (key (decodeTable ws) y) (key (decodeTable ws) x)))
           (all-out (size (decodeTable ws)) (λ x. eqb y x || not (eqb (key (decodeTable ws) y) (key (decodeTable ws) x)))
           (all-out (size (decodeTable ws)) (λ x. all (size (decodeTable ws)) (λ y. eqb x y || not (eqb (key (decodeTable ws) x) (key (decodeTable ws) y)))) t y (rw (size-is ws) hy₁)) x (rw (size-is ws) hx₁))

@@ -12,13 +12,6 @@ use Rattle.model.specs.Words.{sidesOf, sidesFit, at, headWord, keyWord, clockWo
 unfoldable pub clear : List ℕ → ℕ → ℕ → Bool
 clear ws a e = all e (λ i. ltb i a || eqb (at ws i) 0)
 
--- what word 0 says of the table's size and of the count of messages
-abbrev pub sizeOf : List ℕ → ℕ
-sizeOf ws = bits 4 7 (at ws 0)
-
-abbrev pub countOf : List ℕ → ℕ
-countOf ws = bits 11 11 (at ws 0)
-
 module _ (ws : List ℕ) where
   -- the two words of node s
   abbrev pub keyAt : ℕ → ℕ

@@ -3,8 +3,8 @@ ghost use mathlib.Core.Path.{_≡_};
 ghost use mathlib.Core.Bool.{true, false};
 ghost use Prim.Native.Nat.{_+_, _*_, _≤_, _<_};
 ghost use lib.ListN.{length};
-ghost use Rattle.model.specs.Words.{keysDiffer, decodeTable};
-ghost use Rattle.valid_nodes.specs.Nodes.{sizeOf, nodesRead};
+ghost use Rattle.model.specs.Words.{keysDiffer, decodeTable, sizeIn};
+ghost use Rattle.valid_nodes.specs.Nodes.{nodesRead};
 ghost use Rattle.valid_nodes.specs.Hashes.{hashOf, keyOf, isNew};
 use word_ring::ClockWord;
 use word_ring::KeyWord;
@@ -60,7 +60,7 @@ fn hashed_is_new(words: &[u32], x: usize, met: bool) -> bool
 
 // The n keys differ.
 pub fn keys_differ(words: &[u32], n: usize) -> bool
-    requires words { ⌜ (1 + 2 * n ≤ length (now words)) × (n ≤ 64) × (n ≡ sizeOf (now words)) ⌝ }
+    requires words { ⌜ (1 + 2 * n ≤ length (now words)) × (n ≤ 64) × (n ≡ sizeIn (now words)) ⌝ }
     ensures value { λ r. ⌜ r ≡ keysDiffer (decodeTable (now (words .entry))) ⌝ }
 {
     let mut met = [false; 512];

@@ -16,6 +16,7 @@ use Rattle.model.specs.Ring.{Message, messageAt, blank}
 use Rattle.model.specs.Fields.{bits, flag}
 use Rattle.model.specs.WellFormed.{Each, nil, cons}
 use Rattle.model.specs.Words.{sidesOf, sidesFit, at, headWord, keyWord, clockWord, pairWord, spareWord, nodePlace, pairPlace, messagePlace, between}
+use Rattle.model.specs.Words.{sizeIn, countIn}
 use Rattle.model.specs.Words.{inRange, keysDiffer, isPair, nodeWords, pairWords, messageWords, belongs, wordAt, ringLength}
 use Rattle.model.specs.Words.{decodeTable, decodeOwn, decodeNode, decodeMessage, decode, pairFits, nodeFits, messageFits, sendersFit, ringFits}
 use Rattle.model.specs.Words.{formatFits, readsAsRing}
@@ -25,7 +26,7 @@ use Rattle.model.proofs.Lists.{first, rest}
 use Rattle.model.proofs.Words.{node-at, pair-at, message-at, every-place, pair-low, pair-other, ReadsAsRing, reads-in, reads-out, ofNode, ofPair, ofMessage}
 use Rattle.valid_messages.specs.Senders.{sendersRead}
 use Rattle.valid_messages.specs.Messages.{messageReads, messagesRead}
-use Rattle.valid_nodes.specs.Nodes.{clear, sizeOf, countOf, keyAt, clockAt, headReads, nodeReads, nodesRead}
+use Rattle.valid_nodes.specs.Nodes.{clear, keyAt, clockAt, headReads, nodeReads, nodesRead}
 use Rattle.valid_pairs.specs.Pairs.{linkAt, spareAt, linkReads, spareReads, pairReads, rowReads, pairsRead}
 use Rattle.valid_ring.specs.Regions.{regionTests, regionsRead}
 use Rattle.valid_messages.proofs.MessageTests.{joined-every}
@@ -41,21 +42,21 @@ two-words ws p f a b (suc (suc j)) h = absurd (omega arith)
 -- ---- what the words decode to
 
 module _ (ws : List ℕ) where
-  count-is : length (decode ws .messages) ≡ countOf ws
+  count-is : length (decode ws .messages) ≡ countIn ws
   unfolding decode
-  count-is = length-tabulate (decodeMessage ws) (countOf ws)
+  count-is = length-tabulate (decodeMessage ws) (countIn ws)
 
-  senders-are : sendersRead ws 8321 (decodeTable ws) (countOf ws) ≡ sendersFit (decode ws)
+  senders-are : sendersRead ws 8321 (decodeTable ws) (countIn ws) ≡ sendersFit (decode ws)
   unfolding decode sendersRead sendersFit
   senders-are = refl
 
-  message-is : (k : ℕ) → k < countOf ws → messageAt (decode ws) k ≡ decodeMessage ws k
+  message-is : (k : ℕ) → k < countIn ws → messageAt (decode ws) k ≡ decodeMessage ws k
   unfolding decode
-  message-is k h = getD-tabulate (decodeMessage ws) blank (countOf ws) k h
+  message-is k h = getD-tabulate (decodeMessage ws) blank (countIn ws) k h
 
   -- the words of that
 
-  node-words : (s : ℕ) → s < sizeOf ws
+  node-words : (s : ℕ) → s < sizeIn ws
       → nodeWords (key (decodeTable ws) s) (decodeNode ws s)
       ≡ keyWord (bits 0 24 (keyAt ws s)) (flag 24 (keyAt ws s)) ∷ clockWord (bits 0 24 (clockAt ws s)) ∷ []
   unfolding decodeNode
@@ -63,14 +64,14 @@ module _ (ws : List ℕ) where
       let e : ltb s (size (decodeTable ws)) ≡ true = lt-ltb s (size (decodeTable ws)) (rw (size-is ws) h) in
       rw (e, key-is ws s h)
 
-  node-word : (s j : ℕ) → s < sizeOf ws
+  node-word : (s j : ℕ) → s < sizeIn ws
       → ofNode (decode ws) s j ≡ getD (keyWord (bits 0 24 (keyAt ws s)) (flag 24 (keyAt ws s)) ∷ clockWord (bits 0 24 (clockAt ws s)) ∷ []) j 0
   unfolding decode
   node-word s j h =
       let e : ltb s (size (decodeTable ws)) ≡ true = lt-ltb s (size (decodeTable ws)) (rw (size-is ws) h) in
       rw e (ap (λ (l : List ℕ). getD l j 0) (node-words s h))
 
-  node-none : (s j : ℕ) → sizeOf ws ≤ s → ofNode (decode ws) s j ≡ 0
+  node-none : (s j : ℕ) → sizeIn ws ≤ s → ofNode (decode ws) s j ≡ 0
   unfolding decode
   node-none s j h = rw (le-ltb s (size (decodeTable ws)) (rw (size-is ws) h))
 
@@ -89,17 +90,17 @@ module _ (ws : List ℕ) where
   unfolding decode
   pair-none x z j e = rw e
 
-  message-word : (k j : ℕ) → k < countOf ws → ofMessage (decode ws) k j ≡ getD (messageWords (decodeMessage ws k)) j 0
+  message-word : (k j : ℕ) → k < countIn ws → ofMessage (decode ws) k j ≡ getD (messageWords (decodeMessage ws k)) j 0
   message-word k j h =
       rw (lt-ltb k (length (decode ws .messages)) (rw count-is h)) (ap (λ (m : Message). getD (messageWords m) j 0) (message-is k h))
 
-  message-none : (k j : ℕ) → countOf ws ≤ k → ofMessage (decode ws) k j ≡ 0
+  message-none : (k j : ℕ) → countIn ws ≤ k → ofMessage (decode ws) k j ≡ 0
   message-none k j h = rw (le-ltb k (length (decode ws .messages)) (rw count-is h))
 
   -- what is tested of a pair
   abbrev pairTests : ℕ → ℕ → List Bool
   pairTests x z =
-      (ltb (bits 0 7 (spareAt ws x z)) (sizeOf ws) || eqb (bits 0 7 (spareAt ws x z)) noneNode)
+      (ltb (bits 0 7 (spareAt ws x z)) (sizeIn ws) || eqb (bits 0 7 (spareAt ws x z)) noneNode)
       ∷ not (eqb (bits 0 7 (spareAt ws x z)) x)
       ∷ not (eqb (bits 0 7 (spareAt ws x z)) z)
       ∷ (if flag 24 (linkAt ws x z) then ltb 0 (bits 0 24 (linkAt ws x z)) else eqb (bits 0 24 (linkAt ws x z)) 0)
@@ -107,22 +108,22 @@ module _ (ws : List ℕ) where
       ∷ (not (flag 24 (linkAt ws x z)) ⇒ eqb (bits 0 7 (spareAt ws x z)) noneNode)
       ∷ []
 
-  pair-fits : (x z : ℕ) → x < sizeOf ws → isPair (decodeTable ws) x z ≡ true → pairFits (decodeTable ws) (decodeNode ws x) x z ≡ every (pairTests x z)
+  pair-fits : (x z : ℕ) → x < sizeIn ws → isPair (decodeTable ws) x z ≡ true → pairFits (decodeTable ws) (decodeNode ws x) x z ≡ every (pairTests x z)
   unfolding pairFits decodeNode decodeOwn
   pair-fits x z h e =
       let l : ltb x (size (decodeTable ws)) ≡ true = lt-ltb x (size (decodeTable ws)) (rw (size-is ws) h) in
       rw (e, l, size-is ws)
 
-  head-word : wordAt (decode ws) 0 ≡ headWord (sidesOf (at ws 0)) (sizeOf ws) (countOf ws)
+  head-word : wordAt (decode ws) 0 ≡ headWord (sidesOf (at ws 0)) (sizeIn ws) (countIn ws)
   unfolding belongs wordAt decode decodeTable
   head-word = rw (size-is ws, count-is)
 
   -- x and z are nodes
-  pair-is : (x z : ℕ) → x < sizeOf ws → z < sizeOf ws → isPair (decodeTable ws) x z ≡ not (eqb x z)
+  pair-is : (x z : ℕ) → x < sizeIn ws → z < sizeIn ws → isPair (decodeTable ws) x z ≡ not (eqb x z)
   pair-is x z hx hz =
       rw (lt-ltb x (size (decodeTable ws)) (rw (size-is ws) hx), lt-ltb z (size (decodeTable ws)) (rw (size-is ws) hz))
 
-  not-pair : (x z : ℕ) → (x < sizeOf ws → z < sizeOf ws → x ≡ z) → isPair (decodeTable ws) x z ≡ false
+  not-pair : (x z : ℕ) → (x < sizeIn ws → z < sizeIn ws → x ≡ z) → isPair (decodeTable ws) x z ≡ false
   not-pair x z f = is-false (isPair (decodeTable ws) x z) (λ e.
       let o = pair-other (decodeTable ws) x z e in
       o .differs (sym (f (rw (size-is ws) at (pair-low (decodeTable ws) x z e)) (rw (size-is ws) at (o .low)))))
@@ -145,21 +146,21 @@ module _ (ws : List ℕ) where
     unfolding ringFits decode
     tests = every-out _ (r .fits)
 
-    ranges : Each (λ b. b ≡ true) (sidesFit (sidesOf (at ws 0)) ∷ between 1 64 (sizeOf ws) ∷ [])
+    ranges : Each (λ b. b ≡ true) (sidesFit (sidesOf (at ws 0)) ∷ between 1 64 (sizeIn ws) ∷ [])
     unfolding inRange decodeTable
     ranges = every-out _ (rw (size-is ws) at (first tests))
 
-    size-high : sizeOf ws ≤ 64
-    size-high = between-high 1 64 (sizeOf ws) (first (rest ranges))
+    size-high : sizeIn ws ≤ 64
+    size-high = between-high 1 64 (sizeIn ws) (first (rest ranges))
 
-    count-high : countOf ws ≤ 1024
-    count-high = leb-true (countOf ws) 1024 (rw count-is at (first (rest (rest tests))))
+    count-high : countIn ws ≤ 1024
+    count-high = leb-true (countIn ws) 1024 (rw count-is at (first (rest (rest tests))))
 
     -- a stretch of places that are no node's, no pair's and no message's
     unused : (a e : ℕ) → 0 < a → e ≤ ringLength
-        → ((s j : ℕ) → s < 64 → j < 2 → a ≤ nodePlace s + j → nodePlace s + j < e → sizeOf ws ≤ s)
-        → ((x z j : ℕ) → x < 64 → z < 64 → j < 2 → a ≤ pairPlace x z + j → pairPlace x z + j < e → x < sizeOf ws → z < sizeOf ws → x ≡ z)
-        → ((k j : ℕ) → k < 1024 → j < 5 → a ≤ messagePlace k + j → messagePlace k + j < e → countOf ws ≤ k)
+        → ((s j : ℕ) → s < 64 → j < 2 → a ≤ nodePlace s + j → nodePlace s + j < e → sizeIn ws ≤ s)
+        → ((x z j : ℕ) → x < 64 → z < 64 → j < 2 → a ≤ pairPlace x z + j → pairPlace x z + j < e → x < sizeIn ws → z < sizeIn ws → x ≡ z)
+        → ((k j : ℕ) → k < 1024 → j < 5 → a ≤ messagePlace k + j → messagePlace k + j < e → countIn ws ≤ k)
         → clear ws a e ≡ true
     unused a e pos high fn fp fm =
         clear-in ws a e (λ i h l.
@@ -173,27 +174,27 @@ module _ (ws : List ℕ) where
     head-reads : headReads (at ws 0) ≡ true
     unfolding headReads
     head-reads =
-        every-in (cons (eq-eqb (at ws 0) (headWord (sidesOf (at ws 0)) (sizeOf ws) (countOf ws)) (place 0 (lit< tt) ∙ head-word))
-        (cons (first ranges) (cons (first (rest ranges)) (cons (le-leb (countOf ws) 1024 count-high) nil))))
+        every-in (cons (eq-eqb (at ws 0) (headWord (sidesOf (at ws 0)) (sizeIn ws) (countIn ws)) (place 0 (lit< tt) ∙ head-word))
+        (cons (first ranges) (cons (first (rest ranges)) (cons (le-leb (countIn ws) 1024 count-high) nil))))
 
-    nodes-read : nodesRead ws (sizeOf ws) ≡ true
+    nodes-read : nodesRead ws (sizeIn ws) ≡ true
     unfolding nodesRead nodeReads
     nodes-read =
-        all-in (sizeOf ws) (λ s. nodeReads (keyAt ws s) (clockAt ws s)) node
+        all-in (sizeIn ws) (λ s. nodeReads (keyAt ws s) (clockAt ws s)) node
       where
-        node : (s : ℕ) → s < sizeOf ws → nodeReads (keyAt ws s) (clockAt ws s) ≡ true
+        node : (s : ℕ) → s < sizeIn ws → nodeReads (keyAt ws s) (clockAt ws s) ≡ true
         node s h =
             let l : s < 64 = omega (arith, size-high) in
             every-in (cons (eq-eqb (keyAt ws s) (keyWord (bits 0 24 (keyAt ws s)) (flag 24 (keyAt ws s))) (ap (at ws) (sym (add-zero (nodePlace s))) ∙ place (nodePlace s + 0) (omega arith) ∙ node-at (decode ws) s 0 l (lit< tt) ∙ node-word s 0 h))
             (cons (eq-eqb (clockAt ws s) (clockWord (bits 0 24 (clockAt ws s))) (place (nodePlace s + 1) (omega arith) ∙ node-at (decode ws) s 1 l (lit< tt) ∙ node-word s 1 h)) nil))
 
-    after-nodes : clear ws (nodePlace (sizeOf ws)) 129 ≡ true
+    after-nodes : clear ws (nodePlace (sizeIn ws)) 129 ≡ true
     after-nodes =
-        unused (nodePlace (sizeOf ws)) 129 (omega arith) (omega arith)
+        unused (nodePlace (sizeIn ws)) 129 (omega arith) (omega arith)
         (λ s j hs hj h l. omega arith) (λ x z j hx hz hj h l. absurd (omega arith)) (λ k j hk hj h l. absurd (omega arith))
 
     -- what fits of node x
-    module _ (x : ℕ) (hx : x < sizeOf ws) where
+    module _ (x : ℕ) (hx : x < sizeIn ws) where
       node-tests : Each (λ b. b ≡ true)
           (all (size (decodeTable ws)) (λ z. isPair (decodeTable ws) x z ⇒ pairFits (decodeTable ws) (decodeNode ws x) x z)
           ∷ (not (decodeNode ws x .running) ⇒ all (size (decodeTable ws)) (λ z. not (decodeNode ws x .own .held z) && not (decodeNode ws x .own .candidates z)))
@@ -201,7 +202,7 @@ module _ (ws : List ℕ) where
       unfolding nodeFits
       node-tests = every-out _ (all-out (size (decodeTable ws)) (λ x. nodeFits (decodeTable ws) (decodeNode ws x) x) (first (rest (rest (rest tests)))) x (rw (size-is ws) hx))
 
-      off : (z : ℕ) → z < sizeOf ws → isPair (decodeTable ws) x z ≡ true → flag 24 (keyAt ws x) ≡ false → (not (flag 24 (linkAt ws x z)) && not (flag 25 (linkAt ws x z))) ≡ true
+      off : (z : ℕ) → z < sizeIn ws → isPair (decodeTable ws) x z ≡ true → flag 24 (keyAt ws x) ≡ false → (not (flag 24 (linkAt ws x z)) && not (flag 25 (linkAt ws x z))) ≡ true
       unfolding decodeNode decodeOwn
       off z hz e f =
           rw e at (all-out (size (decodeTable ws)) (λ z. not (decodeNode ws x .own .held z) && not (decodeNode ws x .own .candidates z))
@@ -209,7 +210,7 @@ module _ (ws : List ℕ) where
           (rw (lt-ltb x (size (decodeTable ws)) (rw (size-is ws) hx), f)))
           z (rw (size-is ws) hz))
 
-      module _ (z : ℕ) (hz : z < sizeOf ws) where
+      module _ (z : ℕ) (hz : z < sizeIn ws) where
         word : (j : ℕ) → j < 2 → at ws (pairPlace x z + j) ≡ ofPair (decode ws) x z j
         word j hj = place (pairPlace x z + j) (omega (arith, size-high)) ∙ pair-at (decode ws) x z j (omega (arith, size-high)) (omega (arith, size-high)) hj
 
@@ -218,7 +219,7 @@ module _ (ws : List ℕ) where
 
         apart : eqb x z ≡ false → every
             (linkReads (bits 0 24 (clockAt ws x)) (linkAt ws x z)
-            ∷ spareReads (sizeOf ws) x z (linkAt ws x z) (spareAt ws x z)
+            ∷ spareReads (sizeIn ws) x z (linkAt ws x z) (spareAt ws x z)
             ∷ (not (flag 24 (keyAt ws x)) ⇒ not (flag 24 (linkAt ws x z)) && not (flag 25 (linkAt ws x z)))
             ∷ []) ≡ true
         unfolding linkReads spareReads
@@ -229,13 +230,13 @@ module _ (ws : List ℕ) where
             (all-out (size (decodeTable ws)) (λ z. isPair (decodeTable ws) x z ⇒ pairFits (decodeTable ws) (decodeNode ws x) x z) (first node-tests) z (rw (size-is ws) hz)) e) in
             let link : linkReads (bits 0 24 (clockAt ws x)) (linkAt ws x z) ≡ true =
             every-in (cons (eq-eqb (linkAt ws x z) _ (first-word ∙ pair-word x z 0 e)) (cons (first (rest (rest (rest f)))) (cons (first (rest (rest (rest (rest f))))) nil))) in
-            let spare : spareReads (sizeOf ws) x z (linkAt ws x z) (spareAt ws x z) ≡ true =
+            let spare : spareReads (sizeIn ws) x z (linkAt ws x z) (spareAt ws x z) ≡ true =
             every-in (cons (eq-eqb (spareAt ws x z) _ (word 1 (lit< tt) ∙ pair-word x z 1 e))
             (cons (first f) (cons (first (rest f)) (cons (first (rest (rest f))) (rest (rest (rest (rest (rest f)))))))))
             in
             every-in (cons link (cons spare (cons (implies-in _ _ (λ h. off z hz e (not-out (flag 24 (keyAt ws x)) h))) nil)))
 
-        pair-reads : pairReads ws (sizeOf ws) x z ≡ true
+        pair-reads : pairReads ws (sizeIn ws) x z ≡ true
         unfolding pairReads
         pair-reads =
             decide (eqb x z)
@@ -243,30 +244,30 @@ module _ (ws : List ℕ) where
             and-in (eq-eqb (linkAt ws x z) 0 (first-word ∙ pair-none x z 0 f)) (eq-eqb (spareAt ws x z) 0 (word 1 (lit< tt) ∙ pair-none x z 1 f))))
             (λ e. rw e (apart e))
 
-      row-reads : rowReads ws (sizeOf ws) x ≡ true
+      row-reads : rowReads ws (sizeIn ws) x ≡ true
       unfolding rowReads
       row-reads =
-          every-in (cons (all-in (sizeOf ws) (pairReads ws (sizeOf ws) x) pair-reads)
-          (cons (unused (pairPlace x (sizeOf ws)) (pairPlace x 64) (omega arith) (omega (arith, size-high)) (λ s j hs hj h l. absurd (omega arith)) (λ y z j hy hz hj h l _ k. absurd (omega arith)) (λ k j hk hj h l. absurd (omega (arith, size-high)))) nil))
+          every-in (cons (all-in (sizeIn ws) (pairReads ws (sizeIn ws) x) pair-reads)
+          (cons (unused (pairPlace x (sizeIn ws)) (pairPlace x 64) (omega arith) (omega (arith, size-high)) (λ s j hs hj h l. absurd (omega arith)) (λ y z j hy hz hj h l _ k. absurd (omega arith)) (λ k j hk hj h l. absurd (omega (arith, size-high)))) nil))
 
-    pairs-read : pairsRead ws (sizeOf ws) ≡ true
+    pairs-read : pairsRead ws (sizeIn ws) ≡ true
     unfolding pairsRead
     pairs-read =
-        every-in (cons (all-in (sizeOf ws) (rowReads ws (sizeOf ws)) row-reads)
-        (cons (unused (pairPlace (sizeOf ws) 0) 8321 (omega arith) (omega arith) (λ s j hs hj h l. absurd (omega arith)) (λ y z j hy hz hj h l k _. absurd (omega arith)) (λ k j hk hj h l. absurd (omega arith))) nil))
+        every-in (cons (all-in (sizeIn ws) (rowReads ws (sizeIn ws)) row-reads)
+        (cons (unused (pairPlace (sizeIn ws) 0) 8321 (omega arith) (omega arith) (λ s j hs hj h l. absurd (omega arith)) (λ y z j hy hz hj h l k _. absurd (omega arith)) (λ k j hk hj h l. absurd (omega arith))) nil))
 
-    after-messages : clear ws (messagePlace (countOf ws)) ringLength ≡ true
+    after-messages : clear ws (messagePlace (countIn ws)) ringLength ≡ true
     after-messages =
-        unused (messagePlace (countOf ws)) ringLength (omega arith) (omega arith)
+        unused (messagePlace (countIn ws)) ringLength (omega arith) (omega arith)
         (λ s j hs hj h l. absurd (omega arith)) (λ y z j hy hz hj h l _ _. absurd (omega arith)) (λ k j hk hj h l. omega arith)
 
-    messages-read : messagesRead ws 8321 (decodeTable ws) (countOf ws) ≡ true
+    messages-read : messagesRead ws 8321 (decodeTable ws) (countIn ws) ≡ true
     unfolding messagesRead messageReads
     messages-read =
-        every-in (cons (all-in (countOf ws) (messageReads ws 8321 (decodeTable ws)) message)
+        every-in (cons (all-in (countIn ws) (messageReads ws 8321 (decodeTable ws)) message)
         (cons (senders-are ∙ first (rest (rest (rest (rest (rest tests)))))) nil))
       where
-        message : (k : ℕ) → k < countOf ws → messageReads ws 8321 (decodeTable ws) k ≡ true
+        message : (k : ℕ) → k < countIn ws → messageReads ws 8321 (decodeTable ws) k ≡ true
         message k h =
             every-in (cons (all-in 5 (λ j. eqb (at ws (messagePlace k + j)) (getD (messageWords (decodeMessage ws k)) j 0))
             (λ j hj. eq-eqb (at ws (messagePlace k + j)) (getD (messageWords (decodeMessage ws k)) j 0) (place (messagePlace k + j) (omega (arith, count-high)) ∙ message-at (decode ws) k j hj ∙ message-word k j h)))
@@ -280,61 +281,61 @@ module _ (ws : List ℕ) where
     regions = every-out (regionTests ws) r
 
     in-head : Each (λ b. b ≡ true)
-        (eqb (at ws 0) (headWord (sidesOf (at ws 0)) (sizeOf ws) (countOf ws))
+        (eqb (at ws 0) (headWord (sidesOf (at ws 0)) (sizeIn ws) (countIn ws))
         ∷ sidesFit (sidesOf (at ws 0))
-        ∷ between 1 64 (sizeOf ws)
-        ∷ leb (countOf ws) 1024
+        ∷ between 1 64 (sizeIn ws)
+        ∷ leb (countIn ws) 1024
         ∷ [])
     unfolding headReads
     in-head = every-out _ (first regions)
 
-    in-nodes : all (sizeOf ws) (λ s. nodeReads (keyAt ws s) (clockAt ws s)) ≡ true
+    in-nodes : all (sizeIn ws) (λ s. nodeReads (keyAt ws s) (clockAt ws s)) ≡ true
     unfolding nodesRead
     in-nodes = first (rest regions)
 
-    in-pairs : Each (λ b. b ≡ true) (all (sizeOf ws) (rowReads ws (sizeOf ws)) ∷ clear ws (pairPlace (sizeOf ws) 0) 8321 ∷ [])
+    in-pairs : Each (λ b. b ≡ true) (all (sizeIn ws) (rowReads ws (sizeIn ws)) ∷ clear ws (pairPlace (sizeIn ws) 0) 8321 ∷ [])
     unfolding pairsRead
     in-pairs = every-out _ (first (rest (rest (rest regions))))
 
-    in-row : (x : ℕ) → x < sizeOf ws → Each (λ b. b ≡ true) (all (sizeOf ws) (pairReads ws (sizeOf ws) x) ∷ clear ws (pairPlace x (sizeOf ws)) (pairPlace x 64) ∷ [])
+    in-row : (x : ℕ) → x < sizeIn ws → Each (λ b. b ≡ true) (all (sizeIn ws) (pairReads ws (sizeIn ws) x) ∷ clear ws (pairPlace x (sizeIn ws)) (pairPlace x 64) ∷ [])
     unfolding rowReads
-    in-row x h = every-out _ (all-out (sizeOf ws) (rowReads ws (sizeOf ws)) (first in-pairs) x h)
+    in-row x h = every-out _ (all-out (sizeIn ws) (rowReads ws (sizeIn ws)) (first in-pairs) x h)
 
     in-messages : Each (λ b. b ≡ true)
-        (all (countOf ws) (messageReads ws 8321 (decodeTable ws))
-        ∷ sendersRead ws 8321 (decodeTable ws) (countOf ws)
+        (all (countIn ws) (messageReads ws 8321 (decodeTable ws))
+        ∷ sendersRead ws 8321 (decodeTable ws) (countIn ws)
         ∷ [])
     unfolding messagesRead
     in-messages = every-out _ (first (rest (rest (rest (rest regions)))))
 
-    in-message : (k : ℕ) → k < countOf ws → Each (λ b. b ≡ true)
+    in-message : (k : ℕ) → k < countIn ws → Each (λ b. b ≡ true)
         (all 5 (λ j. eqb (at ws (messagePlace k + j)) (getD (messageWords (decodeMessage ws k)) j 0))
         ∷ messageFits (decodeTable ws) (decodeMessage ws k)
         ∷ [])
     unfolding messageReads
-    in-message k h = every-out _ (all-out (countOf ws) (messageReads ws 8321 (decodeTable ws)) (first in-messages) k h)
+    in-message k h = every-out _ (all-out (countIn ws) (messageReads ws 8321 (decodeTable ws)) (first in-messages) k h)
 
     node-format : (s j : ℕ) → s < 64 → j < 2 → at ws (nodePlace s + j) ≡ ofNode (decode ws) s j
     unfolding nodeReads
     node-format s j hs hj =
-        elim (decLt s (sizeOf ws)) [
+        elim (decLt s (sizeIn ws)) [
           | yes h ↦ each-word s h j hj ∙ sym (node-word s j h)
           | no d ↦
-              clear-out ws (nodePlace (sizeOf ws)) 129 (first (rest (rest (rest (rest (rest (rest regions))))))) (nodePlace s + j) (omega arith) (omega arith)
+              clear-out ws (nodePlace (sizeIn ws)) 129 (first (rest (rest (rest (rest (rest (rest regions))))))) (nodePlace s + j) (omega arith) (omega arith)
               ∙ sym (node-none s j (omega arith))
         ]
       where
-        each-word : (s : ℕ) → s < sizeOf ws → (j : ℕ) → j < 2
+        each-word : (s : ℕ) → s < sizeIn ws → (j : ℕ) → j < 2
             → at ws (nodePlace s + j) ≡ getD (keyWord (bits 0 24 (keyAt ws s)) (flag 24 (keyAt ws s)) ∷ clockWord (bits 0 24 (clockAt ws s)) ∷ []) j 0
         each-word s h =
             let f = every-out (eqb (keyAt ws s) (keyWord (bits 0 24 (keyAt ws s)) (flag 24 (keyAt ws s))) ∷ eqb (clockAt ws s) (clockWord (bits 0 24 (clockAt ws s))) ∷ [])
-            (all-out (sizeOf ws) (λ s. nodeReads (keyAt ws s) (clockAt ws s)) in-nodes s h) in
+            (all-out (sizeIn ws) (λ s. nodeReads (keyAt ws s) (clockAt ws s)) in-nodes s h) in
             two-words ws (nodePlace s) (λ j. getD (keyWord (bits 0 24 (keyAt ws s)) (flag 24 (keyAt ws s)) ∷ clockWord (bits 0 24 (clockAt ws s)) ∷ []) j 0) (eqb-true (keyAt ws s) _ (first f)) (eqb-true (clockAt ws s) _ (first (rest f)))
 
     -- of a pair: what its words are, and what is tested of it
-    module _ (x z : ℕ) (hx : x < sizeOf ws) (hz : z < sizeOf ws) where
-      reads : pairReads ws (sizeOf ws) x z ≡ true
-      reads = all-out (sizeOf ws) (pairReads ws (sizeOf ws) x) (first (in-row x hx)) z hz
+    module _ (x z : ℕ) (hx : x < sizeIn ws) (hz : z < sizeIn ws) where
+      reads : pairReads ws (sizeIn ws) x z ≡ true
+      reads = all-out (sizeIn ws) (pairReads ws (sizeIn ws) x) (first (in-row x hx)) z hz
 
       same : eqb x z ≡ true → (eqb (linkAt ws x z) 0 && eqb (spareAt ws x z) 0) ≡ true
       unfolding pairReads
@@ -342,7 +343,7 @@ module _ (ws : List ℕ) where
 
       apart-reads : eqb x z ≡ false → Each (λ b. b ≡ true)
           (linkReads (bits 0 24 (clockAt ws x)) (linkAt ws x z)
-          ∷ spareReads (sizeOf ws) x z (linkAt ws x z) (spareAt ws x z)
+          ∷ spareReads (sizeIn ws) x z (linkAt ws x z) (spareAt ws x z)
           ∷ (not (flag 24 (keyAt ws x)) ⇒ not (flag 24 (linkAt ws x z)) && not (flag 25 (linkAt ws x z)))
           ∷ [])
       unfolding pairReads
@@ -358,7 +359,7 @@ module _ (ws : List ℕ) where
 
       in-spare : eqb x z ≡ false → Each (λ b. b ≡ true)
           (eqb (spareAt ws x z) (spareWord (bits 0 7 (spareAt ws x z)))
-          ∷ (ltb (bits 0 7 (spareAt ws x z)) (sizeOf ws) || eqb (bits 0 7 (spareAt ws x z)) noneNode)
+          ∷ (ltb (bits 0 7 (spareAt ws x z)) (sizeIn ws) || eqb (bits 0 7 (spareAt ws x z)) noneNode)
           ∷ not (eqb (bits 0 7 (spareAt ws x z)) x)
           ∷ not (eqb (bits 0 7 (spareAt ws x z)) z)
           ∷ (not (flag 24 (linkAt ws x z)) ⇒ eqb (bits 0 7 (spareAt ws x z)) noneNode)
@@ -388,27 +389,27 @@ module _ (ws : List ℕ) where
 
     pair-format : (x z j : ℕ) → x < 64 → z < 64 → j < 2 → at ws (pairPlace x z + j) ≡ ofPair (decode ws) x z j
     pair-format x z j hx hz hj =
-        elim (decLt x (sizeOf ws)) [
-          | yes a ↦ elim (decLt z (sizeOf ws)) [
+        elim (decLt x (sizeIn ws)) [
+          | yes a ↦ elim (decLt z (sizeIn ws)) [
             | yes b ↦ pair-format-below x z a b j hj
             | no b ↦
-                clear-out ws (pairPlace x (sizeOf ws)) (pairPlace x 64) (first (rest (in-row x a))) (pairPlace x z + j) (omega arith) (omega arith)
+                clear-out ws (pairPlace x (sizeIn ws)) (pairPlace x 64) (first (rest (in-row x a))) (pairPlace x z + j) (omega arith) (omega arith)
                 ∙ sym (pair-none x z j (not-pair x z (λ _ h. absurd (b h))))
           ]
           | no a ↦
-              clear-out ws (pairPlace (sizeOf ws) 0) 8321 (first (rest in-pairs)) (pairPlace x z + j) (omega arith) (omega arith)
+              clear-out ws (pairPlace (sizeIn ws) 0) 8321 (first (rest in-pairs)) (pairPlace x z + j) (omega arith) (omega arith)
               ∙ sym (pair-none x z j (not-pair x z (λ h _. absurd (a h))))
         ]
 
     message-format : (k j : ℕ) → k < 1024 → j < 5 → at ws (messagePlace k + j) ≡ ofMessage (decode ws) k j
     message-format k j hk hj =
-        elim (decLt k (countOf ws)) [
+        elim (decLt k (countIn ws)) [
           | yes h ↦
               eqb-true (at ws (messagePlace k + j)) (getD (messageWords (decodeMessage ws k)) j 0)
               (all-out 5 (λ j. eqb (at ws (messagePlace k + j)) (getD (messageWords (decodeMessage ws k)) j 0)) (first (in-message k h)) j hj)
               ∙ sym (message-word k j h)
           | no d ↦
-              clear-out ws (messagePlace (countOf ws)) ringLength (first (rest (rest (rest (rest (rest regions))))))
+              clear-out ws (messagePlace (countIn ws)) ringLength (first (rest (rest (rest (rest (rest regions))))))
               (messagePlace k + j) (omega arith) (omega arith)
               ∙ sym (message-none k j (omega arith))
         ]
@@ -424,7 +425,7 @@ module _ (ws : List ℕ) where
         (λ k j hk hj. message-format k j hk hj ∙ sym (message-at (decode ws) k j hj))
         i h))
 
-    node-fits : (x : ℕ) → x < sizeOf ws → nodeFits (decodeTable ws) (decodeNode ws x) x ≡ true
+    node-fits : (x : ℕ) → x < sizeIn ws → nodeFits (decodeTable ws) (decodeNode ws x) x ≡ true
     unfolding nodeFits decodeNode decodeOwn
     node-fits x hx =
         every-in (cons (all-in (size (decodeTable ws)) (λ z. isPair (decodeTable ws) x z ⇒ pairFits (decodeTable ws) (decodeNode ws x) x z)
@@ -480,16 +481,16 @@ module _ (ws : List ℕ) (long : length ws ≡ ringLength) where
   head-fails e = sym (regions-read ws long ∙ rw e)
 
   pub after-head : headReads (at ws 0) ≡ true
-      → (nodesRead ws (sizeOf ws) && keysDiffer (decodeTable ws) && pairsRead ws (sizeOf ws)
-      && messagesRead ws 8321 (decodeTable ws) (countOf ws) && clear ws (messagePlace (countOf ws)) ringLength
-      && clear ws (nodePlace (sizeOf ws)) 129) ≡ readsAsRing ws
+      → (nodesRead ws (sizeIn ws) && keysDiffer (decodeTable ws) && pairsRead ws (sizeIn ws)
+      && messagesRead ws 8321 (decodeTable ws) (countIn ws) && clear ws (messagePlace (countIn ws)) ringLength
+      && clear ws (nodePlace (sizeIn ws)) 129) ≡ readsAsRing ws
   unfolding regionsRead
   after-head e =
       rw (regions-read ws long, e)
-      (joined-every (nodesRead ws (sizeOf ws))
+      (joined-every (nodesRead ws (sizeIn ws))
       (keysDiffer (decodeTable ws)
-      ∷ pairsRead ws (sizeOf ws)
-      ∷ messagesRead ws 8321 (decodeTable ws) (countOf ws)
-      ∷ clear ws (messagePlace (countOf ws)) ringLength
-      ∷ clear ws (nodePlace (sizeOf ws)) 129
+      ∷ pairsRead ws (sizeIn ws)
+      ∷ messagesRead ws 8321 (decodeTable ws) (countIn ws)
+      ∷ clear ws (messagePlace (countIn ws)) ringLength
+      ∷ clear ws (nodePlace (sizeIn ws)) 129
       ∷ []))

@@ -14,8 +14,9 @@ use Rattle.model.specs.Leafset.{Table, size}
 use Rattle.model.specs.Ring.{Message, sentBy}
 use Rattle.model.specs.Fields.{bits}
 use Rattle.model.specs.Words.{nodePlace, pairPlace, messagePlace, pairOf, belongs, at, ringLength, sidesOf, keysDiffer, decodeTable, decodeMessageAt}
+use Rattle.model.specs.Words.{sizeIn, countIn}
 use Rattle.model.specs.Words.{messageWords, messageFits, readsAsRing}
-use Rattle.model.specs.Short.{sizeIn, countIn, shortLength, shortPair, lengthened, readsAsShort}
+use Rattle.model.specs.Short.{shortLength, shortPair, lengthened, readsAsShort}
 use Rattle.model.proofs.Laws.{and-in, decide, tabulate-cong}
 use Rattle.model.proofs.Words.{node-belongs, pair-belongs, message-belongs, every-place}
 use Rattle.model.proofs.Short.{node-rank, pair-rank, message-rank, messages-from, short-length, long-at, long-head, long-length}

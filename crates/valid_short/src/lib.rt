@@ -2,8 +2,8 @@
 ghost use mathlib.Core.Path.{_≡_};
 ghost use mathlib.Core.Bool.{true};
 ghost use Prim.Native.Nat.{_≤_};
-ghost use Rattle.model.specs.Words.{at};
-ghost use Rattle.model.specs.Short.{sizeIn, countIn, readsAsShort};
+ghost use Rattle.model.specs.Words.{at, sizeIn, countIn};
+ghost use Rattle.model.specs.Short.{readsAsShort};
 ghost use Rattle.valid_nodes.specs.Nodes.{headReads};
 use valid_messages::messages_read;
 use valid_nodes::head;

@@ -5,9 +5,9 @@ use Rattle.valid_messages.proofs.block_reads.Tie as tie
 
 returns : tie.Need-returns
 returns c t e =
-    let at-halve = c .before .before .before .before in
-    let a = at-halve .before .before .before .before .before .args in
-    c .halves-fit .ensures (now (a .words)) (a .base) t (a .from) e (c .before .before .before .before .before .halve .ensures)
+    let at-halve = c .before .before .before .before .before in
+    let a = at-halve .before .before .before .before .args in
+    c .halves-fit .ensures (now (a .words)) (a .base) t (a .from) e (at-halve .halve .ensures)
 
 pub block-reads-spec : {M : Type 1} → statement M
 block-reads-spec =

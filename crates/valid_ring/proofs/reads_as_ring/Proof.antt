@@ -59,8 +59,8 @@ clear-requires c κs =
 
 clear-requires-2 : tie.Need-clear-requires-2
 clear-requires-2 c κs =
-    let tested = c .before .before .before in
-    let at-if = tested .before .before .before .before in
+    let at-keys = c .before .before .before in
+    let at-if = at-keys .before .before .before .before in
     let at-head = at-if .before in
     let start = at-head .before .before .before in
     let h = head-ranges (at (now (start .args .words)) 0) (sym (at-head .head-reads .ensures) ∙ not-false (at-head .head-reads .result) (at-if .if1 .left)) in
@@ -69,16 +69,16 @@ clear-requires-2 c κs =
 
 returns-2 : tie.Need-returns-2
 returns-2 c =
-    let tested = c .before .before .before .before in
-    let at-if = tested .before .before .before .before in
+    let at-keys = c .before .before .before .before in
+    let at-if = at-keys .before .before .before .before in
     let at-head = at-if .before in
     let start = at-head .before .before .before in
     let ws = now (start .args .words) in
-    let e = tested .before .before .before .nodes .ensures in
-    let f = c .before .before .before .before .before .before .messages .ensures in
+    let e = at-keys .before .before .before .nodes .ensures in
+    let f = at-keys .before .before .messages .ensures in
     ap₂ _&&_ (ap₂ _&&_ (ap₂ _&&_ (ap₂ _&&_ (ap₂ _&&_
-    (c .before .before .before .before .before .nodes-read .ensures ∙ ap (nodesRead ws) e)
-    (c .before .before .before .before .keys-differ .ensures))
+    (at-keys .before .nodes-read .ensures ∙ ap (nodesRead ws) e)
+    (at-keys .keys-differ .ensures))
     (c .before .before .before .pairs-read .ensures ∙ ap (pairsRead ws) e))
     (c .before .before .messages-read .ensures (decodeTable ws) (size-is ws ∙ sym e) ∙ ap (messagesRead ws 8321 (decodeTable ws)) f))
     (c .before .clear .ensures ∙ ap (λ (m : ℕ). clear ws (messagePlace m) ringLength) f))

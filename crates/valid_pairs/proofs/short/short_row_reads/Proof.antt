@@ -24,10 +24,10 @@ returns-2 c =
     let start = at-first .before .before .before .before in
     let a = start .args in
     let ws = now (a .words) in
-    let before = c .before .before .before .fitting in
+    let before = at-first .fitting in
     let after = c .before .before .fitting2 in
     short-running ws (a .n) (a .x) (a .row) (start .pre .3) (start .pre .2) (before .result .fit) (after .result .fit) (omega arith)
-    (not-false (flag 24 (keyAt ws (a .x))) (c .before .before .before .before .if1 .left))
+    (not-false (flag 24 (keyAt ws (a .x))) (at-first .before .if1 .left))
     (count-whole (runReads ws (a .n) (a .x) (a .row)) (a .x) (before .result .fit) (before .ensures .0)) (after .ensures .0)
 
 pub short-row-reads-spec : {M : Type 1} → statement M
