@@ -157,8 +157,8 @@ reached_reads {r = r} reached = ap reads_as_ring (invariant reached).encoded ∙
 -- a list leaves a ring that was reached
 pub list_reaches : {ws : List ℕ} {r : Ring} → Reached ws r → (words : List ℕ) → Reached (play_buffer_all ws words) (play_all r words)
 unfolding play_all play_buffer_all
-list_reaches reached [] = reached
-list_reaches reached (w ∷ words) = list_reaches (played reached w) words
+list_reaches {ws = ws} {r = r} reached [] = reached
+list_reaches {ws = ws} {r = r} reached (w ∷ words) = list_reaches {ws = (play_buffer ws w).words} {r = (play_word r w).ring} (played reached w) words
 
 -- ---- the points of a list
 
