@@ -1,4 +1,6 @@
 // What a call on lent words gives: an answer, and the words.
+#![tactic(auto)]
+
 ghost use Rattle.std.specs.Prelude.{◌≡◌, not};
 ghost use Rattle.model.specs.Answers.{number_of, is_accepted};
 

@@ -1,5 +1,7 @@
 // The text of a script on standard input, its words on standard output. At a fault, its line on standard error, and no
 // word: the words wait in a temporary file until the text is read to its end.
+#![tactic(auto)]
+
 ghost use Rattle.std.specs.Prelude.{◌≡◌, ◌+◌, ◌^◌, ◌<◌, length};
 ghost use Rattle.text_reader.specs.Bounds.{ReaderBounded};
 ghost use Rattle.text_assemble.specs.Chunks.{KeysBounded};

@@ -1,4 +1,6 @@
 // The audit program: plays the script on standard input, and prints its account.
+#![tactic(auto)]
+
 ghost use Rattle.std.specs.Prelude.{◌≡◌, length};
 ghost use Rattle.model.specs.Words.{ring_length};
 

@@ -1,4 +1,5 @@
 // The account of a script: what is kept from event to event.
+#![tactic(auto)]
 
 // How many events were played; the last point: after so many of them no acknowledgement was in flight, and no type 13
 // from a running node. Since then: how many events were accepted that the promise does not cover, and whether an on, an

@@ -1,4 +1,6 @@
 // An event of a script: played, noted in the account, and put as lines.
+#![tactic(auto)]
+
 pub mod cause;
 pub mod note;
 pub mod played;

@@ -1,4 +1,6 @@
 // The messages in flight: those that decide whether the promise may begin.
+#![tactic(auto)]
+
 ghost use Rattle.std.specs.Prelude.{◌≡◌, true, ℕ, ◌≤◌};
 ghost use Rattle.model.specs.Sets.{of_bits};
 ghost use Rattle.model.specs.Ring.{is_running};

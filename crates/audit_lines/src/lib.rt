@@ -1,4 +1,6 @@
 // The lines of an account, as bytes.
+#![tactic(auto)]
+
 ghost use Rattle.std.specs.Prelude.{◌≡◌, List, ◌++◌, ◌+◌, ◌≤◌, min, length};
 ghost use Rattle.bench_lines.specs.Decimal.{decimal};
 ghost use Rattle.bench_lines.specs.Put.{Put};

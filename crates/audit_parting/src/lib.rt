@@ -1,4 +1,6 @@
 // Which nodes an event parts: the groups before and after it, and the sides on which its nodes are left.
+#![tactic(auto)]
+
 ghost use Rattle.std.specs.Prelude.{◌≡◌, not, ◌&&◌, ◌++◌, ℕ, ◌+◌, ◌*◌, ◌≤◌, length};
 ghost use Rattle.model.specs.Sets.{of_bits, some, count, members};
 ghost use Rattle.model.specs.Leafset.{size};

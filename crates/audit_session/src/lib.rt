@@ -1,4 +1,6 @@
 // A session of the audit: a script comes in by chunks of bytes, and its account goes out by chunks.
+#![tactic(auto)]
+
 pub mod chunks;
 pub mod events;
 pub mod turn;

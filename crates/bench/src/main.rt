@@ -1,4 +1,6 @@
 // The bench program: plays the script on standard input, and prints what came of it.
+#![tactic(auto)]
+
 ghost use Rattle.std.specs.Prelude.{◌≡◌, length};
 ghost use Rattle.model.specs.Words.{ring_length};
 

@@ -1,4 +1,6 @@
 // Numbers and lines of numbers as bytes, put into a lent buffer: "Output is in decimal, with single spaces."
+#![tactic(auto)]
+
 ghost use Rattle.std.specs.Prelude.{[], ◌∷◌, ◌+◌, ◌<◌, ◌≤◌, length};
 ghost use Rattle.bench_lines.specs.Decimal.{decimal, spaced, line_bytes};
 ghost use Rattle.bench_lines.specs.Put.{Put};

@@ -1,5 +1,7 @@
 // Opening a ring by the first words of a script: "word 0 with m = 0 (any fault is 2), n key words with running 0 (a
 // wrong one is 3, a missing or cut one 2)".
+#![tactic(auto)]
+
 ghost use Rattle.std.specs.Prelude.{◌≡◌, ◌+◌, ◌<◌, ◌≤◌, length, take};
 ghost use Rattle.model.specs.Words.{ring_length};
 ghost use Rattle.answers.specs.Applied.{written};

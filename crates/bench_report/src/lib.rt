@@ -1,4 +1,6 @@
 // What the bench prints of a ring at the end: a line for each node, and the number of groups.
+#![tactic(auto)]
+
 ghost use Rattle.std.specs.Prelude.{◌≡◌, true, ◌∷◌, ◌+◌, ◌*◌, ◌<◌, ◌≤◌, length};
 ghost use Rattle.model.specs.Sets.{of_bits, count, members, tabulate};
 ghost use Rattle.model.specs.Leafset.{size};

@@ -1,4 +1,6 @@
 // The script reader: "It reads little-endian words".
+#![tactic(auto)]
+
 pub mod loading;
 
 ghost use Rattle.std.specs.Prelude.{◌≡◌};

@@ -1,4 +1,6 @@
 // A session of the bench: a script comes in by chunks of bytes, and what it prints goes out by chunks.
+#![tactic(auto)]
+
 pub mod chunks;
 pub mod play;
 pub mod turn;

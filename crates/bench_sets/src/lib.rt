@@ -1,4 +1,6 @@
 // Sets of nodes as numbers in a line.
+#![tactic(auto)]
+
 ghost use Rattle.std.specs.Prelude.{◌+◌, ◌*◌, ◌≤◌, length};
 ghost use Rattle.model.specs.Sets.{of_bits, count, members};
 ghost use Rattle.bench_lines.specs.Decimal.{spaced};

@@ -1,5 +1,7 @@
 // "A massed concert joins two rings into one." The call requires nothing: on every three buffers the answer, and every
 // word of all afterwards, is the definition's.
+#![tactic(auto)]
+
 ghost use Rattle.std.specs.Prelude.{◌≡◌, true, ◌≤◌, length, eqb};
 ghost use Rattle.model.specs.Answers.{number_of, first_of};
 ghost use Rattle.model.specs.Leafset.{size};

@@ -1,4 +1,6 @@
 // Opening: the initial ring written over a lent buffer.
+#![tactic(auto)]
+
 ghost use Rattle.std.specs.Prelude.{◌≡◌, ◌<◌, length};
 ghost use Rattle.model.specs.Words.{keys_differ, in_range};
 ghost use Rattle.model.specs.Structs.{table_of};

@@ -1,5 +1,7 @@
 // Public: playing an event word on lent words; a list of them; and such a list on a ring that is opened first. The
 // calls require nothing: on every input the answer, and every lent word afterwards, is the definition's.
+#![tactic(auto)]
+
 ghost use Rattle.std.specs.Prelude.{◌≡◌, true, length, set};
 ghost use Rattle.model.specs.Buffer.{play_buffer};
 ghost use Rattle.model.specs.Answers.{number_of};

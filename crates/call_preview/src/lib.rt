@@ -1,5 +1,7 @@
 // Public: what an event word would be answered and would leave, shown in a second buffer. The call requires nothing: on
 // every pair of buffers the answer, and every word of both afterwards, is the definition's.
+#![tactic(auto)]
+
 ghost use Rattle.std.specs.Prelude.{◌≡◌, true, length};
 ghost use Rattle.model.specs.Words.{ring_length, reads_as_ring};
 ghost use Rattle.model.specs.Preview.{preview_buffer};

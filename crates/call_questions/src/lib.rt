@@ -1,4 +1,6 @@
 // The questions about a ring: a node's leafset, whether two nodes are connected, and the number of groups.
+#![tactic(auto)]
+
 ghost use Rattle.std.specs.Prelude.{◌≡◌, true, false, ◌<◌};
 ghost use Rattle.model.specs.Sets.{to_bits};
 ghost use Rattle.model.specs.Ring.{holds};

@@ -1,4 +1,6 @@
 // "Where does a long reach land?": the owner of a key, and how many hops by fingers lead to it.
+#![tactic(auto)]
+
 ghost use Rattle.std.specs.Prelude.{◌≡◌, true, ◌≤◌, length};
 ghost use Rattle.model.specs.Sets.{of_bits};
 ghost use Rattle.model.specs.Answers.{number_of};

@@ -1,4 +1,6 @@
 // Which refusal a question meets, and an event word before those of its event.
+#![tactic(auto)]
+
 ghost use Rattle.std.specs.Prelude.{◌≡◌, true, length, eqb};
 ghost use Rattle.model.specs.Answers.{number_of, first_of};
 ghost use Rattle.model.specs.Words.{ring_length, decode, reads_as_ring};

@@ -1,4 +1,6 @@
 // "Which desk keeps this bar?": the route to the node nearest to a key.
+#![tactic(auto)]
+
 ghost use Rattle.std.specs.Prelude.{◌≡◌, ◌+◌, ◌<◌, ◌≤◌, length};
 ghost use Rattle.model.specs.Answers.{number_of};
 ghost use Rattle.model.specs.Words.{decode};

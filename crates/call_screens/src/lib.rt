@@ -1,5 +1,7 @@
 // Public: the conductor's and the technician's screens. The calls require nothing; a refused one gives the empty
 // answer, and writes zeros into what it is lent.
+#![tactic(auto)]
+
 ghost use Rattle.std.specs.Prelude.{◌≡◌, true, ◌<◌, ◌≤◌, length};
 ghost use Rattle.model.specs.Choice.{if◌then◌else◌};
 ghost use Rattle.model.specs.Sets.{tabulate, to_bits};

@@ -1,5 +1,7 @@
 // "Touring desks store a ring after each act, mostly zeros." The calls require nothing: on every two buffers the
 // answer, and every word of both afterwards, is the definition's.
+#![tactic(auto)]
+
 ghost use Rattle.std.specs.Prelude.{◌≡◌, ◌+◌, ◌*◌, ◌≤◌};
 ghost use Rattle.model.specs.Short.{shorten_buffer, lengthen_buffer};
 ghost use Rattle.answers.specs.Applied.{written};

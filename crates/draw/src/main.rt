@@ -1,4 +1,6 @@
 // The drawing program: plays the script on standard input, and draws the ring that it leaves as an SVG.
+#![tactic(auto)]
+
 ghost use Rattle.std.specs.Prelude.{◌≡◌, length};
 
 use libc::{STDIN_FILENO, STDOUT_FILENO};

@@ -1,5 +1,7 @@
 // Points on the drawing, by angle and radius. A turn has 65,536 parts, from the top, clockwise; an angle beyond a turn
 // counts as its place on it. All numbers are whole.
+#![tactic(auto)]
+
 pub mod curve;
 
 ghost use Rattle.std.specs.Prelude.{◌≡◌, ◌<◌, ◌≤◌, slice_index};

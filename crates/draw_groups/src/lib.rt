@@ -1,4 +1,6 @@
 // The groups of connected running nodes, numbered from 0 in the order of their lowest nodes.
+#![tactic(auto)]
+
 ghost use Rattle.std.specs.Prelude.{◌≡◌, ◌≤◌, length};
 ghost use Rattle.model.specs.Leafset.{size};
 ghost use Rattle.model.specs.Words.{ring_length, decode_table, decode};

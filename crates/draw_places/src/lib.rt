@@ -1,5 +1,7 @@
 // Where the discs of the nodes stand: at the angles of their keys as far as they have room, else pushed apart, ahead
 // and back alike, in the order of the keys.
+#![tactic(auto)]
+
 ghost use Rattle.std.specs.Prelude.{◌≡◌, ℕ, ◌<◌, ◌≤◌, min, max, map, length, take, get_or};
 ghost use Rattle.draw_places.specs.Places.{angle_of, distances_of, rank_of, lowest_of, pushed_by, pushed_most};
 ghost use Rattle.draw_places.specs.Places.{ahead_of, behind, between_of, disc_of};

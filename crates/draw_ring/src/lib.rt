@@ -1,4 +1,6 @@
 // The drawing of a ring, from words that read as one: leads, links, discs, and what is written beside them.
+#![tactic(auto)]
+
 pub mod discs;
 pub mod links;
 pub mod texts;

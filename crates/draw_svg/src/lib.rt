@@ -1,5 +1,7 @@
 // The elements of the drawing as text of an SVG. Each function puts its text into the lent buffer from `at` on, and
 // answers where it ends.
+#![tactic(auto)]
+
 pub mod frame;
 pub mod node;
 

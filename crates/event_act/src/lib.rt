@@ -1,5 +1,7 @@
 // What every event has in common: a node that is to act, its refusals, and what is read of the words for its step; what
 // an event would do, decided; and that written.
+#![tactic(auto)]
+
 pub mod decision;
 pub mod write;
 

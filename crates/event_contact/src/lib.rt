@@ -1,4 +1,6 @@
 // The events of two nodes, a contact and a notice: what they would do, with their refusals from the state.
+#![tactic(auto)]
+
 ghost use Rattle.std.specs.Prelude.{◌≡◌, true};
 ghost use Rattle.model.specs.Answers.{number_of, first_of};
 ghost use Rattle.model.specs.Words.{decode, reads_as_ring};

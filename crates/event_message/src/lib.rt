@@ -1,4 +1,6 @@
 // The events deliver and lose: what they would do, with their refusals from the state.
+#![tactic(auto)]
+
 ghost use Rattle.std.specs.Prelude.{◌≡◌, true};
 ghost use Rattle.model.specs.Words.{decode, reads_as_ring};
 ghost use Rattle.model.specs.Steps as steps;

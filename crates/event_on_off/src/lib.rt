@@ -1,4 +1,6 @@
 // The events on and off: what they would do, with their refusals from the state.
+#![tactic(auto)]
+
 ghost use Rattle.std.specs.Prelude.{◌≡◌, true};
 ghost use Rattle.model.specs.Words.{reads_as_ring};
 ghost use Rattle.model.specs.declared.event.Event.TheVariants.{On, Off};

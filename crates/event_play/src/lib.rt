@@ -1,4 +1,6 @@
 // An event, by its kind: decided, and played on words that are known to read as a ring, which are not looked at again.
+#![tactic(auto)]
+
 ghost use Rattle.std.specs.Prelude.{◌≡◌, true};
 ghost use Rattle.model.specs.Words.{reads_as_ring};
 ghost use Rattle.model.specs.Buffer.{play_buffer};

@@ -1,4 +1,6 @@
 // The event timer: what it would do, with its refusals from the state.
+#![tactic(auto)]
+
 ghost use Rattle.std.specs.Prelude.{◌≡◌, true};
 ghost use Rattle.model.specs.Steps as steps;
 ghost use Rattle.model.specs.Structs.{own_of};

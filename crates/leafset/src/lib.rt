@@ -1,4 +1,6 @@
 // The leafset, and the members of a set that lie outside it.
+#![tactic(auto)]
+
 ghost use Rattle.std.specs.Prelude.{◌≡◌, ◌&&◌, not, ℕ, ◌≤◌, ltb, length};
 ghost use Rattle.model.specs.Sets.{of_bits, to_bits, count};
 ghost use Rattle.model.specs.Structs.{table_of, RoomSides};

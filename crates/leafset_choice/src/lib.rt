@@ -1,4 +1,6 @@
 // Choices by nearness: the successor, whether a node passes zero, and the spare that type 7 offers.
+#![tactic(auto)]
+
 ghost use Rattle.std.specs.Prelude.{◌≡◌, ◌<◌, length};
 ghost use Rattle.model.specs.Sets.{of_bits};
 ghost use Rattle.model.specs.Structs.{table_of, RoomSides};

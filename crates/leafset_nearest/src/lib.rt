@@ -1,4 +1,6 @@
 // How far the members of a set lie from a key, and the member that lies nearest.
+#![tactic(auto)]
+
 ghost use Rattle.std.specs.Prelude.{◌≡◌, length};
 ghost use Rattle.model.specs.Key.{clockwise as clockwiseOf, distance as distance_of};
 ghost use Rattle.model.specs.Sets.{of_bits};

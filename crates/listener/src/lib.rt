@@ -1,5 +1,7 @@
 // A listener: it counts the ticks since each watched node was heard, and gives a notice when they reach its window. It
 // needs no ring. The calls require nothing; a refused one gives the record back.
+#![tactic(auto)]
+
 ghost use Rattle.std.specs.Prelude.{◌≡◌, not, ◌&&◌, suc, ◌<◌, ◌^◌, ltb, eqb};
 ghost use Rattle.model.specs.Choice.{if◌then◌else◌};
 ghost use Rattle.model.specs.Sets.{to_bits, of_bits};

@@ -1,5 +1,7 @@
 // The calls under C's names, on numbers and slices: include/mekvalgs.h. An answer is document 01's number; what a call
 // returns beside it is written through a reference.
+#![tactic(auto)]
+
 ghost use Rattle.std.specs.Prelude.{◌≡◌, length};
 ghost use Rattle.model.specs.Fields.{bit};
 ghost use Rattle.model.specs.Structs.{table_of};

@@ -1,4 +1,6 @@
 // Events as C's numbers.
+#![tactic(auto)]
+
 ghost use Rattle.std.specs.Prelude.{◌≡◌, true};
 ghost use Rattle.model.specs.Answers.{number_of};
 ghost use Rattle.model.specs.Events.{word_answer};

@@ -1,4 +1,6 @@
 // The types that contracts cite.
+#![tactic(auto)]
+
 pub mod answer;
 pub mod event;
 pub mod listener;

@@ -1,4 +1,6 @@
 // By value: an own record, messages, and what a step leaves of both.
+#![tactic(auto)]
+
 pub mod effect;
 pub mod message;
 pub mod own;

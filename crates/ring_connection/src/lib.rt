@@ -1,5 +1,7 @@
 // Which nodes are connected, and in how many groups: "Two running stands are connected if steps between running stands
 // lead from one to the other, each step a pair of which one holds the other; a stand is connected to itself."
+#![tactic(auto)]
+
 ghost use Rattle.std.specs.Prelude.{◌≡◌, true, not, ◌&&◌, ◌||◌, ℕ, ◌<◌, ◌≤◌, length};
 ghost use Rattle.model.specs.Sets.{of_bits};
 ghost use Rattle.model.specs.Leafset.{size};

@@ -1,4 +1,6 @@
 // What every part of a ring in lent words builds on: word 0, and the table of keys.
+#![tactic(auto)]
+
 ghost use Rattle.std.specs.Prelude.{◌≡◌, ◌^◌, ◌<◌, ◌≤◌, length, take};
 ghost use Rattle.model.specs.Sets.{tabulate};
 ghost use Rattle.model.specs.Leafset.{size};

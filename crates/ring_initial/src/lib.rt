@@ -1,4 +1,6 @@
 // The initial ring, document 01's fresh ring.
+#![tactic(auto)]
+
 ghost use Rattle.std.specs.Prelude.{◌≡◌, ℕ, ◌^◌, ◌<◌, ◌≤◌, length, get_or};
 ghost use Rattle.model.specs.Ring.{initial};
 ghost use Rattle.model.specs.Words.{ring_length, node_place, word_at, encode};

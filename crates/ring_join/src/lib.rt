@@ -1,4 +1,6 @@
 // Two rings written as one: "The first ring's stands keep their numbers. The second's numbers rise by the first's n".
+#![tactic(auto)]
+
 mod numbers;
 mod pairs;
 

@@ -1,4 +1,6 @@
 // A node in the words of a ring: its running mark and clock, and what an event leaves of it.
+#![tactic(auto)]
+
 ghost use Rattle.std.specs.Prelude.{◌≡◌, ℕ, ◌^◌, ◌<◌, ◌+◌, ◌≤◌, length};
 ghost use Rattle.model.specs.Leafset.{size};
 ghost use Rattle.model.specs.Sets.{of_bits};

@@ -1,4 +1,6 @@
 // A span of words, moved, cleared or copied; all of a ring's, copied.
+#![tactic(auto)]
+
 ghost use Rattle.std.specs.Prelude.{◌≡◌, ◌+◌, ◌-◌, ◌≤◌, length, get_or};
 ghost use Rattle.model.specs.Words.{ring_length};
 ghost use Rattle.ring_ranges.specs.Spans.{Patched};

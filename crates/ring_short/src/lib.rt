@@ -1,4 +1,6 @@
 // The words of a ring that belong to word 0, a node, a pair or a message, side by side; and back at their places.
+#![tactic(auto)]
+
 ghost use Rattle.std.specs.Prelude.{◌≡◌, ℕ, ◌+◌, ◌-◌, ◌*◌, ◌<◌, ◌≤◌, length};
 ghost use Rattle.model.specs.Sets.{tabulate};
 ghost use Rattle.model.specs.Words.{ring_length, pair_place, at as word_of, size_in, count_in};

@@ -1,4 +1,6 @@
 // A set of nodes is a u64, "bit s for stand s".
+#![tactic(auto)]
+
 ghost use Rattle.std.specs.Prelude.{◌≡◌, not, ◌&&◌, ℕ, ◌<◌};
 ghost use Rattle.model.specs.Sets.{of_bits, count};
 ghost use Rattle.model.specs.Sets as model;

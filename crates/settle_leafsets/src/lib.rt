@@ -1,1 +1,2 @@
 // Leafsets as choices, and those of a ring at rest: definitions and theorems, no code.
+#![tactic(auto)]

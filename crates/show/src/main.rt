@@ -1,4 +1,6 @@
 // Draws the ring that standard input has as a short ring, as an SVG.
+#![tactic(auto)]
+
 ghost use Rattle.std.specs.Prelude.{◌≡◌, length};
 
 use libc::{STDIN_FILENO, STDOUT_FILENO};

@@ -1,4 +1,6 @@
 // Document 01's step 1: a contact, a notice, and message types 1 and 2.
+#![tactic(auto)]
+
 ghost use Rattle.std.specs.Prelude.{ℕ, ◌<◌, ◌^◌};
 ghost use Rattle.model.specs.Leafset.{Table};
 ghost use Rattle.model.specs.Structs.{own_of, RoomNode, message_of};

@@ -1,4 +1,6 @@
 // Deloopy: timer 4, and message types 11 and 12.
+#![tactic(auto)]
+
 ghost use Rattle.std.specs.Prelude.{ℕ, ◌<◌, length};
 ghost use Rattle.model.specs.Leafset.{Table};
 ghost use Rattle.model.specs.Structs.{table_of, own_of, message_of};

@@ -1,4 +1,6 @@
 // The step of a timer by its number, and of a delivered message by its type.
+#![tactic(auto)]
+
 ghost use Rattle.std.specs.Prelude.{ℕ, ◌<◌, ◌^◌, length};
 ghost use Rattle.model.specs.Structs.{table_of, own_of, message_of};
 ghost use Rattle.model.specs.Steps as steps;

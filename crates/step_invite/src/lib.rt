@@ -1,4 +1,6 @@
 // Document 01's step 2 with document 02's note 7: timer 0, and message types 3 to 6.
+#![tactic(auto)]
+
 ghost use Rattle.std.specs.Prelude.{ℕ, ◌<◌, ◌^◌, length};
 ghost use Rattle.model.specs.Leafset.{Table};
 ghost use Rattle.model.specs.Structs.{table_of, own_of, message_of};

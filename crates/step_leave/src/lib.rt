@@ -1,4 +1,6 @@
 // Document 02's note 4: what a node that leaves politely sends, and message type 13.
+#![tactic(auto)]
+
 ghost use Rattle.std.specs.Prelude.{ℕ, ◌≤◌, ◌<◌};
 ghost use Rattle.model.specs.Leafset.{Table, size};
 ghost use Rattle.model.specs.Structs.{own_of, RoomNode, message_of};

@@ -1,4 +1,6 @@
 // Document 01's step 4: timer 3, and message types 9 and 10.
+#![tactic(auto)]
+
 ghost use Rattle.std.specs.Prelude.{◌≡◌, not, ◌&&◌, ℕ, ◌<◌, ◌^◌, eqb, ltb, length};
 ghost use Rattle.model.specs.Sets.{of_bits, none_node};
 ghost use Rattle.model.specs.Leafset.{Table};

@@ -1,4 +1,6 @@
 // Document 01's step 3: timer 2, and message types 7 and 8.
+#![tactic(auto)]
+
 ghost use Rattle.std.specs.Prelude.{ℕ, ◌<◌, length};
 ghost use Rattle.model.specs.Leafset.{Table};
 ghost use Rattle.model.specs.Structs.{table_of, own_of, RoomNode, message_of, RoomMessage};

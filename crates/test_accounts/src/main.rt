@@ -1,5 +1,7 @@
 // Audits the scripts that the arguments name, and compares every byte of each account with the file of that name that
 // ends in .log.
+#![tactic(auto)]
+
 ghost use Rattle.std.specs.Prelude.{◌≡◌, ◌≤◌, length};
 
 use audit_session::turn::Session;

@@ -1,5 +1,7 @@
 // Runs the public calls by commands from standard input, and prints a line for each call. The file stdout has what
 // document 01 demands of them, by an implementation of its own (compare/README.md).
+#![tactic(auto)]
+
 mod ask;
 mod calls;
 mod command;

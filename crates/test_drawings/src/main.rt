@@ -1,5 +1,7 @@
 // Draws the rings of the scripts that the arguments name, and compares every byte with the file of that name that ends
 // in .svg.
+#![tactic(auto)]
+
 ghost use Rattle.std.specs.Prelude.{◌≡◌, ◌≤◌, length};
 
 // Draws: whether the drawing is just what is expected.

@@ -1,4 +1,6 @@
 // Files of a test: a script and what is expected of it have one name, and endings of their own.
+#![tactic(auto)]
+
 ghost use Rattle.std.specs.Prelude.{◌≤◌, length};
 
 use libc::STDOUT_FILENO;

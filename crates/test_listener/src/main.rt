@@ -1,5 +1,7 @@
 // Makes the listener's calls by commands from standard input, and prints a line for each call. The file stdout has what
 // document 02's note 13 demands of them, by an implementation of its own (compare/README.md).
+#![tactic(auto)]
+
 mod command;
 
 use listener::Called;

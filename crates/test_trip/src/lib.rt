@@ -1,4 +1,6 @@
 // A script described, and its text assembled: whether the bytes of the script come back. For test programs.
+#![tactic(auto)]
+
 ghost use Rattle.std.specs.Prelude.{◌≡◌, true, ◌+◌, ◌-◌, ◌^◌, ◌≤◌, length};
 ghost use Rattle.text_assemble.specs.Chunks.{KeysBounded};
 ghost use Rattle.test_trip.specs.Trips.{Ready};

@@ -1,5 +1,7 @@
 // Plays the scripts that the arguments name, and compares every byte of what each prints with the file of that name
 // that ends in .out; and every byte of its text with the one that ends in .txt. Each has to come back from its text.
+#![tactic(auto)]
+
 mod texts;
 
 ghost use Rattle.std.specs.Prelude.{◌≡◌, ◌≤◌, length};

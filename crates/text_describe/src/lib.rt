@@ -1,4 +1,6 @@
 // The text of a script: the script comes in by chunks of bytes, and its text goes out by chunks.
+#![tactic(auto)]
+
 pub mod chunks;
 pub mod opening;
 

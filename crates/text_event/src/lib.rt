@@ -1,4 +1,6 @@
 // The text of a word of a script: its event, or its digits.
+#![tactic(auto)]
+
 ghost use Rattle.std.specs.Prelude.{◌≡◌, [], ◌∷◌, ◌++◌, ◌+◌, ◌≤◌, length};
 ghost use Rattle.model.specs.Events.{is_event_word};
 ghost use Rattle.model.specs.declared.event.Event.TheVariants.{Off, Timer, Deliver};

@@ -1,4 +1,6 @@
 // The text form of scripts: what its lines are, what a place of it expects, and how far a reader of it has come.
+#![tactic(auto)]
+
 use model::values::Sides;
 
 // The first words of lines, by number.

@@ -1,4 +1,6 @@
 // A reader of texts, byte by byte.
+#![tactic(auto)]
+
 mod line;
 mod token;
 

@@ -1,4 +1,6 @@
 // Whether the words of the messages read: message k is the five words from place base + 5 * k on.
+#![tactic(auto)]
+
 pub mod rests;
 pub mod senders;
 

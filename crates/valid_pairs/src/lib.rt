@@ -1,4 +1,6 @@
 // Whether the words of the pairs read, row by row.
+#![tactic(auto)]
+
 pub mod rows;
 pub mod short;
 

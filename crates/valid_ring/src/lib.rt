@@ -1,4 +1,6 @@
 // Whether lent words read as a ring.
+#![tactic(auto)]
+
 ghost use Rattle.std.specs.Prelude.{◌≡◌, length};
 ghost use Rattle.model.specs.Words.{ring_length, reads_as_ring};
 

@@ -1,4 +1,6 @@
 // Whether lent words read as a short ring.
+#![tactic(auto)]
+
 ghost use Rattle.std.specs.Prelude.{◌≡◌, true, ◌≤◌};
 ghost use Rattle.model.specs.Words.{at, size_in, count_in};
 ghost use Rattle.model.specs.Short.{reads_as_short};

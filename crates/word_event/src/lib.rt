@@ -1,4 +1,6 @@
 // Event words. Public: one read, and one written.
+#![tactic(auto)]
+
 pub mod word;
 
 ghost use Rattle.std.specs.Prelude.{◌≡◌};

@@ -1,5 +1,7 @@
 // The ring's words as types: kinds and message types, constructors and readers. Beside a kind, EMPTY is its word with
 // every named bit 0; a field that does not begin at bit 0 has the value of its lowest bit.
+#![tactic(auto)]
+
 pub mod limit;
 pub mod place;
 

@@ -5,5 +5,5 @@ use Rattle.sets.proofs.minus.Tie as tie
 returns : tie.Need-returns
 returns c = xor_minus c.args.a c.args.b
 
-pub minus-spec : {M : Type 1} → statement M
-minus-spec = tie.close (tie.spec returns)
+pub minus_spec : {M : Type 1} → statement M
+minus_spec = tie.close (tie.spec returns)

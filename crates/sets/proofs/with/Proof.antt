@@ -10,5 +10,5 @@ use Rattle.sets.proofs.with.Tie as tie
 returns : tie.Need-returns
 returns c = let a = c.before.args in ap (λ (w : ℕ). of_bits (bit_or a.set w)) (shift_one a.x.0 c.before.requires) ∙ or_with a.set a.x.0
 
-pub with-spec : {M : Type 1} → statement M
-with-spec = tie.close (tie.spec (λ c. search rules) (λ c. search rules) returns)
+pub with_spec : {M : Type 1} → statement M
+with_spec = tie.close (tie.spec (λ c. search rules) (λ c. search rules) returns)

@@ -8,5 +8,5 @@ use Rattle.word_ring.proofs.HeadWord.sides.Tie as tie
 returns : tie.Need-returns
 returns c = ap₂ {C = Sides} (λ (ahead behind : ℕ). record { ahead = ahead; behind = behind }) (omega arith) (omega arith)
 
-pub sides-spec : {M : Type 1} → statement M
-sides-spec = tie.close (tie.spec returns)
+pub sides_spec : {M : Type 1} → statement M
+sides_spec = tie.close (tie.spec returns)

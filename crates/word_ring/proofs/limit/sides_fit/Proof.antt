@@ -5,5 +5,5 @@ use Rattle.word_ring.proofs.limit.sides_fit.Tie as tie
 returns : tie.Need-returns
 returns c = refl
 
-pub sides-fit-spec : {M : Type 1} → statement M
-sides-fit-spec = tie.close (tie.spec returns)
+pub sides_fit_spec : {M : Type 1} → statement M
+sides_fit_spec = tie.close (tie.spec returns)
