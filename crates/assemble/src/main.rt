@@ -15,7 +15,7 @@ use text_form::Reader;
 const MOST: u64 = 0x1000_0000_0000;
 
 // Whether the words were written to the temporary file, and the reader at the end of the text, or at its fault.
-#[derive(Drop)]
+#[derive(Clone, Copy)]
 struct Spooled {
     written: bool,
     reader: Reader,
@@ -61,7 +61,7 @@ fn spool_text(file: i32, bytes: &mut [u8], keys: &mut [u32], out: &mut [u8]) -> 
 }
 
 // What came of a part of the file: there may be more of it, it was at its end, or it was not written.
-#[derive(Drop)]
+#[derive(Clone, Copy)]
 enum Printed {
     More,
     All,

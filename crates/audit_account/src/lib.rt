@@ -5,7 +5,7 @@
 // from a running node. Since then: how many events were accepted that the promise does not cover, and whether an on, an
 // off or a wrong notice is among them. At how many events nodes were parted, and how many of these have such an event
 // in their verdict.
-#[derive(Drop)]
+#[derive(Clone, Copy)]
 pub struct Account {
     pub count: u64,
     pub point: u64,

@@ -15,7 +15,7 @@ use audit_account::Account;
 use model::answer::Answer;
 
 // The account after an event, the groups after it, and where its lines end.
-#[derive(Drop)]
+#[derive(Clone, Copy)]
 pub struct Audited {
     pub account: Account,
     pub groups: [u64; 64],

@@ -16,7 +16,7 @@ use audit_lines::Sight;
 use model::answer::Answer;
 use word_event::word::EventWord;
 
-#[derive(Drop)]
+#[derive(Clone, Copy)]
 pub struct Playing {
     pub answer: Answer,
     pub account: Account,
@@ -60,7 +60,7 @@ pub fn play(
 }
 
 // What is seen of a ring: its numbers, how many nodes it has, which of them run, and whether the promise may begin.
-#[derive(Drop)]
+#[derive(Clone, Copy)]
 pub struct View {
     pub sight: Sight,
     pub nodes: usize,

@@ -40,7 +40,7 @@ fn put_parted(
 }
 
 // The account with the parting, if there is one, and where its lines end.
-#[derive(Drop)]
+#[derive(Clone, Copy)]
 pub struct Told {
     pub account: Account,
     pub end: usize,

@@ -10,7 +10,7 @@ ghost use Rattle.audit_account.specs.Points as points;
 use word_ring::{MessageWord, mark, place};
 
 // How many are acknowledgements, and how many are of type 13, although their sender runs.
-#[derive(Drop)]
+#[derive(Clone, Copy)]
 pub struct Flight {
     pub acknowledgements: u32,
     pub leaves: u32,

@@ -25,7 +25,7 @@ const SPACE: u8 = 32;
 pub const MOST: u64 = 16;
 
 // How many messages are in flight, how many of them are acknowledgements, and how many groups there are.
-#[derive(Drop)]
+#[derive(Clone, Copy)]
 pub struct Sight {
     pub messages: u64,
     pub acknowledgements: u64,

@@ -8,7 +8,7 @@ use super::step;
 use super::turn::Session;
 
 // How many bytes were read, and the session after they were audited.
-#[derive(Drop)]
+#[derive(Clone, Copy)]
 pub struct NextAudited {
     pub read: usize,
     pub session: Session,

@@ -8,14 +8,14 @@ ghost use Rattle.bench_script.specs.Position.{next_at, after_at, read_at};
 
 // A script: the loaded words, and a position in them. Each function over it takes it apart, and leaves the work to one
 // on the slice and the number.
-#[derive(Drop)]
+#[derive(Clone, Copy)]
 pub struct Script<'a> {
     pub words: &'a [u32],
     pub at: usize,
 }
 
 // What stands at a script's position.
-#[derive(Drop)]
+#[derive(Clone, Copy)]
 pub enum Next {
     Word(u32),
     End,
@@ -67,7 +67,7 @@ fn after_at(words: &[u32], at: usize) -> usize
 }
 
 // What a script reads: what stands at its position, and the position after it.
-#[derive(Drop)]
+#[derive(Clone, Copy)]
 pub struct Reading {
     pub next: Next,
     pub after: usize,

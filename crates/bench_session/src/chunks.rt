@@ -8,7 +8,7 @@ use super::step;
 use super::turn::Session;
 
 // How many bytes were read, and the session after they were played.
-#[derive(Drop)]
+#[derive(Clone, Copy)]
 pub struct NextPlayed {
     pub read: usize,
     pub session: Session,

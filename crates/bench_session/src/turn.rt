@@ -10,7 +10,7 @@ use model::answer::Answer;
 
 // How a session stands: whether there is more to come, whether a ring is open, how many events were played, and where
 // the bytes end that the last chunk put out.
-#[derive(Drop)]
+#[derive(Clone, Copy)]
 pub struct Session {
     pub more: bool,
     pub opened: bool,

@@ -16,21 +16,21 @@ use model::answer::Answer;
 use model::values::NodeNumber;
 
 // "A refused leafset question returns the empty set", bit s for node s.
-#[derive(Drop)]
+#[derive(Clone, Copy)]
 pub struct LeafsetAnswer {
     pub answer: Answer,
     pub set: u64,
 }
 
 // A refused "connection question no".
-#[derive(Drop)]
+#[derive(Clone, Copy)]
 pub struct ConnectionAnswer {
     pub answer: Answer,
     pub connected: bool,
 }
 
 // The number of groups, 0 where refused.
-#[derive(Drop)]
+#[derive(Clone, Copy)]
 pub struct GroupsAnswer {
     pub answer: Answer,
     pub groups: u32,

@@ -14,7 +14,7 @@ use model::values::{Key, NodeNumber};
 use word_ring::limit;
 
 // The end node and the hop count are in the answer.
-#[derive(Drop)]
+#[derive(Clone, Copy)]
 pub struct Reached {
     pub answer: Answer,
     pub end: NodeNumber,
@@ -22,7 +22,7 @@ pub struct Reached {
 }
 
 // Where a walk ends, and after how many hops.
-#[derive(Drop)]
+#[derive(Clone, Copy)]
 struct End {
     node: NodeNumber,
     hops: u32,

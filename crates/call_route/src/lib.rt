@@ -13,7 +13,7 @@ use model::values::{Key, NodeNumber};
 use word_ring::limit;
 
 // "the end stand and the hop count are in the answer"
-#[derive(Drop)]
+#[derive(Clone, Copy)]
 pub struct Routed {
     pub answer: Answer,
     pub end: NodeNumber,
@@ -21,7 +21,7 @@ pub struct Routed {
 }
 
 // Where a walk ends, and at which place of the list.
-#[derive(Drop)]
+#[derive(Clone, Copy)]
 struct End {
     node: NodeNumber,
     place: usize,

@@ -23,13 +23,13 @@ use model::screen::{ConductorScreen, TechnicianScreen};
 use model::values::{NodeNumber, Sides};
 use word_ring::place;
 
-#[derive(Drop)]
+#[derive(Clone, Copy)]
 pub struct ConductorAnswer {
     pub answer: Answer,
     pub screen: ConductorScreen,
 }
 
-#[derive(Drop)]
+#[derive(Clone, Copy)]
 pub struct TechnicianAnswer {
     pub answer: Answer,
     pub screen: TechnicianScreen,
@@ -183,7 +183,7 @@ fn node_leafset(words: &[u32], keys: &[u32], sides: Sides, x: NodeNumber) -> u64
 }
 
 // Of each node, what a technician sees as a set.
-#[derive(Drop)]
+#[derive(Clone, Copy)]
 struct NodeSets {
     leafsets: [u64; 64],
     candidates: [u64; 64],

@@ -11,7 +11,7 @@ use model::answer::Answer;
 use word_ring::HeadWord;
 
 // The answer, and how many words were written.
-#[derive(Drop)]
+#[derive(Clone, Copy)]
 pub struct Shortened {
     pub answer: Answer,
     pub written: u32,

@@ -9,7 +9,7 @@ use super::{Point, TURN, point_at};
 pub const DISCS: u32 = 800;
 
 // The half of a curve that begins at a disc: its begin, its two control points, its end.
-#[derive(Drop)]
+#[derive(Clone, Copy)]
 pub struct Half {
     pub begin: Point,
     pub first: Point,

@@ -12,7 +12,7 @@ pub const TURN: u32 = 65_536;
 const QUARTER: u32 = TURN / 4;
 
 // A place on the drawing, from its left upper corner.
-#[derive(Drop)]
+#[derive(Clone, Copy)]
 pub struct Point {
     pub x: u32,
     pub y: u32,

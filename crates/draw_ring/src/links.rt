@@ -8,7 +8,7 @@ use draw_circle::curve::{Half, half_at};
 use model::values::NodeNumber;
 
 // A node, whom it holds, who of them lies outside its leafset, and its group.
-#[derive(Drop)]
+#[derive(Clone, Copy)]
 struct Holder {
     x: NodeNumber,
     held: u64,

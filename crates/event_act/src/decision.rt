@@ -13,14 +13,14 @@ use records::own;
 use word_ring::limit;
 
 // The message that is taken out first.
-#[derive(Drop)]
+#[derive(Clone, Copy)]
 pub enum Taken {
     Nothing,
     Message(usize),
 }
 
 // What becomes of the node.
-#[derive(Drop)]
+#[derive(Clone, Copy)]
 pub enum Becomes {
     Stays,
     Starts,
@@ -29,7 +29,7 @@ pub enum Becomes {
 }
 
 // A message taken out; then the node changed, its clock `time` where it rises; then messages sent by it.
-#[derive(Drop)]
+#[derive(Clone, Copy)]
 pub struct Change {
     pub taken: Taken,
     pub node: NodeNumber,
@@ -39,7 +39,7 @@ pub struct Change {
 }
 
 // An event's answer, and where it is accepted what is to be written.
-#[derive(Drop)]
+#[derive(Clone, Copy)]
 pub struct Decision {
     pub answer: Answer,
     pub change: Change,

@@ -16,7 +16,7 @@ use model::values::{NodeNumber, Stamp};
 use word_ring::limit;
 
 // A node of n, with m messages in flight: `time` is its "now", `own` its own record.
-#[derive(Drop)]
+#[derive(Clone, Copy)]
 pub struct Actor {
     pub n: usize,
     pub m: usize,

@@ -10,7 +10,7 @@ ghost use Rattle.leafset_nearest.specs.Span.{rank_of, span_of, span_to, Found};
 use model::values::{Key, NodeNumber};
 
 // What the nodes are ordered by: one of the two ways round, or the distance.
-#[derive(Drop)]
+#[derive(Clone, Copy)]
 pub enum Way {
     Clockwise,
     CounterClockwise,

@@ -15,14 +15,14 @@ use model::listener::ListenerRecord;
 use model::values::NodeNumber;
 
 // The answer, and the record that the call leaves.
-#[derive(Drop)]
+#[derive(Clone, Copy)]
 pub struct Called {
     pub answer: Answer,
     pub listener: ListenerRecord,
 }
 
 // The notices, bit s for node s, and the record that the tick leaves.
-#[derive(Drop)]
+#[derive(Clone, Copy)]
 pub struct Ticked {
     pub notices: u64,
     pub listener: ListenerRecord,
@@ -104,7 +104,7 @@ pub fn hear(listener: ListenerRecord, node: NodeNumber) -> Called
 }
 
 // What a tick makes of one node: its silence, and its bit where there is a notice for it.
-#[derive(Drop)]
+#[derive(Clone, Copy)]
 struct Counted {
     silence: u8,
     notice: u64,

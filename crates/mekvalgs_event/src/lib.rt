@@ -16,7 +16,7 @@ use word_ring::mark;
 
 // The kind; the node or the position; the other node, the timer, or 1 for a polite off or an echo; 0 where the event
 // has none of them.
-#[derive(Drop)]
+#[derive(Clone, Copy)]
 pub struct Parts {
     pub kind: u32,
     pub first: u32,
@@ -24,7 +24,7 @@ pub struct Parts {
 }
 
 // What reading an event word gives: the numbers are 0 where refused.
-#[derive(Drop)]
+#[derive(Clone, Copy)]
 pub struct PartsRead {
     pub answer: Answer,
     pub parts: Parts,

@@ -1,6 +1,6 @@
 // The answers of the calls.
 // Acceptance, or one of the refusals of documents 01 and 02.
-#[derive(Drop)]
+#[derive(Clone, Copy)]
 pub enum Answer {
     Accepted,
     WrongLength,

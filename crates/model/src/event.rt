@@ -3,7 +3,7 @@ use super::answer::Answer;
 use super::values::NodeNumber;
 
 // An event: the nodes, the timer or the message position that its word holds.
-#[derive(Drop)]
+#[derive(Clone, Copy)]
 pub enum Event {
     On(NodeNumber),
     // Whether it is polite.
@@ -17,14 +17,14 @@ pub enum Event {
 }
 
 // What reading an event word gives.
-#[derive(Drop)]
+#[derive(Clone, Copy)]
 pub enum Reading {
     Read(Event),
     Refused(Answer),
 }
 
 // What writing an event word gives: the word is 0 where refused.
-#[derive(Drop)]
+#[derive(Clone, Copy)]
 pub struct Writing {
     pub answer: Answer,
     pub word: u32,

@@ -1,5 +1,5 @@
 // What a listener keeps: which nodes are watched, bit s for node s; the silence and the window of each.
-#[derive(Drop)]
+#[derive(Clone, Copy)]
 pub struct ListenerRecord {
     pub watched: u64,
     pub silences: [u8; 64],

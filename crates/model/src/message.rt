@@ -2,7 +2,7 @@
 use super::values::{NodeNumber, Stamp};
 
 // The tag is document 01's type; the view is a set of bits, bit s for node s.
-#[derive(Drop)]
+#[derive(Clone, Copy)]
 pub struct MessageRecord {
     pub tag: u8,
     pub sender: NodeNumber,

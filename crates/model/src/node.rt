@@ -2,7 +2,7 @@
 use super::values::{NodeNumber, Stamp};
 
 // The held and the candidate nodes as sets of bits, bit s for node s; a spare and a commit stamp for every node.
-#[derive(Drop)]
+#[derive(Clone, Copy)]
 pub struct NodeRecord {
     pub held: u64,
     pub candidates: u64,

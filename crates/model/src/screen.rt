@@ -3,7 +3,7 @@ use super::values::Sides;
 
 // The conductor's: A and B, the number of nodes, which nodes run, bit s for node s; each node's key, and its leafset
 // where it runs.
-#[derive(Drop)]
+#[derive(Clone, Copy)]
 pub struct ConductorScreen {
     pub sides: Sides,
     pub nodes: u32,
@@ -13,7 +13,7 @@ pub struct ConductorScreen {
 }
 
 // The technician's, but for the stamps and spares, which are lent, and the messages.
-#[derive(Drop)]
+#[derive(Clone, Copy)]
 pub struct TechnicianScreen {
     pub conductor: ConductorScreen,
     pub candidates: [u64; 64],

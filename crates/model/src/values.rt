@@ -1,15 +1,15 @@
 // Keys, stamps, node numbers, A and B: numbers that are never mixed up.
 
 // A place on the ring of 16,777,216 places.
-#[derive(Drop)]
+#[derive(Clone, Copy)]
 pub struct Key(pub u32);
 
 // A value of one node's clock. It is compared only with stamps of the same clock.
-#[derive(Drop)]
+#[derive(Clone, Copy)]
 pub struct Stamp(pub u32);
 
 // The number of a node, document 01's stand; 64 is none.
-#[derive(Drop)]
+#[derive(Clone, Copy)]
 pub struct NodeNumber(pub u8);
 
 impl NodeNumber {
@@ -17,7 +17,7 @@ impl NodeNumber {
 }
 
 // How many nodes a leafset has on the sides of its own: A clockwise, B counter-clockwise.
-#[derive(Drop)]
+#[derive(Clone, Copy)]
 pub struct Sides {
     pub ahead: u32,
     pub behind: u32,

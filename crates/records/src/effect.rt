@@ -8,7 +8,7 @@ use model::message::MessageRecord;
 use model::node::NodeRecord;
 
 // A group of messages.
-#[derive(Drop)]
+#[derive(Clone, Copy)]
 pub enum Sends {
     Nothing,
     One(MessageRecord),
@@ -19,7 +19,7 @@ pub enum Sends {
 }
 
 // The messages of the first group come before those of the second.
-#[derive(Drop)]
+#[derive(Clone, Copy)]
 pub struct EffectRecord {
     pub own: NodeRecord,
     pub first: Sends,

@@ -5,7 +5,7 @@ use super::memory;
 use test_lines::digests;
 
 // What a call gives: the answer's number, and the value that comes with it, 0 where none does.
-#[derive(Drop)]
+#[derive(Clone, Copy)]
 pub struct Outcome {
     pub answer: u32,
     pub value: u64,

@@ -12,7 +12,7 @@ const NEWLINE: u8 = 10;
 
 // Six words: the number, a, b, c, d, and how many words of a buffer are lent to the call. A program looks at those that
 // it needs.
-#[derive(Drop)]
+#[derive(Clone, Copy)]
 pub struct Command {
     pub number: u32,
     pub a: u32,
@@ -22,7 +22,7 @@ pub struct Command {
     pub lent: u32,
 }
 
-#[derive(Drop)]
+#[derive(Clone, Copy)]
 pub enum Next {
     Command(Command),
     End,

@@ -18,7 +18,7 @@ const CHUNKS: u64 = 5;
 
 // How far a trip has come: the reader of the text, how many bytes of the script are back, and whether all that came
 // were the script's.
-#[derive(Drop)]
+#[derive(Clone, Copy)]
 pub struct Trip {
     pub reader: Reader,
     pub back: usize,

@@ -11,7 +11,7 @@ use text_form::{Reader, Step};
 use text_reader::NEWLINE;
 
 // The reader after what was read, and where the bytes end that were put.
-#[derive(Drop)]
+#[derive(Clone, Copy)]
 pub struct ChunkRead {
     pub reader: Reader,
     pub end: usize,
@@ -70,7 +70,7 @@ pub fn read_chunk(reader: Reader, bytes: &[u8], keys: &mut [u32], out: &mut [u8]
 }
 
 // How many bytes were read, the reader after them, and where the bytes end that were put.
-#[derive(Drop)]
+#[derive(Clone, Copy)]
 pub struct NextRead {
     pub read: usize,
     pub reader: Reader,

@@ -6,7 +6,7 @@ ghost use Rattle.text_describe.specs.Turns.{turn, Stepped};
 use super::{Session, step};
 
 // How many bytes were read, and the session after their text was put.
-#[derive(Drop)]
+#[derive(Clone, Copy)]
 pub struct NextDescribed {
     pub read: usize,
     pub session: Session,

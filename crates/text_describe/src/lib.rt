@@ -21,7 +21,7 @@ const NEWLINE: u8 = 10;
 
 // How a session stands: whether there is more to come, whether there was a chunk, whether the script opens a ring, and
 // where the text ends that the last chunk gave.
-#[derive(Drop)]
+#[derive(Clone, Copy)]
 pub struct Session {
     pub more: bool,
     pub started: bool,
@@ -30,7 +30,7 @@ pub struct Session {
 }
 
 // What the words of a chunk gave: whether the script opens a ring, and where their text ends.
-#[derive(Drop)]
+#[derive(Clone, Copy)]
 struct Given {
     opened: bool,
     end: usize,

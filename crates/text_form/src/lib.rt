@@ -35,7 +35,7 @@ pub mod command {
 }
 
 // What came before the line: nothing, the sides, some keys, the whole opening, or the tail.
-#[derive(Drop)]
+#[derive(Clone, Copy)]
 pub enum Stage {
     Start,
     Sides,
@@ -45,7 +45,7 @@ pub enum Stage {
 }
 
 // What is expected at a place: a line of some kind, a part of a line, or its end.
-#[derive(Drop)]
+#[derive(Clone, Copy)]
 pub enum Expected {
     Opening,
     Keys,
@@ -65,7 +65,7 @@ pub enum Expected {
 // How far a reader has come: the line, from 1; whether it stopped at a fault; whether it is in a comment; the token
 // that is not finished, 0 for none; the line's first word, by number, the place in the line, 0 before that word, and
 // the first part, once there is one; the sides, and how many keys there are.
-#[derive(Drop)]
+#[derive(Clone, Copy)]
 pub struct Reader {
     pub line: u64,
     pub fault: bool,
@@ -81,7 +81,7 @@ pub struct Reader {
 
 // What a byte of a text gives to the script: nothing, the words of the opening, a key for them, a word, or so many
 // bytes at the end.
-#[derive(Drop)]
+#[derive(Clone, Copy)]
 pub enum Given {
     Nothing,
     Opening,
@@ -91,7 +91,7 @@ pub enum Given {
 }
 
 // The reader after a byte, and what the byte gave.
-#[derive(Drop)]
+#[derive(Clone, Copy)]
 pub struct Step {
     pub reader: Reader,
     pub given: Given,

@@ -13,14 +13,14 @@ const NO_CANDIDATE: u32 = 0xFFFF_FFFF - PairWord::CANDIDATE;
 const HELD_FROM_1: u32 = PairWord::EMPTY + PairWord::HELD + 1;
 
 // What is seen of a row: whether it reads, and a guess whether the next one has no spare.
-#[derive(Drop)]
+#[derive(Clone, Copy)]
 pub struct Row {
     pub fits: bool,
     pub bare: bool,
 }
 
 // Of a run of pairs: how many fit, and which bits their second words have.
-#[derive(Drop)]
+#[derive(Clone, Copy)]
 pub struct Run {
     pub fit: u32,
     pub met: u32,

@@ -7,7 +7,7 @@ use model::event::Event;
 use model::values::NodeNumber;
 use word_ring::mark;
 
-#[derive(Drop)]
+#[derive(Clone, Copy)]
 pub struct EventWord(pub u32);
 
 impl EventWord {

@@ -23,7 +23,7 @@ pub fn mark(b: bool) -> u32
 
 // The first word: "table size n (1 to 64) in 4-10, message count m (0 to 1,024) in 11-21", "A in bits 0-3 and B in bits
 // 22-25".
-#[derive(Drop)]
+#[derive(Clone, Copy)]
 pub struct HeadWord(pub u32);
 
 impl HeadWord {
@@ -73,7 +73,7 @@ impl HeadWord {
 }
 
 // A node's first word: "key in 0-23, running in bit 24".
-#[derive(Drop)]
+#[derive(Clone, Copy)]
 pub struct KeyWord(pub u32);
 
 impl KeyWord {
@@ -104,7 +104,7 @@ impl KeyWord {
 }
 
 // A node's second word: "clock in 0-23".
-#[derive(Drop)]
+#[derive(Clone, Copy)]
 pub struct ClockWord(pub u32);
 
 impl ClockWord {
@@ -127,7 +127,7 @@ impl ClockWord {
 }
 
 // A pair's first word: "commit stamp in 0-23, held in 24, candidate in 25".
-#[derive(Drop)]
+#[derive(Clone, Copy)]
 pub struct PairWord(pub u32);
 
 impl PairWord {
@@ -169,7 +169,7 @@ impl PairWord {
 }
 
 // A pair's second word: "spare in 0-6, a stand or 64 for none".
-#[derive(Drop)]
+#[derive(Clone, Copy)]
 pub struct SpareWord(pub u32);
 
 impl SpareWord {
@@ -194,7 +194,7 @@ impl SpareWord {
 }
 
 // A message's first word: "type in 0-3, sender in 4-9, receiver in 10-15, subject in 16-22 (64 is none)".
-#[derive(Drop)]
+#[derive(Clone, Copy)]
 pub struct MessageWord(pub u32);
 
 impl MessageWord {
@@ -278,7 +278,7 @@ impl MessageWord {
 }
 
 // A message's second word: "a stamp in 0-23".
-#[derive(Drop)]
+#[derive(Clone, Copy)]
 pub struct StampWord(pub u32);
 
 impl StampWord {
@@ -301,7 +301,7 @@ impl StampWord {
 }
 
 // One of a message's last three words: a part of the view, "stands 0-23, 24-47, 48-63, lowest bit first".
-#[derive(Drop)]
+#[derive(Clone, Copy)]
 pub struct ViewWord(pub u32);
 
 impl ViewWord {

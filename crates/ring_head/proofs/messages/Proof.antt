@@ -7,5 +7,5 @@ use Rattle.ring_head.proofs.messages.Tie as tie
 returns : tie.Need-returns
 returns c = (c.messages.ensures ∙ sym (count_read _), search rules)
 
-pub messages-spec : {M : Type 1} → statement M
-messages-spec = tie.close (tie.spec (λ c. search rules) (λ c κs. search rules) (λ c. search rules) returns)
+pub messages_spec : {M : Type 1} → statement M
+messages_spec = tie.close (tie.spec (λ c. search rules) (λ c κs. search rules) (λ c. search rules) returns)

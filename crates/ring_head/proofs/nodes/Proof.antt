@@ -7,5 +7,5 @@ use Rattle.ring_head.proofs.nodes.Tie as tie
 returns : tie.Need-returns
 returns c = (c.nodes.ensures ∙ sym (size_read _), search rules)
 
-pub nodes-spec : {M : Type 1} → statement M
-nodes-spec = tie.close (tie.spec (λ c. search rules) (λ c κs. search rules) (λ c. search rules) returns)
+pub nodes_spec : {M : Type 1} → statement M
+nodes_spec = tie.close (tie.spec (λ c. search rules) (λ c κs. search rules) (λ c. search rules) returns)

@@ -7,5 +7,5 @@ returns : tie.Need-returns
 unfolding decode_table
 returns c = search rules
 
-pub sides-spec : {M : Type 1} → statement M
-sides-spec = tie.close (tie.spec (λ c. search rules) (λ c κs. search rules) returns)
+pub sides_spec : {M : Type 1} → statement M
+sides_spec = tie.close (tie.spec (λ c. search rules) (λ c κs. search rules) returns)

@@ -15,10 +15,10 @@ invariant-loop words from to met₀ i₀ met i = (from ≤ i) × (i ≤ to) × (
 abbrev decreases-loop : tie.decreases-loop
 decreases-loop words from to met₀ i₀ met i = to - i
 
-loop-holds : tie.Need-loop-init invariant-loop decreases-loop
+loop-holds : tie.Need-loop-i-init invariant-loop decreases-loop
 loop-holds c = (le_refl _, search rules, sym (clear_none _ _))
 
-loop-again : tie.Need-loop-preserved invariant-loop decreases-loop
+loop-again : tie.Need-loop-i-preserved invariant-loop decreases-loop
 loop-again c = let l = c.before.before.loop in (search rules, search rules, clear_more _ _ l.i l.met l.invariant.0 l.invariant.2)
 
 returns : tie.Need-returns invariant-loop decreases-loop

@@ -10,5 +10,5 @@ returns c =
     rw (c.sides_fit_lem.ensures, after_sides.sides.ensures, c.before.before.nodes.ensures, c.before.messages.ensures)
     (head_tests start.args.w)
 
-pub head-reads-spec : {M : Type 1} → statement M
-head-reads-spec = tie.close (tie.spec (λ c κs. search rules) (λ c κs. search rules) (λ c κs. search rules) (λ c κs. search rules) returns)
+pub head_reads_spec : {M : Type 1} → statement M
+head_reads_spec = tie.close (tie.spec (λ c κs. search rules) (λ c κs. search rules) (λ c κs. search rules) (λ c κs. search rules) returns)

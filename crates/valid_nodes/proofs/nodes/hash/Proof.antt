@@ -9,8 +9,8 @@ use Rattle.valid_nodes.proofs.nodes.hash.Tie as tie
 returns : tie.Need-returns
 returns c = ap hash_of (sym (lowest 24 (key_at c.before.args.words.now c.before.args.x)))
 
-pub hash-spec : {M : Type 1} → statement M
-hash-spec =
+pub hash_spec : {M : Type 1} → statement M
+hash_spec =
     tie.close
     (tie.spec
     (λ c. search rules) (λ c. search rules) (λ c. search rules) (λ c. search rules) (λ c. search rules)

@@ -19,11 +19,11 @@ invariant-loop words x key ok₀ y₀ ok y = (y ≤ x) × (ok ≡ all y (λ k. n
 abbrev decreases-loop : tie.decreases-loop
 decreases-loop words x key ok₀ y₀ ok y = x - y
 
-loop-holds : tie.Need-loop-init invariant-loop decreases-loop
+loop-holds : tie.Need-loop-y-init invariant-loop decreases-loop
 unfolding all
 loop-holds c = (search rules, refl)
 
-loop-again : tie.Need-loop-preserved invariant-loop decreases-loop
+loop-again : tie.Need-loop-y-preserved invariant-loop decreases-loop
 loop-again c =
     let l = c.before.before.loop in
     let ws = c.before.before.before.before.args.words.now in
@@ -40,8 +40,8 @@ returns c =
     let e : l.y ≡ c.before.before.before.args.x = omega arith in
     rw e at l.invariant.1
 
-pub key-is-new-spec : {M : Type 1} → statement M
-key-is-new-spec =
+pub key_is_new_spec : {M : Type 1} → statement M
+key_is_new_spec =
     tie.close
     (tie.spec
     invariant-loop decreases-loop (λ c. search rules) (λ c. search rules) (λ c. search rules) (λ c. search rules) loop-holds

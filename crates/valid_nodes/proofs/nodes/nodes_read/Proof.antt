@@ -22,11 +22,11 @@ invariant-loop words n keys₀ clocks₀ s₀ keys clocks s =
 abbrev decreases-loop : tie.decreases-loop
 decreases-loop words n keys₀ clocks₀ s₀ keys clocks s = n - s
 
-loop-holds : tie.Need-loop-init invariant-loop decreases-loop
+loop-holds : tie.Need-loop-s-init invariant-loop decreases-loop
 unfolding all
 loop-holds c = (search rules, refl, refl)
 
-loop-again : tie.Need-loop-preserved invariant-loop decreases-loop
+loop-again : tie.Need-loop-s-preserved invariant-loop decreases-loop
 loop-again c =
     let l = c.before.before.before.loop in
     let ws = c.before.before.before.before.args.words.now in (
@@ -44,8 +44,8 @@ returns c =
     let e : l.s ≡ a.n = omega arith in
     ap₂ ◌&&◌ (rw e at l.invariant.1) (rw e at l.invariant.2) ∙ nodes_tests a.words.now a.n
 
-pub nodes-read-spec : {M : Type 1} → statement M
-nodes-read-spec =
+pub nodes_read_spec : {M : Type 1} → statement M
+nodes_read_spec =
     tie.close
     (tie.spec
     invariant-loop decreases-loop loop-holds (λ c. search rules) (λ c. search rules) (λ c. search rules) (λ c. search rules)
