@@ -515,10 +515,6 @@ regions_read_lem ws long =
 
 -- ---- as the code joins the regions
 
--- a test that the code has passed
-pub passed : {r b : Bool} → r ≡ b → not r ≡ false → b ≡ true
-passed {r} e t = sym e ∙ not-false r t
-
 pub head_ranges : (w : ℕ) → head_reads w ≡ true → (1 ≤ bits 4 7 w) × (bits 4 7 w ≤ 64) × (bits 11 11 w ≤ 1024)
 unfolding head_reads
 head_ranges w e =
