@@ -2,13 +2,12 @@ use mathlib.Core.Bool.{◌&&◌}
 use mathlib.Core.Path.{ap, ap₂, sym, ◌∙◌}
 use Prim.Native.Nat.{ℕ}
 use native.Mathlib.Omega.{arith}
-use borrow.Author.Tests.{not-true}
 use Rattle.model.specs.Words.{at, node_place, message_place, decode_table, ring_length}
 use Rattle.valid_nodes.specs.Nodes.{clear, nodes_read}
 use Rattle.valid_pairs.specs.Pairs.{pairs_read}
 use Rattle.valid_messages.specs.Messages.{messages_read}
 use Rattle.valid_nodes.proofs.NodeTests.{size_is}
-use Rattle.valid_ring.proofs.Regions.{head_ranges, passed, head_fails, after_head}
+use Rattle.valid_ring.proofs.Regions.{head_ranges, head_fails, after_head}
 use Rattle.valid_ring.proofs.reads_as_ring.Goals as goal
 
 pub returns-then-not-head_reads : goal.returns-then-not-head_reads
