@@ -1,4 +1,5 @@
 -- The node's places are set; the others stay.
+use Rattle.std.proofs.Common.{rules}
 use Rattle.listener.proofs.Records.{room, restarts}
 use Rattle.listener.proofs.restarted.Goals as goal
 
@@ -6,7 +7,6 @@ pub returns : goal.returns
 returns c = record {
   value =
       let a = c.args in
-      let held = c.well_formed.0.1.1 in
-      restarts a.listener (room held.0.1 held.1.0.1.0.1 held.1.1.0.1.0.1)
-      a.watched a.node.0 a.window c.ranges.watched.fits c.requires.bounds;
+      let held = room a.listener (search rules) (search rules) (search rules) in
+      restarts a.listener held a.watched a.node.0 a.window c.ranges.watched.fits c.requires.bounds;
 }

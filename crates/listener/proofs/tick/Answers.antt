@@ -1,5 +1,4 @@
 use mathlib.Core.Path.{◌≡◌}
-use Prim.Native.Nat.{◌-◌}
 use native.Mathlib.Omega.{arith}
 use borrow.Author.Rules.{rules}
 use Rattle.model.specs.Listener.{Tick, notices_of, listener_of}
@@ -23,9 +22,9 @@ loop-s-preserved c =
 pub returns : goal.returns
 returns c =
     let l = c.loop-s in
-    let held = c.well_formed.0.1.1 in
+    let held = room c.args.listener (search rules) (search rules) (search rules) in
     let end : l.s ≡ 64 = omega arith in
     record {
       notices = rw end at l.invariant.1;
-      listener = ticks c.args.listener (room held.0.1 held.1.0.1.0.1 held.1.1.0.1.0.1) (rw end at l.invariant.2);
+      listener = ticks c.args.listener held (rw end at l.invariant.2);
     }

@@ -1,6 +1,6 @@
 -- After s nodes their notices are the bits, and their silences are counted.
 use mathlib.Core.Path.{◌≡◌}
-use Prim.Native.Nat.{◌-◌, ◌≤◌}
+use Prim.Native.Nat.{◌≤◌}
 use Rattle.model.specs.Sets.{to_bits}
 use Rattle.model.specs.Listener.{Tick, notices_of, listener_of}
 use Rattle.listener.proofs.Records.{Counting}
