@@ -23,10 +23,10 @@ returns : tie.Need-returns
 returns c =
     let span = c.before.before in
     let a = span.before.before.before.before.args in
-    copied a.second.now a.n a.k span.copy-span.ensures
+    copied a.second.now a.n a.k span.copy_span.ensures
 
-pub copy-nodes-spec : {M : Type 1} → statement M
-copy-nodes-spec =
+pub copy_nodes_spec : {M : Type 1} → statement M
+copy_nodes_spec =
     tie.close
     (tie.spec
     (λ c. search rules) (λ c. search rules) (λ c. search rules) (λ c κs. search rules) (λ c. search rules) returns)

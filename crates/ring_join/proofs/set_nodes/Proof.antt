@@ -20,8 +20,8 @@ returns c =
     ap (set a.words.now 0)
     (c.new.ensures ∙ ap₂ (λ (s : Sides) (m : ℕ). head_word s a.n m) sides.sides.ensures c.before.messages.ensures)
 
-pub set-nodes-spec : {M : Type 1} → statement M
-set-nodes-spec =
+pub set_nodes_spec : {M : Type 1} → statement M
+set_nodes_spec =
     tie.close
     (tie.spec
     (λ c. search rules) (λ c κs. search rules) (λ c. search rules) (λ c κs. search rules) new-requires

@@ -17,8 +17,8 @@ returns c =
     ap (set a.words.now 0)
     (c.new.ensures ∙ ap₂ (λ (s : Sides) (n : ℕ). head_word s n a.m) c.before.before.sides.ensures c.before.nodes.ensures)
 
-pub set-count-spec : {M : Type 1} → statement M
-set-count-spec =
+pub set_count_spec : {M : Type 1} → statement M
+set_count_spec =
     tie.close
     (tie.spec
     (λ c. search rules) (λ c κs. search rules) (λ c κs. search rules) (λ c. search rules)

@@ -13,5 +13,5 @@ returns c =
     let e : v % 0x100_0000 ≡ bits 0 24 v = omega arith in
     c.new.ensures ∙ ap view_word e
 
-pub view-word-spec : {M : Type 1} → statement M
-view-word-spec = tie.close (tie.spec (λ c. search rules) (λ c κs. search rules) returns)
+pub view_word_spec : {M : Type 1} → statement M
+view_word_spec = tie.close (tie.spec (λ c. search rules) (λ c κs. search rules) returns)

@@ -7,8 +7,8 @@ use Rattle.ring_nodes.proofs.clock.Tie as tie
 returns : tie.Need-returns
 returns c = c.clock.ensures ∙ sym (clock_read _ _ c.before.before.before.before.requires.1)
 
-pub clock-spec : {M : Type 1} → statement M
-clock-spec =
+pub clock_spec : {M : Type 1} → statement M
+clock_spec =
     tie.close
     (tie.spec
     (λ c. search rules) (λ c. search rules) (λ c. search rules) (λ c. search rules) (λ c. search rules)

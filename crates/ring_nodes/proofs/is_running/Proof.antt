@@ -7,8 +7,8 @@ use Rattle.ring_nodes.proofs.is_running.Tie as tie
 returns : tie.Need-returns
 returns c = c.running.ensures ∙ sym (running_read _ _ c.before.before.before.before.requires.1)
 
-pub is-running-spec : {M : Type 1} → statement M
-is-running-spec =
+pub is_running_spec : {M : Type 1} → statement M
+is_running_spec =
     tie.close
     (tie.spec
     (λ c. search rules) (λ c. search rules) (λ c. search rules) (λ c. search rules) (λ c. search rules)

@@ -8,5 +8,5 @@ returns : tie.Need-returns
 unfolding steps.contact
 returns c = λ t time n fits. c.replying.ensures n _ _ _ _ (unchanged fits) c.before.plain.ensures
 
-pub contact-spec : {M : Type 1} → statement M
-contact-spec = tie.close (tie.spec (λ c κs. search rules) (λ c κs. search rules) returns)
+pub contact_spec : {M : Type 1} → statement M
+contact_spec = tie.close (tie.spec (λ c κs. search rules) (λ c κs. search rules) returns)

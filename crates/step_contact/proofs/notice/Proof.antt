@@ -7,5 +7,5 @@ returns : tie.Need-returns
 unfolding steps.notice
 returns c = λ t me time n fits. c.quiet.ensures n _ _ _ (c.before.forget.ensures n fits)
 
-pub notice-spec : {M : Type 1} → statement M
-notice-spec = tie.close (tie.spec (λ c κs. search rules) (λ c κs. search rules) returns)
+pub notice_spec : {M : Type 1} → statement M
+notice_spec = tie.close (tie.spec (λ c κs. search rules) (λ c κs. search rules) returns)

@@ -7,5 +7,5 @@ returns : tie.Need-returns
 unfolding steps.on_pong_contact
 returns c = λ t me n fits low. c.quiet.ensures n _ _ _ (c.before.hold.ensures n fits low)
 
-pub on-pong-contact-spec : {M : Type 1} → statement M
-on-pong-contact-spec = tie.close (tie.spec (λ c κs. search rules) (λ c κs. search rules) returns)
+pub on_pong_contact_spec : {M : Type 1} → statement M
+on_pong_contact_spec = tie.close (tie.spec (λ c κs. search rules) (λ c κs. search rules) returns)

@@ -13,5 +13,5 @@ unfolding steps.leaving
 returns c = λ t me time few fits.
     c.sending.ensures _ me time _ _ (unchanged fits) (calls me time _ c.before.args.own.held _ few fits.held_within refl leave (lit< tt))
 
-pub leaving-spec : {M : Type 1} → statement M
-leaving-spec = tie.close (tie.spec (λ c κs. search rules) returns)
+pub leaving_spec : {M : Type 1} → statement M
+leaving_spec = tie.close (tie.spec (λ c κs. search rules) returns)

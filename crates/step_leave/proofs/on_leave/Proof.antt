@@ -7,5 +7,5 @@ returns : tie.Need-returns
 unfolding steps.on_leave
 returns c = λ t me time n fits. c.quiet.ensures n _ _ _ (c.before.forget.ensures n fits)
 
-pub on-leave-spec : {M : Type 1} → statement M
-on-leave-spec = tie.close (tie.spec (λ c κs. search rules) (λ c κs. search rules) returns)
+pub on_leave_spec : {M : Type 1} → statement M
+on_leave_spec = tie.close (tie.spec (λ c κs. search rules) (λ c κs. search rules) returns)

@@ -6,5 +6,5 @@ use Rattle.records.proofs.message.stamped.Tie as tie
 returns : tie.Need-returns
 returns c = record { message = rw nobody; room = search rules }
 
-pub stamped-spec : {M : Type 1} → statement M
-stamped-spec = tie.close (tie.spec returns)
+pub stamped_spec : {M : Type 1} → statement M
+stamped_spec = tie.close (tie.spec returns)

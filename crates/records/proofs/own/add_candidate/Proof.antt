@@ -8,8 +8,8 @@ returns c =
     let start = c.before.before in
     let a = start.args in
     let more = c.before.with.ensures in
-    λ n fits low. rw more at (c.set-candidates.ensures n fits
+    λ n fits low. rw more at (c.set_candidates.ensures n fits
     (within_with n a.own.candidates a.y.0 _ more low fits.candidates_within))
 
-pub add-candidate-spec : {M : Type 1} → statement M
-add-candidate-spec = tie.close (tie.spec (λ c κs. search rules) (λ c κs. search rules) returns)
+pub add_candidate_spec : {M : Type 1} → statement M
+add_candidate_spec = tie.close (tie.spec (λ c κs. search rules) (λ c κs. search rules) returns)

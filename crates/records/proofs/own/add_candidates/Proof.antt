@@ -8,8 +8,8 @@ returns c =
     let start = c.before.before in
     let a = start.args in
     let both = or_union a.own.candidates a.set in
-    λ n fits low. rw both at (c.set-candidates.ensures n fits
+    λ n fits low. rw both at (c.set_candidates.ensures n fits
     (within_union n a.own.candidates a.set _ both low fits.candidates_within))
 
-pub add-candidates-spec : {M : Type 1} → statement M
-add-candidates-spec = tie.close (tie.spec (λ c κs. search rules) returns)
+pub add_candidates_spec : {M : Type 1} → statement M
+add_candidates_spec = tie.close (tie.spec (λ c κs. search rules) returns)

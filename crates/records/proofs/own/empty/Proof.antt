@@ -26,5 +26,5 @@ returns c = λ n. record {
   candidates_within = within_none n;
 }
 
-pub empty-spec : {M : Type 1} → statement M
-empty-spec = tie.close (tie.spec returns)
+pub empty_spec : {M : Type 1} → statement M
+empty_spec = tie.close (tie.spec returns)

@@ -10,7 +10,7 @@ returns c =
     let start = c.before.before in
     let a = start.args in
     let less = c.before.without.ensures in
-    λ n fits. rw less at (c.set-held.ensures n fits (within_without n a.own.held a.z.0 _ less fits.held_within))
+    λ n fits. rw less at (c.set_held.ensures n fits (within_without n a.own.held a.z.0 _ less fits.held_within))
 
 pub release_spec : {M : Type 1} → statement M
 release_spec = tie.close (tie.spec (λ c κs. search rules) (λ c κs. search rules) returns)

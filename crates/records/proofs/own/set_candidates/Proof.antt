@@ -5,5 +5,5 @@ use Rattle.records.proofs.own.set_candidates.Tie as tie
 returns : tie.Need-returns
 returns c = λ n fits low. sets_changed fits c.args.own.held c.args.set fits.held_within low
 
-pub set-candidates-spec : {M : Type 1} → statement M
-set-candidates-spec = tie.close (tie.spec returns)
+pub set_candidates_spec : {M : Type 1} → statement M
+set_candidates_spec = tie.close (tie.spec returns)

@@ -9,5 +9,5 @@ returns c =
     let a = start.args in
     λ n fits. commit_changed fits a.z.0 start.requires.0 a.time start.requires.1
 
-pub set-commit-spec : {M : Type 1} → statement M
-set-commit-spec = tie.close (tie.spec (λ c. search rules) (λ c. search rules) (λ c. search rules) returns)
+pub set_commit_spec : {M : Type 1} → statement M
+set_commit_spec = tie.close (tie.spec (λ c. search rules) (λ c. search rules) (λ c. search rules) returns)

@@ -14,6 +14,6 @@ returns c =
     let commit = commit_changed held.fits a.z.0 start.requires.0 a.commit start.requires.1 in
     then (set_spare a.z.0 64) commit (spare_changed commit.fits a.z.0 start.requires.0 (record { 0 = 64 }) (omega arith))
 
-pub set-held-spec : {M : Type 1} → statement M
-set-held-spec =
+pub set_held_spec : {M : Type 1} → statement M
+set_held_spec =
     tie.close (tie.spec (λ c. search rules) (λ c. search rules) (λ c. search rules) (λ c. search rules) returns)

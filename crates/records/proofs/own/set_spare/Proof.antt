@@ -9,5 +9,5 @@ returns c =
     let a = start.args in
     λ n fits. spare_changed fits a.z.0 start.requires.0 a.y start.requires.1
 
-pub set-spare-spec : {M : Type 1} → statement M
-set-spare-spec = tie.close (tie.spec (λ c. search rules) (λ c. search rules) returns)
+pub set_spare_spec : {M : Type 1} → statement M
+set_spare_spec = tie.close (tie.spec (λ c. search rules) (λ c. search rules) returns)

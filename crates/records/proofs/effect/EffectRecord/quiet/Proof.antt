@@ -12,5 +12,5 @@ returns c = λ n me time o p. record {
   second_fits = tt;
 }
 
-pub quiet-spec : {M : Type 1} → statement M
-quiet-spec = tie.close (tie.spec returns)
+pub quiet_spec : {M : Type 1} → statement M
+quiet_spec = tie.close (tie.spec returns)

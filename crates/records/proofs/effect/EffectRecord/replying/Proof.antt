@@ -9,5 +9,5 @@ returns : tie.Need-returns
 returns c = λ n me time o x p q.
     c.sending.ensures n me time o (x ∷ []) p (record { messages = ap (λ (m : Message). m ∷ []) q.message; fits = q.room })
 
-pub replying-spec : {M : Type 1} → statement M
-replying-spec = tie.close (tie.spec (λ c κs. search rules) returns)
+pub replying_spec : {M : Type 1} → statement M
+replying_spec = tie.close (tie.spec (λ c κs. search rules) returns)

@@ -12,5 +12,5 @@ returns c = λ n me time o ms p q. record {
   second_fits = tt;
 }
 
-pub sending-spec : {M : Type 1} → statement M
-sending-spec = tie.close (tie.spec returns)
+pub sending_spec : {M : Type 1} → statement M
+sending_spec = tie.close (tie.spec returns)

@@ -12,5 +12,5 @@ returns c = λ n me time o ms ns p q s. record {
   second_fits = s.fits;
 }
 
-pub sending-both-spec : {M : Type 1} → statement M
-sending-both-spec = tie.close (tie.spec returns)
+pub sending_both_spec : {M : Type 1} → statement M
+sending_both_spec = tie.close (tie.spec returns)

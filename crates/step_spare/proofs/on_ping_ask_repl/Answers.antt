@@ -1,0 +1,32 @@
+use mathlib.Core.Path.{ap, ◌∙◌}
+use Prim.Native.Nat.{◌^◌, ◌<◌}
+use native.Mathlib.Omega.{arith}
+use Rattle.model.specs.Leafset.{closest}
+use Rattle.model.specs.Structs.{table_of}
+use Rattle.model.specs.Sets.{of_bits}
+use Rattle.model.specs.Steps as steps
+use Rattle.records.proofs.Changes.{unchanged}
+use Rattle.leafset_choice.proofs.Spare.{closest_room}
+use Rattle.step_spare.proofs.on_ping_ask_repl.Goals as goal
+
+pub naming-requires : goal.naming-requires
+naming-requires c = record {
+  bounds =
+      let a = c.args in
+      let held = of_bits a.own.held in
+      let room : closest (table_of a.sides a.keys.now) a.me.0 held a.message.sender.0 < 2 ^ 7 =
+      closest_room a.sides a.keys.now a.me.0 held a.message.sender.0 c.requires.lent.table.few
+      in
+      (omega arith, omega arith, omega arith, omega (arith, c.closest-spare.ensures.value));
+}
+
+pub returns : goal.returns
+unfolding steps.on_ping_ask_repl
+returns c = record {
+  effect =
+      let a = c.args in
+      λ time. c.replying.ensures.effect _ _ _ _ _ (unchanged c.requires.lent.own_fits) (record {
+        message = c.naming.ensures.message.message ∙ ap (steps.naming 8 a.me.0 a.message.sender.0) c.closest-spare.ensures.value;
+        room = c.naming.ensures.message.room;
+      });
+}
