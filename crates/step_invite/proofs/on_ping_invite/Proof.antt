@@ -8,5 +8,5 @@ returns : tie.Need-returns
 unfolding steps.on_ping_invite
 returns c = λ t time n fits. c.replying.ensures n _ _ _ _ (unchanged fits) c.before.plain.ensures
 
-pub on-ping-invite-spec : {M : Type 1} → statement M
-on-ping-invite-spec = tie.close (tie.spec (λ c κs. search rules) (λ c κs. search rules) returns)
+pub on_ping_invite_spec : {M : Type 1} → statement M
+on_ping_invite_spec = tie.close (tie.spec (λ c κs. search rules) (λ c κs. search rules) returns)

@@ -5,7 +5,7 @@ use Rattle.step_invite.proofs.on_pong_ask_inv.Tie as tie
 
 returns : tie.Need-returns
 unfolding steps.on_pong_ask_inv
-returns c = λ t me time n fits low. c.quiet.ensures n _ _ _ (c.before.add-candidates.ensures n fits low)
+returns c = λ t me time n fits low. c.quiet.ensures n _ _ _ (c.before.add_candidates.ensures n fits low)
 
-pub on-pong-ask-inv-spec : {M : Type 1} → statement M
-on-pong-ask-inv-spec = tie.close (tie.spec (λ c κs. search rules) (λ c κs. search rules) returns)
+pub on_pong_ask_inv_spec : {M : Type 1} → statement M
+on_pong_ask_inv_spec = tie.close (tie.spec (λ c κs. search rules) (λ c κs. search rules) returns)
