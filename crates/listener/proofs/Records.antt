@@ -1,13 +1,13 @@
 -- A listener's record, with its 64 places, against the listener that it stands for.
 use mathlib.Core.Path.{◌≡◌, refl, sym, ap, ◌∙◌}
 use mathlib.Core.Bool.{Bool, true, false, not, ◌&&◌}
-use mathlib.Core.List.{List, map}
-use Prim.Native.Nat.{ℕ, suc, ◌+◌, ◌-◌, ◌*◌, ◌%◌, ◌^◌, ◌≤◌, ◌<◌}
+use mathlib.Core.List.{List}
+use Prim.Native.Nat.{ℕ, suc, ◌+◌, ◌*◌, ◌%◌, ◌^◌, ◌≤◌, ◌<◌}
 use native.Mathlib.Nat.{le_trans, pow-le-pow_right}
 use native.Mathlib.Numerals.{add-one}
 use native.Mathlib.Omega.{arith}
 use native.Mathlib.Decide.{ℕ_discrete}
-use lib.ListN.{length, get_or, set, replicate, length-set, length-map, length-replicate}
+use lib.ListN.{length, get_or, set, replicate, length-set, length-replicate}
 use lib.Seq.{get_or-set_same, get_or-set_other}
 use lib.Dec.{ltb, eqb, lit<}
 use mir.Val.{bool_byte}
@@ -42,9 +42,9 @@ pub record Room (q : ListenerRecord) : Type 0 where
   pub silences_long : length q.silences ≡ 64
   pub windows_long : length q.windows ≡ 64
 
--- the lengths, as a call has them of the record that it is given
-pub room : {q : ListenerRecord} → q.watched < 2 ^ 64 → length (map (λ v. v) q.silences) ≡ 64 → length (map (λ v. v) q.windows) ≡ 64 → Room q
-room w s v = record { watched_fits = w; silences_long = simp length-map at s; windows_long = simp length-map at v }
+-- as a call has it of the record that it is given
+pub room : (q : ListenerRecord) → q.watched < 2 ^ 64 → length q.silences ≡ 64 → length q.windows ≡ 64 → Room q
+room q w s v = record { watched_fits = w; silences_long = s; windows_long = v }
 
 pub whole : {p q : ListenerRecord} → p.watched ≡ q.watched → p.silences ≡ q.silences → p.windows ≡ q.windows → p ≡ q
 whole d e f = λ i. record { watched = d i; silences = e i; windows = f i }

@@ -6,7 +6,7 @@ use lib.Arith.{mod-mul}
 use lib.Bits.{bit_xor, bit_and, xor_zero_r, xor_self, xor_block}
 use Rattle.model.specs.Choice.{if◌then◌else◌, ◌⇒◌, every}
 use Rattle.model.specs.Sets.{Set, count, all, without}
-use Rattle.model.specs.Fields.{bits, flag}
+use Rattle.model.specs.Fields.{flag}
 use Rattle.model.specs.Words.{pair_word}
 use Rattle.model.specs.WellFormed.{nil, cons}
 use Rattle.model.proofs.Laws.{decide, is_false, same_test, every_in, every_out, all_in, all_out, count_le, count_all, count_cong, count_more}

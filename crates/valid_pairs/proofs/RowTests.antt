@@ -7,7 +7,7 @@ use lib.Bits.{bit_or, bit_xor, xor_shr, xor_mod, xor_zero_r}
 use borrow.Author.Tests.{eqb-false}
 use Rattle.model.specs.Choice.{if◌then◌else◌, ◌⇒◌, every}
 use Rattle.model.specs.Sets.{all}
-use Rattle.model.specs.Fields.{bits, bit, flag}
+use Rattle.model.specs.Fields.{bits, flag}
 use Rattle.model.specs.WellFormed.{nil, cons}
 use Rattle.model.specs.Words.{pair_word, spare_word}
 use Rattle.model.proofs.Laws.{and_left, and_right, and_in, or_left, clash, decide, is_false, not_in, not_out}

@@ -19,7 +19,7 @@ module _ (ws : List ℕ) where
 unfoldable pub link_reads : ℕ → ℕ → Bool
 link_reads clock w =
     every
-    (w == pair_word (bits 0 24 w) (flag 24 w) (flag 25 w)
+    ((w == pair_word (bits 0 24 w) (flag 24 w) (flag 25 w))
     ∷ (if flag 24 w then nat_lt 0 (bits 0 24 w) else (bits 0 24 w == 0))
     ∷ nat_le (bits 0 24 w) clock
     ∷ [])
@@ -28,7 +28,7 @@ link_reads clock w =
 unfoldable pub spare_reads : ℕ → ℕ → ℕ → ℕ → ℕ → Bool
 spare_reads n x z w p =
     every
-    (p == spare_word (bits 0 7 p)
+    ((p == spare_word (bits 0 7 p))
     ∷ (nat_lt (bits 0 7 p) n || bits 0 7 p == none_node)
     ∷ not (bits 0 7 p == x)
     ∷ not (bits 0 7 p == z)

@@ -44,7 +44,7 @@ apart b x z w = bit_xor w (if nat_eq x z then 0 else b)
 unfoldable pub link_fits : ℕ → ℕ → Bool
 link_fits clock u =
     every
-    (u / 2 ^ 26 == 0
+    ((u / 2 ^ 26 == 0)
     ∷ (if flag 24 u then nat_lt 0 (bits 0 24 u) else (bits 0 24 u == 0))
     ∷ nat_le (bits 0 24 u) clock
     ∷ [])

@@ -8,7 +8,7 @@ use mathlib.Core.Bool.{Bool, true, false, not, ◌&&◌, ◌||◌}
 use mathlib.Core.List.{List, [], ◌∷◌}
 use lib.ListN.{length, get_or}
 use lib.Dec.{ltb, leb, eqb, lit<}
-use borrow.Author.Tests.{eqb-true, eq-eqb, lt-ltb, le-ltb, leb-true, le-leb, not-false}
+use borrow.Author.Tests.{eqb-true, eq-eqb, lt-ltb, le-ltb, leb-true, le-leb}
 use Rattle.model.specs.Choice.{if◌then◌else◌, ◌⇒◌, every}
 use Rattle.model.specs.Sets.{all, none_node}
 use Rattle.model.specs.Leafset.{size, key}
@@ -514,10 +514,6 @@ regions_read_lem ws long =
     (λ e. reads_in ws (record { long = long; format = format ws e; fits = fits ws e }))
 
 -- ---- as the code joins the regions
-
--- a test that the code has passed
-pub passed : {r b : Bool} → r ≡ b → not r ≡ false → b ≡ true
-passed {r} e t = sym e ∙ not-false r t
 
 pub head_ranges : (w : ℕ) → head_reads w ≡ true → (1 ≤ bits 4 7 w) × (bits 4 7 w ≤ 64) × (bits 11 11 w ≤ 1024)
 unfolding head_reads

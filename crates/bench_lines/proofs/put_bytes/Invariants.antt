@@ -1,4 +1,5 @@
-use Rattle.std.proofs.Common.{length, ◌-◌}
+use Prim.Native.Nat.{◌-◌}
+use lib.ListN.{length}
 use Rattle.bench_lines.proofs.Puts.{Copied}
 use Rattle.bench_lines.proofs.put_bytes.Given as goal
 

@@ -7,7 +7,7 @@ use borrow.Author.Rules.{rules}
 use Rattle.listener.proofs.count.Statement.{statement}
 use Rattle.listener.proofs.count.Tie as tie
 
-add-next : tie.Need-overflow-add-next
+add-next : tie.Need-overflow_add-next
 add-next c =
     let a = c.args in
     record { fits = counted_fits (of_bits a.watched a.s) a.silence a.window (search rules) (search rules) }

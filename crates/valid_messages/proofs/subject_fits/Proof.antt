@@ -15,5 +15,5 @@ returns c t m e f g =
     (pick (between pong_ask_repl ping_deloopy tag)
     (ltb subject c.args.n || (eqb tag pong_ask_repl && eqb subject 64)) (eqb subject 64))
 
-pub subject-fits-spec : {M : Type 1} → statement M
-subject-fits-spec = tie.close (tie.spec returns)
+pub subject_fits_spec : {M : Type 1} → statement M
+subject_fits_spec = tie.close (tie.spec returns)

@@ -5,5 +5,5 @@ use Rattle.word_event.proofs.word.EventWord.is_timer.Tie as tie
 returns : tie.Need-returns
 returns c = refl
 
-pub is-timer-spec : {M : Type 1} → statement M
-is-timer-spec = tie.close (tie.spec returns)
+pub is_timer_spec : {M : Type 1} → statement M
+is_timer_spec = tie.close (tie.spec returns)

@@ -1,0 +1,9 @@
+use mathlib.Core.Path.{◌≡◌}
+use Prim.Native.Nat.{◌≤◌}
+use lib.Dec.{leb}
+use lib.ListN.{get_or}
+use Rattle.model.specs.Sets.{all}
+use Rattle.valid_messages.proofs.senders.none_above.Given as goal
+
+abbrev pub invariant-loop-x : goal.invariant-loop-x
+invariant-loop-x l = (l.x ≤ l.n) × (l.ok ≡ all l.x (λ y. leb (get_or l.counts y 0) l.most))

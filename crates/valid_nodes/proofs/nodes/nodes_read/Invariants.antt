@@ -1,0 +1,14 @@
+use mathlib.Core.Path.{◌≡◌}
+use Prim.Native.Nat.{◌≤◌, ◌/◌, ◌^◌}
+use lib.Dec.{eqb}
+use Rattle.model.specs.Words.{key_word, clock_word}
+use Rattle.model.specs.Sets.{all}
+use Rattle.model.specs.Fields.{bits, flag}
+use Rattle.valid_nodes.specs.Nodes.{key_at, clock_at}
+use Rattle.valid_nodes.proofs.nodes.nodes_read.Given as goal
+
+abbrev pub invariant-loop-s : goal.invariant-loop-s
+invariant-loop-s l =
+    (l.s ≤ l.n)
+    × (eqb (l.keys / 2 ^ 25) 0 ≡ all l.s (λ i. eqb (key_at l.words i) (key_word (bits 0 24 (key_at l.words i)) (flag 24 (key_at l.words i)))))
+    × (eqb (l.clocks / 2 ^ 24) 0 ≡ all l.s (λ i. eqb (clock_at l.words i) (clock_word (bits 0 24 (clock_at l.words i)))))
