@@ -1,7 +1,5 @@
 use Rattle.std.proofs.Common.{◌∙◌, arith}
-use borrow.Author.Tests.{not-true, not-false}
-use Rattle.model.specs.Fields.{flag}
-use Rattle.valid_nodes.specs.Nodes.{key_at}
+use borrow.Author.Tests.{eq-eqb, ne_eqb}
 use Rattle.valid_pairs.specs.Pairs.{run_reads}
 use Rattle.valid_pairs.proofs.PairTest.{count_whole}
 use Rattle.valid_pairs.proofs.ShortRows.{short_off, short_running}
@@ -12,7 +10,7 @@ returns-then-not-words-x c = record {
   value =
       let a = c.args in
       let ws = a.words.now in
-      c.nothing.ensures.value ∙ short_off ws a.n a.x a.row c.requires.words.3 c.requires.words.2 (not-true (flag 24 (key_at ws a.x)) c.if-not-words-x.true-raw);
+      c.nothing.ensures.value ∙ short_off ws a.n a.x a.row c.requires.words.3 c.requires.words.2 (ne_eqb _ 1 c.if-not-words-x.true);
 }
 
 pub returns : goal.returns
@@ -21,6 +19,6 @@ returns c = record {
       let a = c.args in
       let ws = a.words.now in
       short_running ws a.n a.x a.row c.requires.words.3 c.requires.words.2 c.fitting-before.result.fit c.fitting-after.result.fit (omega arith)
-      (not-false (flag 24 (key_at ws a.x)) c.if-not-words-x.false-raw)
+      (eq-eqb _ 1 c.if-not-words-x.false)
       (count_whole (run_reads ws a.n a.x a.row) a.x c.fitting-before.result.fit c.fitting-before.ensures.counted) c.fitting-after.ensures.counted;
 }
