@@ -95,8 +95,8 @@ walk-returns-2 t c =
     goes_further (decode start.args.words.now) start.args.key.0 start.args.x.0 (few _ start.requires.1.0.reads)
     after_next.next.ensures at_test.if1.false after-walk.walk.ensures
 
-pub +walk-spec : {M : Type 1} → statement M
-+walk-spec =
+pub +walk_spec : {M : Type 1} → statement M
++walk_spec =
     close μ-walk λ t.
     walk-lts.spec (next-reads.Asked, next-reads.Learnt, walk-below t, walk.Post) (walk_at t) walk.Post
     (walk-slice-write-list t) (walk-next-requires t) (walk-same-length t) (walk-returns t) (walk-add-walk t) (walk-walk-requires t)
