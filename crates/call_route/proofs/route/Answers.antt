@@ -77,7 +77,7 @@ overflow_cast-result c =
     record { fits = omega (arith, c.walk-last.ensures.walked.last) }
 
 pub shape_of-list : goal.shape_of-list
-shape_of-list c = c.walk-last.auto.1.1.1.1.1.0
+shape_of-list c = c.walk-last.auto.list
 
 pub returns : goal.returns
 returns c = record {
