@@ -2,11 +2,16 @@
 // word: the words wait in a temporary file until the text is read to its end.
 #![tactic(auto)]
 
-ghost use Rattle.std.specs.Prelude.{◌≡◌, ◌+◌, ◌^◌, ◌<◌, length};
+ghost use Rattle.std.specs.Prelude.{◌≡◌, ◌+◌, ◌^◌, ◌<◌, length, IfOk};
 ghost use Rattle.text_reader.specs.Bounds.{ReaderBounded};
 ghost use Rattle.text_assemble.specs.Chunks.{KeysBounded};
 
-use libc::{SEEK_SET, STDERR_FILENO, STDIN_FILENO, STDOUT_FILENO};
+use anyhow::{Context, Result};
+use std::fs::OpenOptions;
+use std::io::{ErrorKind, Read, Seek, Write};
+use std::os::unix::fs::OpenOptionsExt;
+use std::rt::Files;
+use std::{fs, io, process};
 use text_assemble::chunk::ChunkRead;
 use text_assemble::{chunk, fault};
 use text_form::Reader;
@@ -14,45 +19,45 @@ use text_form::Reader;
 // More chunks than any text has.
 const MOST: u64 = 0x1000_0000_0000;
 
-// Whether the words were written to the temporary file, and the reader at the end of the text, or at its fault.
-#[derive(Clone, Copy)]
-struct Spooled {
-    written: bool,
-    reader: Reader,
-}
+// The most names that are tried for the temporary file.
+const NAMES: u32 = 100_000;
 
-// The end of a text.
-fn spool_end(file: i32, reader: Reader, keys: &mut [u32], out: &mut [u8]) -> Spooled
+// The end of a text: its words are written to the temporary file. The reader at the end of the text, or at its fault.
+fn spool_end<F: Write>(
+    file: &mut F,
+    reader: Reader,
+    keys: &mut [u32],
+    out: &mut [u8],
+) -> Result<Reader>
     requires ready { ReaderBounded reader × KeysBounded keys.old × (reader.line + 1 < 2 ^ 64)
         × (length out.old ≡ 266240) }
-    ensures kind { result.reader.command < 13 }
+    ensures kind { IfOk result (λ closed. closed.command < 13) }
 {
     let last = chunk::close(reader, keys, out);
     let end = last.end;
     let closed = last.reader;
-    Spooled {
-        written: io::write_all(file, &out[..end]),
-        reader: closed,
-    }
+    file.write_all(&out[..end]).context("the temporary file")?;
+    Ok(closed)
 }
 
 // Reads chunk after chunk, and writes the words of each.
-fn spool_text(file: i32, bytes: &mut [u8], keys: &mut [u32], out: &mut [u8]) -> Spooled
+fn spool_text<R: Read, F: Write>(
+    input: &mut R,
+    file: &mut F,
+    bytes: &mut [u8],
+    keys: &mut [u32],
+    out: &mut [u8],
+) -> Result<Reader>
     requires ready { KeysBounded keys.old × (length bytes.old ≡ 1024) × (length out.old ≡ 266240) }
-    ensures kind { result.reader.command < 13 }
+    ensures kind { IfOk result (λ closed. closed.command < 13) }
 {
     let mut reader = text_reader::start();
     for _ in 0..MOST {
-        let next = chunk::read_next(STDIN_FILENO, reader, bytes, keys, out);
+        let next = chunk::read_next(input, reader, bytes, keys, out).context("standard input")?;
         let after = next.reader;
         reader = after;
         let end = next.end;
-        if !io::write_all(file, &out[..end]) {
-            return Spooled {
-                written: false,
-                reader,
-            };
-        }
+        file.write_all(&out[..end]).context("the temporary file")?;
         if (next.read < ChunkRead::CHUNK) | reader.fault {
             return spool_end(file, reader, keys, out);
         }
@@ -60,88 +65,68 @@ fn spool_text(file: i32, bytes: &mut [u8], keys: &mut [u32], out: &mut [u8]) -> 
     spool_end(file, reader, keys, out)
 }
 
-// What came of a part of the file: there may be more of it, it was at its end, or it was not written.
-#[derive(Clone, Copy)]
-enum Printed {
-    More,
-    All,
-    Failed,
-}
-
-// Copies the next part of the file to standard output.
-fn print_part(file: i32) -> Printed {
-    let mut bytes = io::large_buffer();
-    let read = io::read_full(file, &mut bytes);
-    if read == 0 {
-        return Printed::All;
-    }
-    if io::write_all(STDOUT_FILENO, &bytes[..read]) {
-        return Printed::More;
-    }
-    Printed::Failed
-}
-
-// Copies the file from its start to standard output. Whether all of it was written.
-fn print(file: i32) -> bool {
-    if libc::lseek(file, 0, SEEK_SET) != 0 {
-        return false;
-    }
-    for _ in 0..MOST {
-        let printed = print_part(file);
-        match printed {
-            Printed::More => {}
-            Printed::All => return true,
-            Printed::Failed => return false,
-        }
-    }
-    false
+// Copies the file from its start to standard output.
+fn print<F: Read + Seek, W: Write>(file: &mut F, output: &mut W) -> Result<()> {
+    file.rewind().context("the temporary file")?;
+    io::copy(file, output).context("standard output")?;
+    Ok(())
 }
 
 // What is wrong with the text.
-fn print_fault(reader: Reader)
+fn print_fault<E: Write>(reader: Reader, errors: &mut E) -> Result<()>
     requires kind { reader.command < 13 }
 {
     let mut line = [0u8; fault::ROOM];
     let end = fault::put_fault(reader, &mut line);
-    io::write_all(STDERR_FILENO, &line[..end]);
+    errors.write_all(&line[..end]).context("standard error")
 }
 
 // Assembles the text, with the words in the open temporary file until its end.
-fn run(file: i32) {
+fn run<R: Read, F: Read + Write + Seek, W: Write, E: Write>(
+    input: &mut R,
+    file: &mut F,
+    output: &mut W,
+    errors: &mut E,
+) -> Result<()> {
     let mut bytes = [0u8; ChunkRead::CHUNK];
     let mut keys = [0u32; ChunkRead::KEYS];
     let mut out = [0u8; ChunkRead::ROOM];
-    let spooled = spool_text(file, &mut bytes, &mut keys, &mut out);
-    let reader = spooled.reader;
-    if !spooled.written {
-        os::fail(b"the temporary file");
-        return;
-    }
+    let reader = spool_text(input, file, &mut bytes, &mut keys, &mut out)?;
     if reader.fault {
-        print_fault(reader);
-        return;
+        return print_fault(reader, errors);
     }
-    if !print(file) {
-        os::fail(b"standard output");
+    print(file, output)
+}
+
+// Makes a temporary file that has no name any more. No other process has a name with the number of this one, unless one
+// before it was ended at this place.
+fn temporary<R: Files + Alloc>(rt: &R, process: u32) -> io::Result<R::File> {
+    let mut options = OpenOptions::new();
+    options.read(true).write(true).create_new(true).mode(0o600);
+    let mut n = 0;
+    loop {
+        let name = format!(in rt.alloc(); "/tmp/mekvalgs.{process}.{n}")?;
+        match options.open(rt, name.as_str()) {
+            Ok(file) => {
+                fs::remove_file(rt, name.as_str())?;
+                return Ok(file);
+            }
+            Err(error) => {
+                if error.kind() != ErrorKind::AlreadyExists || n == NAMES {
+                    return Err(error);
+                }
+            }
+        }
+        n += 1;
     }
 }
 
-// Makes a temporary file that has no name any more; below 0 where that fails.
-fn temporary() -> i32 {
-    let mut name = *b"/tmp/mekvalgs.XXXXXX";
-    let file = os::create_temp(&mut name);
-    if file < 0 {
-        return file;
-    }
-    os::unlink(&name);
-    file
-}
-
-fn main() {
-    let file = temporary();
-    if file < 0 {
-        os::fail(b"the temporary file");
-        return;
-    }
-    run(file);
+fn main(rt: HostRuntime) -> Result<()> {
+    let mut file = temporary(&rt, process::id(rt.process())).context("the temporary file")?;
+    run(
+        &mut rt.stdin(),
+        &mut file,
+        &mut rt.stdout(),
+        &mut rt.stderr(),
+    )
 }

@@ -4,7 +4,6 @@ use mathlib.Core.Bool.{Bool, true, false}
 use mathlib.Core.List.{List, [], ◌∷◌, ◌++◌, map}
 use Prim.Native.Nat.{ℕ}
 use lib.Dec.{eqb}
-use Rattle.io.specs.Digits
 use Rattle.bench_lines.specs.Decimal
 use Rattle.text_form.specs.Ascii.{ascii}
 use Rattle.text_form.specs.Describe

@@ -3,7 +3,6 @@ use mathlib.Core.Path.{◌≡◌, refl}
 use mathlib.Core.Bool.{true, false}
 use mathlib.Core.List.{List, [], ◌∷◌, ◌++◌, map}
 use Prim.Native.Nat.{ℕ, ◌/◌, ◌%◌, ◌^◌}
-use Rattle.io.specs.Digits
 use Rattle.bench_lines.specs.Decimal
 use Rattle.text_form.specs.Ascii.{ascii}
 use Rattle.text_form.specs.Describe

@@ -1,5 +1,5 @@
 -- The account of a script: what each event leaves in it and prints.
-use Rattle.std.specs.Prelude.{ℕ, ◌+◌, ◌-◌, Bool, true, false, ◌&&◌, ◌||◌, List, [], ◌∷◌, ◌++◌, ltb, eqb, length, get_or}
+use Rattle.std.specs.Prelude.{ℕ, ◌+◌, ◌-◌, Bool, false, ◌&&◌, ◌||◌, List, [], ◌∷◌, ◌++◌, ltb, eqb, length, get_or}
 use Rattle.bench_lines.specs.Decimal.{decimal, newline}
 use Rattle.text_form.specs.Ascii.{ascii}
 use Rattle.text_form.specs.Describe.{word_text}

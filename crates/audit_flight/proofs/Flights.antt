@@ -2,16 +2,16 @@
 use mathlib.Core.Path.{◌≡◌, refl, sym, ap, ◌∙◌}
 use mathlib.Core.Bool.{Bool, true, false, ◌&&◌}
 use mathlib.Core.List.{List}
-use Prim.Native.Nat.{ℕ, suc, ◌+◌, ◌≤◌, ◌<◌}
+use Prim.Native.Nat.{ℕ, ◌+◌, ◌≤◌, ◌<◌}
 use native.Mathlib.Numerals.{add-one}
 use native.Mathlib.Omega.{arith}
 use lib.Dec.{eqb}
-use lib.ListN.{length, get_or}
+use lib.ListN.{length}
 use Rattle.model.specs.Choice.{if◌then◌else◌}
 use Rattle.model.specs.Fields.{bit, bits}
 use Rattle.model.specs.Sets.{Set, count}
 use Rattle.model.specs.Types.{pong_replace, leave}
-use Rattle.model.specs.Ring.{Ring, Message, blank, is_running, message_at}
+use Rattle.model.specs.Ring.{blank, is_running, message_at}
 use Rattle.model.specs.Words.{at, message_place, decode_message_at, decode_message, decode}
 use Rattle.model.proofs.Laws.{count_le, count_cong, length_tabulate, get_d_tabulate}
 use Rattle.audit_account.specs.Points.{is_acknowledgement, is_late_leave, acknowledgements, late_leaves}

@@ -1,4 +1,3 @@
-pub mod Apart
 pub mod Chunks
 pub mod Loads
 pub mod Sessions

@@ -1,11 +1,14 @@
 // The chunks of a script, from an open file.
-ghost use Rattle.std.specs.Prelude.{◌≡◌, ◌^◌, length, take};
+ghost use Rattle.std.specs.Prelude.{◌≡◌, ◌^◌, ◌<◌, length, take, IfOk, OnErr};
+ghost use Rattle.std.specs.Io.KnownBytes.{Consumes, IsAtEnd};
 ghost use Rattle.io.specs.Counts.{IsPrefixLen};
 ghost use Rattle.model.specs.Words.{decode};
 ghost use Rattle.bench_session.specs.Turns.{turn, Ready, Stepped};
 
 use super::step;
 use super::turn::Session;
+use std::io;
+use std::io::Read;
 
 // How many bytes were read, and the session after they were played.
 #[derive(Clone, Copy)]
@@ -15,25 +18,30 @@ pub struct NextPlayed {
 }
 
 // Reads the next chunk to the start of `bytes`, and plays just as many bytes as were read. What it prints is at the
-// start of `out`. How many are read, and which, no contract of `io` says: only that they have room.
-pub fn play_next(
-    file: i32,
+// start of `out`. The bytes are the file's next ones, and fewer than a chunk are its last. An error is one of reading,
+// before anything is played.
+pub fn play_next<R: Read>(
+    file: &mut R,
     session: Session,
     bytes: &mut [u8],
     words: &mut [u32],
     out: &mut [u8],
-) -> NextPlayed
+) -> io::Result<NextPlayed>
     requires session { Ready (2 ^ 63) session words.old × (length bytes.old ≡ 4096)
         × (length out.old ≡ 160000) }
-    ensures turn { Stepped
-        (turn session.opened session.count (decode words.old) (take result.read bytes.new))
-        words.new out.old out.new result.session }
-    ensures counts { IsPrefixLen result.read bytes.new × IsPrefixLen result.session.end out.new }
+    ensures turn { IfOk result (λ next. Stepped
+        (turn session.opened session.count (decode words.old) (take next.read bytes.new))
+        words.new out.old out.new next.session) }
+    ensures counts { IfOk result (λ next. IsPrefixLen next.read bytes.new × IsPrefixLen next.session.end out.new) }
+    ensures bytes { IfOk result (λ next. Consumes (R.remaining file.old) (R.remaining file.new)
+        (take next.read bytes.new)) }
+    ensures last { IfOk result (λ next. next.read < 4096 → IsAtEnd (R.remaining file.new)) }
+    ensures err { OnErr result ((words.new ≡ words.old) × (out.new ≡ out.old)) }
 {
-    let read = io::read_full(file, bytes);
+    let read = streams::read_full(file, bytes)?;
     let after = step(session, &bytes[..read], words, out);
-    NextPlayed {
+    Ok(NextPlayed {
         read,
         session: after,
-    }
+    })
 }

@@ -3,30 +3,37 @@
 
 ghost use Rattle.std.specs.Prelude.{◌≡◌, length};
 
-use libc::{STDIN_FILENO, STDOUT_FILENO};
+use std::io;
+use std::io::{Read, Write};
 use text_describe::{Session, chunks};
 
 // More chunks than any script has.
 const MOST: u64 = 0x1000_0000_0000;
 
 // Describes chunk after chunk, and writes.
-fn run(bytes: &mut [u8], out: &mut [u8])
+fn run<R: Read, W: Write>(
+    input: &mut R,
+    output: &mut W,
+    bytes: &mut [u8],
+    out: &mut [u8],
+) -> io::Result<()>
     requires lengths { (length bytes.old ≡ 4096) × (length out.old ≡ 20000) }
 {
     let mut session = Session::new();
     for _ in 0..MOST {
-        let next = chunks::describe_next(STDIN_FILENO, session, bytes, out);
+        let next = chunks::describe_next(input, session, bytes, out)?;
         session = next.session;
         let end = session.end;
-        io::write_all(STDOUT_FILENO, &out[..end]);
+        output.write_all(&out[..end])?;
         if !session.more {
-            return;
+            return Ok(());
         }
     }
+    Ok(())
 }
 
-fn main() {
+fn main(rt: HostRuntime) -> io::Result<()> {
     let mut bytes = [0u8; Session::CHUNK];
     let mut out = [0u8; Session::ROOM];
-    run(&mut bytes, &mut out);
+    run(&mut rt.stdin(), &mut rt.stdout(), &mut bytes, &mut out)
 }

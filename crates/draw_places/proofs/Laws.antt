@@ -1,16 +1,13 @@
 -- One node more, in each of the loops.
-use mathlib.Core.Path.{◌≡◌, refl, sym, ap, ap₂, ◌∙◌}
-use mathlib.Core.Bool.{Bool, true, false}
-use mathlib.Core.List.{List, [], ◌∷◌, map}
-use Prim.Native.Nat.{ℕ, zero, suc, ◌+◌, ◌≤◌, ◌<◌, min, max}
-use native.Mathlib.Nat.{le_of_suc-le-suc, not-suc-le-zero}
+use mathlib.Core.Path.{◌≡◌, sym, ◌∙◌}
+use mathlib.Core.Bool.{true, false}
+use mathlib.Core.List.{List, map}
+use Prim.Native.Nat.{ℕ, ◌+◌, ◌≤◌, min, max}
 use native.Mathlib.Numerals.{add-one}
 use native.Mathlib.Omega.{arith}
-use lib.Dec.{ltb}
 use lib.ListN.{length, get_or, take, length-take, length-map}
 use lib.Seq.{ext_get_or, get_or-take}
 use Rattle.model.proofs.Laws.{map_at}
-use Rattle.model.specs.Choice.{if◌then◌else◌}
 use Rattle.model.specs.Sets.{Set, count}
 use Rattle.ring_head.proofs.Arrays.{Filled}
 use Rattle.draw_places.specs.Places.{lowest_of, greatest, behind}

@@ -1,7 +1,9 @@
 // The drawing of the ring that a script leaves. The script is played as the bench plays it; the lines are dropped.
 #![tactic(auto)]
 
-ghost use Rattle.std.specs.Prelude.{◌≡◌, ◌^◌, ◌≤◌, length};
+#![tactic(auto)]
+
+ghost use Rattle.std.specs.Prelude.{◌≡◌, ◌^◌, ◌≤◌, length, IfOk, OnErr};
 ghost use Rattle.io.specs.Counts.{IsPrefixLen};
 ghost use Rattle.model.specs.Words.{ring_length};
 ghost use Rattle.bench_session.specs.Turns.{Ready};
@@ -12,27 +14,34 @@ use bench_session::chunks;
 use bench_session::chunks::NextPlayed;
 use bench_session::turn::Session;
 use draw_svg::frame;
+use std::io;
+use std::io::Read;
 use word_ring::place;
 
 // More chunks than any script has.
 const MOST: u64 = 0x1000_0000_0000;
 
 // Plays the script of an open file, chunk after chunk. How the last one was played.
-fn play(file: i32, words: &mut [u32], bytes: &mut [u8], lines: &mut [u8]) -> NextPlayed
+fn play<R: Read>(
+    file: &mut R,
+    words: &mut [u32],
+    bytes: &mut [u8],
+    lines: &mut [u8],
+) -> io::Result<NextPlayed>
     requires words { (length words.old ≡ ring_length) × (length bytes.old ≡ 4096)
         × (length lines.old ≡ 160000) }
-    ensures session { Ready (2 ^ 63) result.session words.new }
-    ensures counts { IsPrefixLen result.read bytes.new × (length bytes.new ≡ 4096) }
+    ensures session { IfOk result (λ last. Ready (2 ^ 63) last.session words.new) }
+    ensures counts { IfOk result (λ last. IsPrefixLen last.read bytes.new × (length bytes.new ≡ 4096)) }
 {
     let mut session = Session::new();
     for _ in 0..MOST {
-        let next = chunks::play_next(file, session, bytes, words, lines);
+        let next = chunks::play_next(file, session, bytes, words, lines)?;
         session = next.session;
         if !session.more {
-            return next;
+            return Ok(next);
         }
     }
-    NextPlayed { read: 0, session }
+    Ok(NextPlayed { read: 0, session })
 }
 
 // The refusal of the opening by a script that begins with these bytes.
@@ -45,32 +54,34 @@ fn refusal(bytes: &[u8], words: &mut [u32]) -> u32
 }
 
 // Draws by the lent words, bytes and lines.
-fn draw_by(
-    file: i32,
+fn draw_by<R: Read>(
+    file: &mut R,
     words: &mut [u32],
     bytes: &mut [u8],
     lines: &mut [u8],
     out: &mut [u8],
-) -> usize
+) -> io::Result<usize>
     requires words { (length words.old ≡ ring_length) × (length bytes.old ≡ 4096)
         × (length lines.old ≡ 160000) × (1740000 ≤ length out.old) }
-    ensures room { Room out.old out.new 0 result 1740000 }
+    ensures room { IfOk result (λ end. Room out.old out.new 0 end 1740000) }
+    ensures err { OnErr result (out.new ≡ out.old) }
 {
-    let last = play(file, words, bytes, lines);
+    let last = play(file, words, bytes, lines)?;
     let session = last.session;
     if session.opened {
-        return draw_ring::put_ring(words, out);
+        return Ok(draw_ring::put_ring(words, out));
     }
     let read = last.read;
     let refusal = refusal(&bytes[..read], words);
-    frame::put_refusal(out, refusal)
+    Ok(frame::put_refusal(out, refusal))
 }
 
 // Puts the drawing of the ring that the script of an open file leaves, or of the refusal, at the start of `out`, and
-// answers where it ends.
-pub fn draw(file: i32, out: &mut [u8]) -> usize
+// answers where it ends. An error is one of reading the file, before anything is put.
+pub fn draw<R: Read>(file: &mut R, out: &mut [u8]) -> io::Result<usize>
     requires room { 1740000 ≤ length out.old }
-    ensures room { Room out.old out.new 0 result 1740000 }
+    ensures room { IfOk result (λ end. Room out.old out.new 0 end 1740000) }
+    ensures err { OnErr result (out.new ≡ out.old) }
 {
     let mut words = [0u32; place::LENGTH];
     let mut bytes = [0u8; Session::CHUNK];

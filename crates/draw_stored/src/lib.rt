@@ -7,6 +7,8 @@ ghost use Rattle.draw_svg.specs.Room.{Room};
 
 use bench_script::loading;
 use draw_svg::frame;
+use std::io;
+use std::io::Read;
 use word_ring::place;
 
 // One word more than any short ring has, so that a longer input is seen to be none.
@@ -41,12 +43,13 @@ fn draw_bytes(bytes: &[u8], out: &mut [u8]) -> usize
 }
 
 // Puts the drawing of the ring that an open file has as a short ring, or of the refusal, at the start of `out`, and
-// answers where it ends.
-pub fn draw(file: i32, out: &mut [u8]) -> usize
+// answers where it ends. An error is one of reading the file, before anything is put.
+pub fn draw<R: Read>(file: &mut R, out: &mut [u8]) -> io::Result<usize>
     requires room { 1740000 ≤ length out.old }
-    ensures room { Room out.old out.new 0 result 1740000 }
+    ensures room { IfOk result (λ end. Room out.old out.new 0 end 1740000) }
+    ensures err { OnErr result (out.new ≡ out.old) }
 {
     let mut bytes = [0u8; 4 * WORDS];
-    let read = io::read_full(file, &mut bytes);
-    draw_bytes(&bytes[..read], out)
+    let read = streams::read_full(file, &mut bytes)?;
+    Ok(draw_bytes(&bytes[..read], out))
 }

@@ -3,16 +3,17 @@
 
 ghost use Rattle.std.specs.Prelude.{◌≡◌, length};
 
-use libc::{STDIN_FILENO, STDOUT_FILENO};
+use std::io;
+use std::io::{Read, Write};
 
-fn run(out: &mut [u8])
+fn run<R: Read, W: Write>(input: &mut R, output: &mut W, out: &mut [u8]) -> io::Result<()>
     requires room { length out.old ≡ 1740000 }
 {
-    let end = draw_stored::draw(STDIN_FILENO, out);
-    io::write_all(STDOUT_FILENO, &out[..end]);
+    let end = draw_stored::draw(input, out)?;
+    output.write_all(&out[..end])
 }
 
-fn main() {
+fn main(rt: HostRuntime) -> io::Result<()> {
     let mut out = [0u8; draw_ring::ROOM];
-    run(&mut out);
+    run(&mut rt.stdin(), &mut rt.stdout(), &mut out)
 }

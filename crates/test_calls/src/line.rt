@@ -2,6 +2,8 @@
 ghost use Rattle.std.specs.Prelude.{◌≡◌, length};
 
 use super::memory;
+use std::io;
+use std::io::Write;
 use test_lines::digests;
 
 // What a call gives: the answer's number, and the value that comes with it, 0 where none does.
@@ -13,7 +15,13 @@ pub struct Outcome {
 
 // Prints the line of a call: the command's number, the answer, the value, how many words the call changed, and the
 // digest of all words after it.
-pub fn print(number: u32, outcome: Outcome, before: &[u32], words: &[u32])
+pub fn print<W: Write>(
+    output: &mut W,
+    number: u32,
+    outcome: Outcome,
+    before: &[u32],
+    words: &[u32],
+) -> io::Result<()>
     requires lengths { length before.now ≡ length words.now }
 {
     let changed = memory::differing(before, words);
@@ -25,5 +33,5 @@ pub fn print(number: u32, outcome: Outcome, before: &[u32], words: &[u32])
         changed,
         digest,
     ];
-    test_lines::print(&numbers);
+    test_lines::print(output, &numbers)
 }

@@ -2,6 +2,8 @@
 // document 01 demands of them, by an implementation of its own (compare/README.md).
 #![tactic(auto)]
 
+#![tactic(auto)]
+
 mod ask;
 mod calls;
 mod command;
@@ -14,6 +16,8 @@ mod shorts;
 
 ghost use Rattle.std.specs.Prelude.{◌≡◌, length};
 
+use std::io;
+use std::io::{Read, Write};
 use test_lines::{Command, Next};
 use word_ring::place;
 
@@ -24,7 +28,8 @@ const WORDS: usize = place::LENGTH + 1;
 const MOST: u32 = 1_000_000;
 
 // A call, with its line.
-fn call(
+fn call<W: Write>(
+    output: &mut W,
     command: Command,
     words: &mut [u32],
     list: &[u32],
@@ -33,7 +38,7 @@ fn call(
     third: &mut [u32],
     stamps: &mut [u32; 4096],
     spares: &mut [u8; 4096],
-)
+) -> io::Result<()>
     requires length { length words.old ≡ 13442 }
 {
     let mut before = [0u32; WORDS];
@@ -49,10 +54,11 @@ fn call(
         stamps,
         spares,
     );
-    line::print(command.number, outcome, &before, words);
+    line::print(output, command.number, outcome, &before, words)
 }
 
-fn run(
+fn run<W: Write>(
+    output: &mut W,
     command: Command,
     words: &mut [u32],
     list: &mut [u32],
@@ -61,7 +67,7 @@ fn run(
     third: &mut [u32],
     stamps: &mut [u32; 4096],
     spares: &mut [u8; 4096],
-)
+) -> io::Result<()>
     requires lengths { (length words.old ≡ 13442) × (length second.old ≡ 13442) × (length third.old ≡ 13442) }
 {
     let number = command.number;
@@ -73,11 +79,18 @@ fn run(
         command::KEEP => ring_ranges::copy(words, second),
         command::TAKE => ring_ranges::copy(third, words),
         command::FILL_SCREEN => memory::fill_all(stamps, spares, command.a, command.b),
-        _ => call(command, words, list, places, second, third, stamps, spares),
+        _ => {
+            return call(
+                output, command, words, list, places, second, third, stamps, spares,
+            );
+        }
     }
+    Ok(())
 }
 
-fn run_all(
+fn run_all<R: Read, W: Write>(
+    input: &mut R,
+    output: &mut W,
     words: &mut [u32],
     list: &mut [u32],
     places: &mut [u8],
@@ -85,22 +98,25 @@ fn run_all(
     third: &mut [u32],
     stamps: &mut [u32; 4096],
     spares: &mut [u8; 4096],
-)
+) -> io::Result<()>
     requires lengths { (length words.old ≡ 13442) × (length second.old ≡ 13442) × (length third.old ≡ 13442) }
 {
     for _ in 0..MOST {
-        let next = test_lines::read();
+        let next = test_lines::read(input)?;
         let Next::Command(command) = next else {
-            return;
+            return Ok(());
         };
-        run(command, words, list, places, second, third, stamps, spares);
+        run(
+            output, command, words, list, places, second, third, stamps, spares,
+        )?;
     }
+    Ok(())
 }
 
 // The list has keys, and after them a script; or a script alone. The places take the answers of its words, or the
 // nodes of a route. The second buffer is for previews and, with the third, for joins; the third takes short rings, too.
 // Stamps and spares are the technician's.
-fn main() {
+fn main(rt: HostRuntime) -> io::Result<()> {
     let mut words = [0u32; WORDS];
     let mut list = [0u32; 1200];
     let mut places = [0u8; 1040];
@@ -109,6 +125,8 @@ fn main() {
     let mut stamps = [0u32; 4096];
     let mut spares = [0u8; 4096];
     run_all(
+        &mut rt.stdin(),
+        &mut rt.stdout(),
         &mut words,
         &mut list,
         &mut places,
@@ -116,5 +134,5 @@ fn main() {
         &mut third,
         &mut stamps,
         &mut spares,
-    );
+    )
 }

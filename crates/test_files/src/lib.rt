@@ -3,48 +3,42 @@
 
 ghost use Rattle.std.specs.Prelude.{◌≤◌, length};
 
-use libc::STDOUT_FILENO;
-
-// The longest name.
-pub const NAME: usize = 100;
+use std::io::Read;
+use std::rt::Files;
+use std::{fs, io};
 
 // Opens the file of a name and an ending.
-pub fn open(name: &[u8], ending: &[u8; 4]) -> i32
-    requires lengths { length name.now ≤ 100 }
-{
-    let mut path = [0u8; 104];
-    let middle = bench_lines::put_bytes(&mut path, 0, name);
-    let end = bench_lines::put_bytes(&mut path, middle, ending);
-    os::open_read(&path[..end])
+pub fn open<R: Files + Alloc>(rt: &R, name: &str, ending: &str) -> io::Result<R::File> {
+    let path = format!(in rt.alloc(); "{name}{ending}")?;
+    fs::open(rt, path.as_str())
 }
 
 // Whether the bytes are the next ones of the file.
-pub fn are_next(file: i32, bytes: &[u8], room: &mut [u8]) -> bool
+pub fn are_next<R: Read>(file: &mut R, bytes: &[u8], room: &mut [u8]) -> io::Result<bool>
     requires lengths { length bytes.now ≤ length room.old }
 {
     let size = bytes.len();
-    let n = io::read_full(file, &mut room[..size]);
-    check::same(bytes, &room[..n])
+    let n = streams::read_full(file, &mut room[..size])?;
+    Ok(check::same(bytes, &room[..n]))
 }
 
 // Whether the file is at its end.
-pub fn is_at_end(file: i32) -> bool {
+pub fn is_at_end<R: Read>(file: &mut R) -> io::Result<bool> {
     let mut byte = [0u8; 1];
-    io::read_full(file, &mut byte) == 0
+    let n = streams::read_full(file, &mut byte)?;
+    Ok(n == 0)
 }
 
 // Prints the line of a script: whether it gave what is expected.
-pub fn print(name: &[u8], same: bool) {
-    io::write_all(STDOUT_FILENO, name);
+pub fn print(rt: &impl Print, name: &str, same: bool) -> io::Result<()> {
     if same {
-        io::write_all(STDOUT_FILENO, b" same\n");
+        println!(rt; "{name} same")
     } else {
-        io::write_all(STDOUT_FILENO, b" DIFFERS\n");
+        println!(rt; "{name} DIFFERS")
     }
 }
 
 // Prints how many gave what is expected.
-pub fn print_count(same: u64) {
-    io::print_decimal(STDOUT_FILENO, same);
-    io::write_all(STDOUT_FILENO, b" same\n");
+pub fn print_count(rt: &impl Print, same: u64) -> io::Result<()> {
+    println!(rt; "{same} same")
 }

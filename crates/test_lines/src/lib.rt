@@ -1,12 +1,15 @@
 // What the test programs share: commands from standard input, digests, and the lines that they print.
 #![tactic(auto)]
 
+#![tactic(auto)]
+
 pub mod digests;
 
 ghost use Rattle.std.specs.Prelude.{◌≤◌, length};
 
 use bench_script::loading;
-use libc::{STDIN_FILENO, STDOUT_FILENO};
+use std::io;
+use std::io::{Read, Write};
 
 const NEWLINE: u8 = 10;
 
@@ -29,30 +32,31 @@ pub enum Next {
 }
 
 // The next command of standard input.
-pub fn read() -> Next {
+pub fn read<R: Read>(input: &mut R) -> io::Result<Next> {
     let mut bytes = [0u8; 24];
-    if io::read_full(STDIN_FILENO, &mut bytes) < 24 {
-        return Next::End;
+    let read = streams::read_full(input, &mut bytes)?;
+    if read < 24 {
+        return Ok(Next::End);
     }
     let mut words = [0u32; 6];
     loading::load(&bytes, &mut words);
-    Next::Command(Command {
+    Ok(Next::Command(Command {
         number: words[0],
         a: words[1],
         b: words[2],
         c: words[3],
         d: words[4],
         lent: words[5],
-    })
+    }))
 }
 
 // Prints one to five numbers as a line.
-pub fn print(numbers: &[u64])
+pub fn print<W: Write>(output: &mut W, numbers: &[u64]) -> io::Result<()>
     requires count { (1 ≤ length numbers.now) × (length numbers.now ≤ 5) }
 {
     let mut out = [0u8; 105];
     let end = put(&mut out, numbers);
-    io::write_all(STDOUT_FILENO, &out[..end]);
+    output.write_all(&out[..end])
 }
 
 // Puts the numbers of a line at the start of `out`, and answers where they end.

@@ -2,11 +2,15 @@
 // document 02's note 13 demands of them, by an implementation of its own (compare/README.md).
 #![tactic(auto)]
 
+#![tactic(auto)]
+
 mod command;
 
 use listener::Called;
 use model::listener::ListenerRecord;
 use model::values::NodeNumber;
+use std::io;
+use std::io::Write;
 use test_lines::{Command, Next, digests};
 
 // More commands than any input has.
@@ -39,45 +43,62 @@ fn with_values(record: ListenerRecord, command: Command) -> ListenerRecord {
 }
 
 // The line has the command's number, the answer, the notices, and the digest of the record after the call.
-fn print(number: u32, answer: u32, notices: u64, record: ListenerRecord) {
+fn print<W: Write>(
+    output: &mut W,
+    number: u32,
+    answer: u32,
+    notices: u64,
+    record: ListenerRecord,
+) -> io::Result<()> {
     let watched = digests::digest_set(0, record.watched);
     let silences = digests::digest_bytes_on(watched, &record.silences);
     let digest = digests::digest_bytes_on(silences, &record.windows);
-    test_lines::print(&[number as u64, answer as u64, notices, digest]);
+    test_lines::print(output, &[number as u64, answer as u64, notices, digest])
 }
 
-fn called(number: u32, reply: Called) -> ListenerRecord {
+fn called<W: Write>(output: &mut W, number: u32, reply: Called) -> io::Result<ListenerRecord> {
     let answer = reply.answer;
-    print(number, answers::number(answer), 0, reply.listener);
-    reply.listener
+    print(output, number, answers::number(answer), 0, reply.listener)?;
+    Ok(reply.listener)
 }
 
 // A tick has no answer: 0 stands for it.
-fn ticked(number: u32, record: ListenerRecord) -> ListenerRecord {
+fn ticked<W: Write>(
+    output: &mut W,
+    number: u32,
+    record: ListenerRecord,
+) -> io::Result<ListenerRecord> {
     let reply = listener::tick(record);
-    print(number, 0, reply.notices, reply.listener);
-    reply.listener
+    print(output, number, 0, reply.notices, reply.listener)?;
+    Ok(reply.listener)
 }
 
-fn run(command: Command, record: ListenerRecord) -> ListenerRecord {
+fn run<W: Write>(
+    output: &mut W,
+    command: Command,
+    record: ListenerRecord,
+) -> io::Result<ListenerRecord> {
     let number = command.number;
     match number {
-        command::EMPTY => empty(),
-        command::WATCHED => with_watched(record, command.a, command.b),
-        command::VALUES => with_values(record, command),
-        command::WATCH => called(number, listener::watch(record, node(command.a))),
-        command::TICK => ticked(number, record),
-        _ => called(number, listener::hear(record, node(command.a))),
+        command::EMPTY => Ok(empty()),
+        command::WATCHED => Ok(with_watched(record, command.a, command.b)),
+        command::VALUES => Ok(with_values(record, command)),
+        command::WATCH => called(output, number, listener::watch(record, node(command.a))),
+        command::TICK => ticked(output, number, record),
+        _ => called(output, number, listener::hear(record, node(command.a))),
     }
 }
 
-fn main() {
+fn main(rt: HostRuntime) -> io::Result<()> {
+    let mut input = rt.stdin();
+    let mut output = rt.stdout();
     let mut record = empty();
     for _ in 0..MOST {
-        let next = test_lines::read();
+        let next = test_lines::read(&mut input)?;
         let Next::Command(command) = next else {
-            return;
+            return Ok(());
         };
-        record = run(command, record);
+        record = run(&mut output, command, record)?;
     }
+    Ok(())
 }

@@ -1,6 +1,9 @@
 // The texts of scripts.
-ghost use Rattle.std.specs.Prelude.{◌≡◌, ◌≤◌, length};
+ghost use Rattle.std.specs.Prelude.{◌≡◌, length};
 
+use std::io;
+use std::io::Read;
+use std::rt::Runtime;
 use text_assemble::chunk::ChunkRead;
 use text_describe::{Session, chunks};
 
@@ -8,49 +11,52 @@ use text_describe::{Session, chunks};
 const MOST: u64 = 0x1000_0000_0000;
 
 // Describes the script, chunk after chunk: whether it has just the text that is expected.
-fn compare(script: i32, expected: i32, bytes: &mut [u8], text: &mut [u8], room: &mut [u8]) -> bool
+fn compare<R: Read>(
+    script: &mut R,
+    expected: &mut R,
+    bytes: &mut [u8],
+    text: &mut [u8],
+    room: &mut [u8],
+) -> io::Result<bool>
     requires lengths { (length bytes.old ≡ 4096) × (length text.old ≡ 20000) × (length room.old ≡ 20000) }
 {
     let mut session = Session::new();
     for _ in 0..MOST {
-        let next = chunks::describe_next(script, session, bytes, text);
+        let next = chunks::describe_next(script, session, bytes, text)?;
         session = next.session;
         let end = session.end;
-        if !test_files::are_next(expected, &text[..end], room) {
-            return false;
+        if !test_files::are_next(expected, &text[..end], room)? {
+            return Ok(false);
         }
         if !session.more {
             return test_files::is_at_end(expected);
         }
     }
-    false
+    Ok(false)
 }
 
 // Describes the script of a name, and compares.
-pub fn run(name: &[u8]) -> bool
-    requires lengths { length name.now ≤ 100 }
-{
+pub fn run<R: Runtime>(rt: &R, name: &str) -> io::Result<bool> {
     let mut bytes = [0u8; Session::CHUNK];
     let mut text = [0u8; Session::ROOM];
     let mut room = [0u8; Session::ROOM];
-    let script = test_files::open(name, b".bin");
-    let expected = test_files::open(name, b".txt");
-    let same = compare(script, expected, &mut bytes, &mut text, &mut room);
-    libc::close(script);
-    libc::close(expected);
-    same
+    let mut script = test_files::open(rt, name, ".bin")?;
+    let mut expected = test_files::open(rt, name, ".txt")?;
+    compare(&mut script, &mut expected, &mut bytes, &mut text, &mut room)
 }
 
 // Whether the script of a name comes back from its text. Of a longer script that is its start.
-pub fn comes_back(name: &[u8]) -> bool
-    requires lengths { length name.now ≤ 100 }
-{
+pub fn comes_back<R: Runtime>(rt: &R, name: &str) -> io::Result<bool> {
     let mut bytes = [0u8; test_trip::SCRIPT];
     let mut text = [0u8; Session::ROOM];
     let mut keys = [0u32; ChunkRead::KEYS];
     let mut out = [0u8; ChunkRead::ROOM];
-    let script = test_files::open(name, b".bin");
-    let n = io::read_full(script, &mut bytes);
-    libc::close(script);
-    test_trip::comes_back(&bytes[..n], &mut text, &mut keys, &mut out)
+    let mut script = test_files::open(rt, name, ".bin")?;
+    let n = streams::read_full(&mut script, &mut bytes)?;
+    Ok(test_trip::comes_back(
+        &bytes[..n],
+        &mut text,
+        &mut keys,
+        &mut out,
+    ))
 }

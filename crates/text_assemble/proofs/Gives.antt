@@ -15,7 +15,7 @@ use Rattle.model.specs.Words.{head_word, key_word}
 use Rattle.model.specs.declared.values.Sides.{Sides}
 use Rattle.text_form.specs.Assemble.{word_bytes, key_bytes, tail_bytes, given_bytes, given_keys}
 use Rattle.text_form.specs.declared.Given.{Given}
-use Rattle.text_form.specs.declared.Given.TheVariants as goal
+use Rattle.text_form.specs.declared.Given.TheVariants as given
 use Rattle.text_reader.specs.Bounds.{GivenBounded}
 use Rattle.text_assemble.specs.Chunks.{KeysBounded, Gave}
 
@@ -42,7 +42,7 @@ keys_more ks i w h e =
 
 -- the words of the opening with the first n keys
 pub opening_bytes : (sides : Sides) (ks : List ℕ) (n w : ℕ) → n ≤ length ks → w ≡ head_word sides n 0
-    → word_bytes w ++ key_bytes (take n ks) ≡ given_bytes sides (take n ks) goal.Opening
+    → word_bytes w ++ key_bytes (take n ks) ≡ given_bytes sides (take n ks) given.Opening
 unfolding given_bytes
 opening_bytes sides ks n w h e = rw (e, length-take-le n ks h)
 
@@ -70,36 +70,36 @@ keys_kept : (n : ℕ) (ks : List ℕ) → take (n + 0) ks ≡ take n ks ++ []
 keys_kept n ks = ap (λ (m : ℕ). take m ks) (add-zero n) ∙ sym (append-nil (take n ks))
 
 module _ {g : Given} where
-  pub key_fits_lem : {k : ℕ} → g ≡ goal.Key k → GivenBounded g → k < 2 ^ 24
+  pub key_fits_lem : {k : ℕ} → g ≡ given.Key k → GivenBounded g → k < 2 ^ 24
   key_fits_lem e b = rw e at b.key
 
-  pub tail_fits : {k v : ℕ} → g ≡ goal.Tail k v → GivenBounded g → k ≤ 3
+  pub tail_fits : {k v : ℕ} → g ≡ given.Tail k v → GivenBounded g → k ≤ 3
   tail_fits e b = rw e at b.tail
 
-  pub room_for_key : {k : ℕ} (n : ℕ) → g ≡ goal.Key k → n + length (given_keys g) ≤ 64 → n < 64
+  pub room_for_key : {k : ℕ} (n : ℕ) → g ≡ given.Key k → n + length (given_keys g) ≤ 64 → n < 64
   unfolding given_keys
   room_for_key n e h = let l : n + 1 ≤ 64 = rw e at h in omega arith
 
   module _ {sides : Sides} {n : ℕ} {ks out : List ℕ} {at : ℕ} (bounded : KeysBounded ks) where
-    pub gave_nothing : g ≡ goal.Nothing → Gave g sides n ks ks out out at at
+    pub gave_nothing : g ≡ given.Nothing → Gave g sides n ks ks out out at at
     unfolding given_bytes given_keys
     gave_nothing e = rw e (record { put = put_none out at; keys = keys_kept n ks; bounded = bounded; room = omega arith })
 
-    pub gave_opening : {out' : List ℕ} {end : ℕ} → g ≡ goal.Opening → Put out out' at end (given_bytes sides (take n ks) goal.Opening) → end ≤ at + 260
+    pub gave_opening : {out' : List ℕ} {end : ℕ} → g ≡ given.Opening → Put out out' at end (given_bytes sides (take n ks) given.Opening) → end ≤ at + 260
         → Gave g sides n ks ks out out' at end
     unfolding given_keys
     gave_opening e p h = rw e (record { put = p; keys = keys_kept n ks; bounded = bounded; room = h })
 
-    pub gave_word : {w : ℕ} {out' : List ℕ} {end : ℕ} → g ≡ goal.Word w → Put out out' at end (word_bytes w) → Gave g sides n ks ks out out' at end
+    pub gave_word : {w : ℕ} {out' : List ℕ} {end : ℕ} → g ≡ given.Word w → Put out out' at end (word_bytes w) → Gave g sides n ks ks out out' at end
     unfolding given_bytes given_keys
     gave_word {w} e p = rw e (record { put = p; keys = keys_kept n ks; bounded = bounded; room = omega (arith, p.ends, word_length w) })
 
-    pub gave_tail : {k v : ℕ} {out' : List ℕ} {end : ℕ} → g ≡ goal.Tail k v → Put out out' at end (tail_bytes k v)
+    pub gave_tail : {k v : ℕ} {out' : List ℕ} {end : ℕ} → g ≡ given.Tail k v → Put out out' at end (tail_bytes k v)
         → end ≤ at + 3 → Gave g sides n ks ks out out' at end
     unfolding given_bytes given_keys
     gave_tail e p h = rw e (record { put = p; keys = keys_kept n ks; bounded = bounded; room = omega arith })
 
-    pub gave_key : {k : ℕ} → g ≡ goal.Key k → k < 2 ^ 24 → n < 64 → Gave g sides n ks (set ks n k) out out at at
+    pub gave_key : {k : ℕ} → g ≡ given.Key k → k < 2 ^ 24 → n < 64 → Gave g sides n ks (set ks n k) out out at at
     unfolding given_bytes given_keys
     gave_key {k} e h l =
         rw e

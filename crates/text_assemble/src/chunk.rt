@@ -1,5 +1,6 @@
 // A chunk of a text read, and the end of a text.
-ghost use Rattle.std.specs.Prelude.{◌≡◌, ◌+◌, ◌*◌, ◌^◌, ◌<◌, ◌≤◌, length, take};
+ghost use Rattle.std.specs.Prelude.{◌≡◌, ◌+◌, ◌*◌, ◌^◌, ◌<◌, ◌≤◌, length, take, IfOk, OnErr};
+ghost use Rattle.std.specs.Io.KnownBytes.{Consumes, IsAtEnd};
 ghost use Rattle.io.specs.Counts.{IsPrefixLen};
 ghost use Rattle.text_form.specs.Assemble.{byte_read, text_read, given_keys};
 ghost use Rattle.text_reader.specs.Bounds.{ReaderBounded, GivenBounded};
@@ -7,6 +8,8 @@ ghost use Rattle.text_assemble.specs.Chunks.{KeysBounded, StepPut, progress_of, 
 
 use super::put;
 use model::values::NodeNumber;
+use std::io;
+use std::io::Read;
 use text_form::{Reader, Step};
 use text_reader::NEWLINE;
 
@@ -77,31 +80,36 @@ pub struct NextRead {
     pub end: usize,
 }
 
-// Reads the next chunk of an open file to the start of `bytes`, and just as many bytes as were read. How many are read,
-// and which, no contract of `io` says: only that they have room.
-pub fn read_next(
-    file: i32,
+// Reads the next chunk of an open file to the start of `bytes`, and just as many bytes as were read. The bytes are the
+// file's next ones, and fewer than a chunk are its last. An error is one of reading the file, before anything is read of
+// the text.
+pub fn read_next<R: Read>(
+    file: &mut R,
     reader: Reader,
     bytes: &mut [u8],
     keys: &mut [u32],
     out: &mut [u8],
-) -> NextRead
+) -> io::Result<NextRead>
     requires ready { ReaderBounded reader × KeysBounded keys.old × (reader.line + 1024 < 2 ^ 64)
         × (length bytes.old ≡ 1024) × (length out.old ≡ 266240) }
-    ensures read { Reached
-        (text_read (progress_of reader keys.old) (take result.read bytes.new)) result.reader
-        keys.new out.old out.new result.end }
-    ensures counts { IsPrefixLen result.read bytes.new × IsPrefixLen result.end out.new
-        × (result.reader.line ≤ reader.line + 1024) }
+    ensures read { IfOk result (λ next. Reached
+        (text_read (progress_of reader keys.old) (take next.read bytes.new)) next.reader
+        keys.new out.old out.new next.end) }
+    ensures counts { IfOk result (λ next. IsPrefixLen next.read bytes.new × IsPrefixLen next.end out.new
+        × (next.reader.line ≤ reader.line + 1024)) }
+    ensures bytes { IfOk result (λ next. Consumes (R.remaining file.old) (R.remaining file.new)
+        (take next.read bytes.new)) }
+    ensures last { IfOk result (λ next. next.read < 1024 → IsAtEnd (R.remaining file.new)) }
+    ensures err { OnErr result ((keys.new ≡ keys.old) × (out.new ≡ out.old)) }
 {
-    let read = io::read_full(file, bytes);
+    let read = streams::read_full(file, bytes)?;
     let chunk = read_chunk(reader, &bytes[..read], keys, out);
     let after = chunk.reader;
-    NextRead {
+    Ok(NextRead {
         read,
         reader: after,
         end: chunk.end,
-    }
+    })
 }
 
 // The end of a text: of its last line, and of the whole.

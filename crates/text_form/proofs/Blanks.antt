@@ -13,7 +13,7 @@ use Rattle.model.specs.declared.values.Sides.{Sides}
 use Rattle.model.proofs.Laws.{clash, decide, if_law, or_case, or_left, or_right, or_none_left, or_none_right}
 use Rattle.text_form.specs.declared.Reader.{Reader}
 use Rattle.text_form.specs.declared.Step.{Step}
-use Rattle.text_form.specs.Assemble.{Progress, start, allowed, command_of, parts, expected_at, fits, hash, silent, after}
+use Rattle.text_form.specs.Assemble.{Progress, start, allowed, command_of, expected_at, fits, hash, silent, after}
 use Rattle.text_form.specs.Assemble.{begun, part_read, continued, stopped, token_ended, complete, line_ended, commented}
 use Rattle.text_form.specs.Assemble.{byte_read, given_bytes, given_keys, advanced, text_read, closed, assemble}
 use Rattle.text_form.proofs.Reading.{read_append, nothing}

@@ -20,11 +20,11 @@ use Rattle.text_form.specs.declared.Stage.{Stage}
 use Rattle.text_form.specs.declared.Stage.TheVariants as stage
 use Rattle.text_form.specs.declared.Expected.TheVariants as expected
 use Rattle.text_form.specs.declared.Given.{Given}
-use Rattle.text_form.specs.declared.Given.TheVariants as goal
+use Rattle.text_form.specs.declared.Given.TheVariants as given
 use Rattle.text_form.specs.Names.{sides_name, keys_name, on_name, off_name, leave_name, notice_name, contact_name}
 use Rattle.text_form.specs.Names.{timer_name, at_name, deliver_name, echo_name, lose_name, word_name, tail_name}
-use Rattle.text_form.specs.Assemble.{Progress, grown, packed, parts, place_of, allowed, is_later, stage_after, opens, command_of}
-use Rattle.text_form.specs.Assemble.{no_number, expected_at, value_of, fits, line_given, given_bytes, given_keys, word_bytes, text_read}
+use Rattle.text_form.specs.Assemble.{Progress, grown, packed, parts, place_of, allowed, is_later, stage_after, command_of}
+use Rattle.text_form.specs.Assemble.{no_number, expected_at, line_given, given_bytes, given_keys, word_bytes, text_read}
 use Rattle.text_form.specs.Describe.{event_text, raw_text}
 use Rattle.text_form.proofs.Tokens.{Plain, Spells, Written, decimal_written, digits_spell, digits_written, spelled_is, token_there}
 use Rattle.text_form.proofs.Reading.{reader, state, read_append, token_read, opened, first_word, Suits, middle_word, last_word}
@@ -122,7 +122,7 @@ at_suits = record { there = refl; fit = refl; value = refl }
 unfoldable pub unopened : Stage → Sides → List ℕ → List ℕ
 unopened stage.Start sides keys = []
 unopened stage.Sides sides keys = []
-unopened stage.Keys sides keys = given_bytes sides keys goal.Opening
+unopened stage.Keys sides keys = given_bytes sides keys given.Opening
 unopened stage.Events sides keys = []
 unopened stage.End sides keys = []
 
@@ -213,7 +213,7 @@ module _ (line : ℕ) (s : Stage) (c f : ℕ) (sides : Sides) (keys script : Lis
     pub leads : Leads start text (state (line + 1) 0 stage.Events command 0 first sides keys (script ++ unopened s sides keys ++ word_bytes w))
 
   given_by : {text : List ℕ} {d : ℕ} {w : ℕ} (first : ℕ) → leb 2 d ≡ true → stage_after d ≡ stage.Events
-      → Leads start text (state (line + 1) 0 (stage_after d) d 0 first sides keys (script ++ opened s d sides keys ++ given_bytes sides keys (goal.Word w)))
+      → Leads start text (state (line + 1) 0 (stage_after d) d 0 first sides keys (script ++ opened s d sides keys ++ given_bytes sides keys (given.Word w)))
       → Gives text w
   unfolding given_bytes
   given_by {text} {d} {w} first h e l = record { command = d; first = first; leads = rw (e, opened_is s d sides keys h) at l }
@@ -224,33 +224,33 @@ module _ (line : ℕ) (s : Stage) (c f : ℕ) (sides : Sides) (keys script : Lis
   raw_line w h ok =
       let r = digits_written 8 w (lit≤ tt) (lit≤ tt) h in
       given_by {d = 11} {w = w} w refl refl
-      (one_part line s c f sides keys script named.word_is ok refl (last_digits 16 8 w) w (goal.Word w) r.plain
+      (one_part line s c f sides keys script named.word_is ok refl (last_digits 16 8 w) w (given.Word w) r.plain
       (word_suits (last_digits 16 8 w) w r (digits_spell 8 w (lit≤ tt) h) h) refl refl refl)
 
   module _ (ok : Later s) where
     -- a line of one number
     one_number : {name : List ℕ} {d : ℕ} (n : Named name d) (v w : ℕ) → is_later d ≡ true → stage_after d ≡ stage.Events → (r : Written 10 8 (decimal v) v)
         → Suits (expected_at (reader line (packed 0 (decimal v)) (stage_after d) d 1 0 sides (length keys))) (packed 0 (decimal v)) v
-        → leb (length (parts d)) 1 ≡ true → line_given d 0 v (packed 0 (decimal v)) ≡ goal.Word w → Gives (name ++ spaced (v ∷ []) ++ newline ∷ []) w
+        → leb (length (parts d)) 1 ≡ true → line_given d 0 v (packed 0 (decimal v)) ≡ given.Word w → Gives (name ++ spaced (v ∷ []) ++ newline ∷ []) w
     unfolding given_keys
     one_number {d = d} n v w l e r h one is =
         given_by v (and_left (leb 2 d) _ l) e
         (rw (← one_more_lem v) (one_part line s c f sides keys script n (later_allowed ok (length keys) d l) (and_left (leb 2 d) _ l)
-        (decimal v) v (goal.Word w) r.plain h one is refl))
+        (decimal v) v (given.Word w) r.plain h one is refl))
 
     -- of two
     two_numbers : {name : List ℕ} {d : ℕ} (n : Named name d) (u v w : ℕ) → is_later d ≡ true → stage_after d ≡ stage.Events
         → (q : Written 10 8 (decimal u) u) (r : Written 10 8 (decimal v) v)
         → Suits (expected_at (reader line (packed 0 (decimal u)) (stage_after d) d 1 0 sides (length keys))) (packed 0 (decimal u)) u
         → Suits (expected_at (reader line (packed 0 (decimal v)) (stage_after d) d 2 u sides (length keys))) (packed 0 (decimal v)) v
-        → leb (length (parts d)) 1 ≡ false → leb (length (parts d)) 2 ≡ true → line_given d u v (packed 0 (decimal v)) ≡ goal.Word w
+        → leb (length (parts d)) 1 ≡ false → leb (length (parts d)) 2 ≡ true → line_given d u v (packed 0 (decimal v)) ≡ given.Word w
         → Gives (name ++ spaced (u ∷ v ∷ []) ++ newline ∷ []) w
     unfolding given_keys
     two_numbers {name} {d = d} n u v w l e q r h i more two is =
         given_by u (and_left (leb 2 d) _ l) e
         (rw (two_spaced u v, ← append_assoc name (space ∷ decimal u) (space ∷ decimal v))
         (two_parts line s c f sides keys script n (later_allowed ok (length keys) d l) (and_left (leb 2 d) _ l) (decimal u)
-        (decimal v) u v (goal.Word w) q.plain r.plain h i more two is refl))
+        (decimal v) u v (given.Word w) q.plain r.plain h i more two is refl))
 
     pub event_line : (e : Event) → parts_fit e ≡ true → Gives (event_text e ++ newline ∷ []) (word_of e)
     unfolding event_text stage_after expected_at line_given given_keys
@@ -286,7 +286,7 @@ module _ (line : ℕ) (s : Stage) (c f : ℕ) (sides : Sides) (keys script : Lis
         given_by {d = 7} {w = word_of (Timer x k)} k refl refl
         (rw (← one_more_lem x.0, ← one_more_lem k)
         (three_parts line s c f sides keys script named.timer_is (later_allowed ok (length keys) 7 refl) refl
-        (decimal k) at_name (decimal x.0) k 0 x.0 (goal.Word (word_of (Timer x k)))
+        (decimal k) at_name (decimal x.0) k 0 x.0 (given.Word (word_of (Timer x k)))
         v.plain (all_plain at_name at_plain) w.plain (timer_suits v i) at_suits (node_suits w h) refl refl refl))
     event_line (Deliver i false) t =
         let h : i < 1024 = ltb-true i 1024 t in

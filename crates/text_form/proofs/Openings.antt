@@ -15,10 +15,10 @@ use Rattle.model.specs.declared.values.Sides.{Sides}
 use Rattle.model.proofs.Laws.{decide, and_in}
 use Rattle.text_form.specs.declared.Stage.TheVariants as stage
 use Rattle.text_form.specs.declared.Expected.TheVariants as expected
-use Rattle.text_form.specs.declared.Given.TheVariants as goal
+use Rattle.text_form.specs.declared.Given.TheVariants as given
 use Rattle.text_form.specs.Names.{sides_name, keys_name}
-use Rattle.text_form.specs.Assemble.{Progress, packed, allowed, opens, stage_after, expected_at, value_of, fits}
-use Rattle.text_form.specs.Assemble.{line_given, given_bytes, given_keys, advanced, text_read, start}
+use Rattle.text_form.specs.Assemble.{Progress, packed, allowed, stage_after, expected_at}
+use Rattle.text_form.specs.Assemble.{line_given, given_bytes, given_keys, advanced, text_read}
 use Rattle.text_form.specs.Describe.{keys_text, opening_text}
 use Rattle.text_form.proofs.Tokens.{Plain, decimal_written, spelled_is, token_there}
 use Rattle.text_form.proofs.Reading.{reader, state, nothing, token_read, first_word, opened, Suits, by_blank, by_newline}
@@ -40,7 +40,7 @@ key_suits k h =
 
 key_given : (line place f k : ℕ) (p : Progress) (sides : Sides) (keys script : List ℕ)
     → p.keys ≡ keys → p.script ≡ script
-    → advanced p (record { reader = reader line 0 stage.Keys 1 place f sides (length keys + 1); goal = goal.Key k })
+    → advanced p (record { reader = reader line 0 stage.Keys 1 place f sides (length keys + 1); given = given.Key k })
     ≡ state line 0 stage.Keys 1 place f sides (keys ++ k ∷ []) script
 unfolding advanced given_keys given_bytes
 key_given line place f k p sides keys script e i =

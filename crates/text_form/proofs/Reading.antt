@@ -15,10 +15,10 @@ use Rattle.model.proofs.Laws.{or_right}
 use Rattle.text_form.specs.declared.Stage.{Stage}
 use Rattle.text_form.specs.declared.Expected.{Expected}
 use Rattle.text_form.specs.declared.Given.{Given}
-use Rattle.text_form.specs.declared.Given.TheVariants as goal
+use Rattle.text_form.specs.declared.Given.TheVariants as given
 use Rattle.text_form.specs.declared.Reader.{Reader}
 use Rattle.text_form.specs.Assemble.{Progress, grown, packed, parts, allowed, stage_after, opens, command_of, expected_at, value_of}
-use Rattle.text_form.specs.Assemble.{fits, line_given, hash, silent, after, begun, part_read, continued, token_ended, complete}
+use Rattle.text_form.specs.Assemble.{fits, line_given, hash, silent, begun, part_read, continued, token_ended, complete}
 use Rattle.text_form.specs.Assemble.{line_ended, grown_by, byte_read, given_bytes, given_keys, advanced, text_read}
 use Rattle.text_form.proofs.Tokens.{Plain}
 
@@ -76,10 +76,10 @@ module _ (line : ℕ) (s : Stage) (c place f : ℕ) (sides : Sides) (keys script
 
 -- the words of the opening, where the line is the first after the keys
 unfoldable pub opened : Stage → ℕ → Sides → List ℕ → List ℕ
-opened s c sides keys = if opens s c then given_bytes sides keys goal.Opening else []
+opened s c sides keys = if opens s c then given_bytes sides keys given.Opening else []
 
-opening_given : (b : Bool) (p : Progress) (r : Reader) → advanced p (record { reader = r; goal = if b then goal.Opening else goal.Nothing })
-    ≡ record { reader = r; keys = p.keys; script = p.script ++ (if b then given_bytes r.sides p.keys goal.Opening else []) }
+opening_given : (b : Bool) (p : Progress) (r : Reader) → advanced p (record { reader = r; given = if b then given.Opening else given.Nothing })
+    ≡ record { reader = r; keys = p.keys; script = p.script ++ (if b then given_bytes r.sides p.keys given.Opening else []) }
 unfolding advanced given_keys given_bytes
 opening_given true p r = rw (append-nil p.keys)
 opening_given false p r = rw (append-nil p.keys)
@@ -87,7 +87,7 @@ opening_given false p r = rw (append-nil p.keys)
 module _ (line : ℕ) (s : Stage) (c f : ℕ) (sides : Sides) (keys script : List ℕ) where
   begun_by : (t d : ℕ) → eqb t 0 ≡ false → command_of t ≡ d → allowed s (length keys) d ≡ true
       → byte_read (reader line t s c 0 f sides (length keys)) space
-      ≡ record { reader = reader line 0 (stage_after d) d 1 0 sides (length keys); goal = if opens s d then goal.Opening else goal.Nothing }
+      ≡ record { reader = reader line 0 (stage_after d) d 1 0 sides (length keys); given = if opens s d then given.Opening else given.Nothing }
   unfolding byte_read token_ended begun
   begun_by t d there is ok = rw (there, is, ok)
 
@@ -103,7 +103,7 @@ module _ (line : ℕ) (s : Stage) (c f : ℕ) (sides : Sides) (keys script : Lis
 
 -- a reader after the word t of value v, and what the word gave
 abbrev pub part_given : ℕ → ℕ → ℕ → ℕ → ℕ → Given
-part_given c place f v t = if leb (length (parts c)) place then line_given c f v t else goal.Nothing
+part_given c place f v t = if leb (length (parts c)) place then line_given c f v t else given.Nothing
 
 abbrev place_after : ℕ → ℕ → ℕ
 place_after c place = if eqb c 1 then 2 else place + 1
@@ -128,7 +128,7 @@ module _ (line t : ℕ) (s : Stage) (c place f : ℕ) (sides : Sides) (n v : ℕ
   part_ended : token_ended (reader line t s c place f sides n)
       ≡ record {
         reader = reader line 0 s c (place_after c place) (first_after place f v) (sides_after c place f v sides) (keys_after c n);
-        goal = part_given c place f v t;
+        given = part_given c place f v t;
       }
   unfolding token_ended continued part_read
   part_ended = rw (h.there, in-line, h.fit, h.value)
@@ -136,7 +136,7 @@ module _ (line t : ℕ) (s : Stage) (c place f : ℕ) (sides : Sides) (n v : ℕ
   pub by_blank : byte_read (reader line t s c place f sides n) space
       ≡ record {
         reader = reader line 0 s c (place_after c place) (first_after place f v) (sides_after c place f v sides) (keys_after c n);
-        goal = part_given c place f v t;
+        given = part_given c place f v t;
       }
   unfolding byte_read
   by_blank = part_ended
@@ -145,7 +145,7 @@ module _ (line t : ℕ) (s : Stage) (c place f : ℕ) (sides : Sides) (n v : ℕ
       → byte_read (reader line t s c place f sides n) newline
       ≡ record {
         reader = reader (line + 1) 0 s c 0 (first_after place f v) (sides_after c place f v sides) (keys_after c n);
-        goal = part_given c place f v t;
+        given = part_given c place f v t;
       }
   unfolding byte_read line_ended complete
   by_newline ok = rw (part_ended, ok)
@@ -153,7 +153,7 @@ module _ (line t : ℕ) (s : Stage) (c place f : ℕ) (sides : Sides) (n v : ℕ
 -- ---- events, words and tails
 
 -- what is given is no key
-pub not_a_key : (p : Progress) (r : Reader) (g : Given) → given_keys g ≡ [] → advanced p (record { reader = r; goal = g })
+pub not_a_key : (p : Progress) (r : Reader) (g : Given) → given_keys g ≡ [] → advanced p (record { reader = r; given = g })
     ≡ record { reader = r; keys = p.keys; script = p.script ++ given_bytes r.sides p.keys g }
 unfolding advanced
 not_a_key p r g e = rw (e, append-nil p.keys)

@@ -14,9 +14,9 @@ use Rattle.model.proofs.Lists.{each_append}
 use Rattle.text_form.specs.declared.Stage.{Stage}
 use Rattle.text_form.specs.declared.Stage.TheVariants as stage
 use Rattle.text_form.specs.declared.Expected.TheVariants as expected
-use Rattle.text_form.specs.declared.Given.TheVariants as goal
+use Rattle.text_form.specs.declared.Given.TheVariants as given
 use Rattle.text_form.specs.Assemble.{packed, allowed, stage_after, no_number, expected_at, pairs_of}
-use Rattle.text_form.specs.Assemble.{value_of, fits, line_given, given_bytes, given_keys, tail_bytes}
+use Rattle.text_form.specs.Assemble.{line_given, given_bytes, given_keys, tail_bytes}
 use Rattle.text_form.specs.Describe.{hex_bytes, tail_text}
 use Rattle.text_form.proofs.Tokens.{Plain, Spells, Written, no_digits, digits_plain, byte_more, spelled_is, token_there}
 use Rattle.text_form.proofs.Reading.{state, Suits}
@@ -120,5 +120,5 @@ module _ (line : ℕ) (s : Stage) (c f : ℕ) (sides : Sides) (keys script : Lis
   unfolding tail_text stage_after expected_at line_given given_keys given_bytes
   tail_line_lem b bs k v t =
       rw (opened_is s 12 sides keys refl, t.bytes) at
-      (one_part line s c f sides keys script named.tail_is ok refl (hex_bytes (b ∷ bs)) v (goal.Tail k v) (hex_plain (b ∷ bs))
-      t.suits refl (ap (λ (j : ℕ). goal.Tail j v) t.pairs) refl)
+      (one_part line s c f sides keys script named.tail_is ok refl (hex_bytes (b ∷ bs)) v (given.Tail k v) (hex_plain (b ∷ bs))
+      t.suits refl (ap (λ (j : ℕ). given.Tail j v) t.pairs) refl)

@@ -1,5 +1,5 @@
 -- The text of a script.
-use Rattle.std.specs.Prelude.{ℕ, zero, suc, ◌+◌, ◌*◌, ◌%◌, true, false, List, [], ◌∷◌, ◌++◌, eqb, length, drop}
+use Rattle.std.specs.Prelude.{ℕ, ◌+◌, ◌*◌, ◌%◌, true, false, List, [], ◌∷◌, ◌++◌, eqb, length, drop}
 use Rattle.io.specs.Digits.{last_digits}
 use Rattle.bench_lines.specs.Decimal.{space, newline, spaced}
 use Rattle.model.specs.Choice.{if◌then◌else◌}

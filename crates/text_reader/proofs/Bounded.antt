@@ -19,7 +19,7 @@ use Rattle.text_form.specs.declared.Stage.TheVariants as stage
 use Rattle.text_form.specs.declared.Expected.{Expected}
 use Rattle.text_form.specs.declared.Expected.TheVariants.{Opening, Keys, Event, NoLine, Side, Key, Node, Timer, At, Position, Word, Tail, LineEnd}
 use Rattle.text_form.specs.declared.Given.{Given}
-use Rattle.text_form.specs.declared.Given.TheVariants as goal
+use Rattle.text_form.specs.declared.Given.TheVariants as given
 use Rattle.text_form.specs.declared.Reader.{Reader}
 use Rattle.text_form.specs.declared.Step.{Step}
 use Rattle.text_reader.specs.Bounds.{bound, PartsBounded, ReaderBounded, GivenBounded}
@@ -162,17 +162,17 @@ pub record StepBounded (most : ℕ) (r : Reader) (s : Step) : Type 0 where
   pub reader : ReaderBounded s.reader
   pub line : s.reader.line ≤ most
   pub keys : s.reader.keys ≡ r.keys + length (given_keys s.given)
-  pub goal : GivenBounded s.given
+  pub given : GivenBounded s.given
 
-nothing_bounded : GivenBounded goal.Nothing
+nothing_bounded : GivenBounded given.Nothing
 nothing_bounded = record { key = omega arith; tail = omega arith }
 
-opening_bounded : GivenBounded goal.Opening
+opening_bounded : GivenBounded given.Opening
 opening_bounded = record { key = omega arith; tail = omega arith }
 
 silent_bounded : (most : ℕ) (r q : Reader) → ReaderBounded q → q.line ≤ most → q.keys ≡ r.keys → StepBounded most r (silent q)
 unfolding given_keys
-silent_bounded most r q b l k = record { reader = b; line = l; keys = k ∙ omega arith; goal = nothing_bounded }
+silent_bounded most r q b l k = record { reader = b; line = l; keys = k ∙ omega arith; given = nothing_bounded }
 
 pub stopped_bounded : (r : Reader) → ReaderBounded r → ReaderBounded (stopped r)
 unfolding stopped
@@ -193,8 +193,8 @@ allowed_known stage.Events k c h = let w = within 2 12 c h in omega arith
 allowed_known stage.End k c h = clash h refl
 
 -- the opening, or nothing
-opening_law : (P : Given → Type 0) (q : Bool) → P goal.Opening → P goal.Nothing → P (if q then goal.Opening else goal.Nothing)
-opening_law P q f g = if_law P q goal.Opening goal.Nothing (λ e. f) (λ e. g)
+opening_law : (P : Given → Type 0) (q : Bool) → P given.Opening → P given.Nothing → P (if q then given.Opening else given.Nothing)
+opening_law P q f g = if_law P q given.Opening given.Nothing (λ e. f) (λ e. g)
 
 begun_bounded : (r : Reader) (t : ℕ) → ReaderBounded r → StepBounded r.line r (begun r t)
 unfolding begun given_keys
@@ -212,7 +212,7 @@ begun_bounded r t b =
           };
       line = omega arith;
       keys = opening_law (λ (g : Given). r.keys ≡ r.keys + length (given_keys g)) (opens r.stage (command_of t)) (omega arith) (omega arith);
-      goal = opening_law GivenBounded (opens r.stage (command_of t)) opening_bounded nothing_bounded;
+      given = opening_law GivenBounded (opens r.stage (command_of t)) opening_bounded nothing_bounded;
     })
     (λ e. stops r b)
 
@@ -224,41 +224,41 @@ pairs_few t =
     (λ f. if_law (λ (n : ℕ). n ≤ 3) (leb (2 ^ 40) t && ltb t (2 ^ 48)) 3 0 (λ g. omega arith) (λ g. omega arith)))
 
 -- what holds of whatever a line can give
-line_law : (P : Given → Type 0) (c a v t : ℕ) → P goal.Nothing → (c ≡ 1 → P (goal.Key v)) → ((w : ℕ) → (c ≡ 1 → ⊥) → P (goal.Word w))
-    → ((c ≡ 1 → ⊥) → P (goal.Tail (pairs_of t) v)) → P (line_given c a v t)
+line_law : (P : Given → Type 0) (c a v t : ℕ) → P given.Nothing → (c ≡ 1 → P (given.Key v)) → ((w : ℕ) → (c ≡ 1 → ⊥) → P (given.Word w))
+    → ((c ≡ 1 → ⊥) → P (given.Tail (pairs_of t) v)) → P (line_given c a v t)
 unfolding line_given
 line_law P c a v t none key word tail =
-    if_law P (eqb c 0) goal.Nothing _ (λ e. none)
-    (λ e. if_law P (eqb c 1) (goal.Key v) _ (λ f. key (eqb-true c 1 f))
-    (λ f. if_law P (eqb c 11) (goal.Word v) _ (λ g. word v (eqb-false c 1 f))
-    (λ g. if_law P (eqb c 12) (goal.Tail (pairs_of t) v) (goal.Word (event_given c a v)) (λ h. tail (eqb-false c 1 f))
+    if_law P (eqb c 0) given.Nothing _ (λ e. none)
+    (λ e. if_law P (eqb c 1) (given.Key v) _ (λ f. key (eqb-true c 1 f))
+    (λ f. if_law P (eqb c 11) (given.Word v) _ (λ g. word v (eqb-false c 1 f))
+    (λ g. if_law P (eqb c 12) (given.Tail (pairs_of t) v) (given.Word (event_given c a v)) (λ h. tail (eqb-false c 1 f))
     (λ h. word (event_given c a v) (eqb-false c 1 f)))))
 
-one_key : (p a v t k : ℕ) → 1 ≤ p → k + 1 ≡ k + length (given_keys (if leb 1 p then line_given 1 a v t else goal.Nothing))
+one_key : (p a v t k : ℕ) → 1 ≤ p → k + 1 ≡ k + length (given_keys (if leb 1 p then line_given 1 a v t else given.Nothing))
 unfolding given_keys line_given
 one_key p a v t k h = rw (le-leb 1 p h)
 
-no_key : (c p a v t k : ℕ) → (c ≡ 1 → ⊥) → k ≡ k + length (given_keys (if leb (length (parts c)) p then line_given c a v t else goal.Nothing))
+no_key : (c p a v t k : ℕ) → (c ≡ 1 → ⊥) → k ≡ k + length (given_keys (if leb (length (parts c)) p then line_given c a v t else given.Nothing))
 unfolding given_keys
 no_key c p a v t k other =
-    if_law (λ (g : Given). k ≡ k + length (given_keys g)) (leb (length (parts c)) p) (line_given c a v t) goal.Nothing
+    if_law (λ (g : Given). k ≡ k + length (given_keys g)) (leb (length (parts c)) p) (line_given c a v t) given.Nothing
     (λ f.
     line_law (λ (g : Given). k ≡ k + length (given_keys g)) c a v t (omega arith) (λ d. absurd (other d)) (λ w d. omega arith)
     (λ d. omega arith))
     (λ f. omega arith)
 
 counted : (c p a v t k : ℕ) → 1 ≤ p
-    → (if eqb c 1 then k + 1 else k) ≡ k + length (given_keys (if leb (length (parts c)) p then line_given c a v t else goal.Nothing))
+    → (if eqb c 1 then k + 1 else k) ≡ k + length (given_keys (if leb (length (parts c)) p then line_given c a v t else given.Nothing))
 counted c p a v t k h =
     decide (eqb c 1) (λ e. rw (eqb-true c 1 e) (one_key p a v t k h)) (λ e. rw e (no_key c p a v t k (eqb-false c 1 e)))
 
 fitting_bounded : (r : Reader) (b : ReaderBounded r) (h : 1 ≤ r.place) (t : ℕ) → fits (expected_at r) t ≡ true → StepBounded r.line r
     (record {
       reader = part_read r (value_of (expected_at r) t);
-      goal =
+      given =
           if leb (length (parts r.command)) r.place
           then line_given r.command r.first (value_of (expected_at r) t) t
-          else goal.Nothing;
+          else given.Nothing;
     })
 unfolding part_read given_keys
 fitting_bounded r b h t fit =
@@ -266,8 +266,8 @@ fitting_bounded r b h t fit =
       reader = part_bounded r b h t fit;
       line = omega arith;
       keys = counted c r.place r.first v t r.keys h;
-      goal =
-          if_law GivenBounded (leb (length (parts c)) r.place) (line_given c r.first v t) goal.Nothing
+      given =
+          if_law GivenBounded (leb (length (parts c)) r.place) (line_given c r.first v t) given.Nothing
           (λ e.
           line_law GivenBounded c r.first v t nothing_bounded (λ f. record { key = bound_1 c v f (value_bounded r b h t fit); tail = omega arith })
           (λ w f. record { key = omega arith; tail = omega arith }) (λ f. record { key = omega arith; tail = pairs_few t }))
@@ -325,10 +325,10 @@ comment_changed r b =
 after_bounded : (r : Reader) (s : Step) (f : Reader → Reader) → StepBounded r.line r s
     → Changed s.reader (f s.reader) → StepBounded (r.line + 1) r (after s f)
 after_bounded r s f b c =
-    record { reader = c.reader; line = omega (arith, c.line, b.line); keys = c.keys ∙ b.keys; goal = b.given }
+    record { reader = c.reader; line = omega (arith, c.line, b.line); keys = c.keys ∙ b.keys; given = b.given }
 
 weaker : (r : Reader) (s : Step) → StepBounded r.line r s → StepBounded (r.line + 1) r s
-weaker r s b = record { reader = b.reader; line = omega (arith, b.line); keys = b.keys; goal = b.given }
+weaker r s b = record { reader = b.reader; line = omega (arith, b.line); keys = b.keys; given = b.given }
 
 grown_bounded : (r : Reader) (v : ℕ) → ReaderBounded r → StepBounded (r.line + 1) r (silent (grown_by r v))
 unfolding grown_by
@@ -366,7 +366,7 @@ closed_bounded r b = decide r.fault (λ e. subst (StepBounded r.line r) (closed_
     by_stage_lem stage.Sides g e = subst (StepBounded r.line r) (closed_sides r e g) (stops r b)
     by_stage_lem stage.Keys g e =
         subst (StepBounded r.line r) (closed_keys r e g)
-        (record { reader = b; line = omega arith; keys = omega arith; goal = opening_bounded })
+        (record { reader = b; line = omega arith; keys = omega arith; given = opening_bounded })
     by_stage_lem stage.Events g e = subst (StepBounded r.line r) (closed_events r e g) same
     by_stage_lem stage.End g e = subst (StepBounded r.line r) (closed_end r e g) same
 

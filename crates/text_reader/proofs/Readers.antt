@@ -10,7 +10,7 @@ use Rattle.text_form.specs.Assemble.{line_ended, commented, grown_by, after, tok
 use Rattle.text_form.specs.declared.Expected.{Expected}
 use Rattle.text_form.specs.declared.Reader.{Reader}
 use Rattle.text_form.specs.declared.Stage.TheVariants as stage
-use Rattle.text_form.specs.declared.Given.TheVariants as goal
+use Rattle.text_form.specs.declared.Given.TheVariants as given
 
 module _ (r : Reader) where
   pub line_at_fault : r.fault ≡ true → r ≡ line_ended r
@@ -77,7 +77,7 @@ module _ (r : Reader) where
     unfolding closed
     closed_sides e = rw (sound, e)
 
-    pub closed_keys : r.stage ≡ stage.Keys → record { reader = r; goal = goal.Opening } ≡ closed r
+    pub closed_keys : r.stage ≡ stage.Keys → record { reader = r; given = given.Opening } ≡ closed r
     unfolding closed
     closed_keys e = rw (sound, e)
 
@@ -111,7 +111,7 @@ module _ (r : Reader) (t : ℕ) (fit : fits (expected_at r) t ≡ true) where
   pub at_last : length (parts r.command) ≤ r.place
       → record {
         reader = part_read r (value_of (expected_at r) t);
-        goal = line_given r.command r.first (value_of (expected_at r) t) t;
+        given = line_given r.command r.first (value_of (expected_at r) t) t;
       } ≡ continued r t
   unfolding continued
   at_last h = rw (fit, le-leb (length (parts r.command)) r.place h)

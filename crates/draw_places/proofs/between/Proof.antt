@@ -8,6 +8,6 @@ returns : tie.Need-returns
 unfolding between_of
 returns c = (refl, search rules)
 
-pub between-spec : {M : Type 1} → statement M
-between-spec =
+pub between_spec : {M : Type 1} → statement M
+between_spec =
     tie.close (tie.spec (λ c. search rules) (λ c. search rules) (λ c. search rules) (λ c. search rules) returns)

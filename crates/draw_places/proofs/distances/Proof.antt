@@ -9,7 +9,7 @@ use Rattle.draw_places.proofs.distances.Tie as tie
 few : (n many : ℕ) → many ≤ n → 32768 / n * many ≤ 32768
 few n many h = omega (arith, mul-le-mul_left (32768 / n) h, div-mul-le_self 32768 n)
 
-mul-result : tie.Need-overflow-mul-result
+mul-result : tie.Need-overflow_mul-result
 mul-result c =
     let low = few c.args.n c.args.many (search rules) in
     record { fits = omega arith }
@@ -17,8 +17,8 @@ mul-result c =
 returns : tie.Need-returns
 returns c = (refl, few c.args.n c.args.many (search rules))
 
-pub distances-spec : {M : Type 1} → statement M
-distances-spec =
+pub distances_spec : {M : Type 1} → statement M
+distances_spec =
     tie.close
     (tie.spec
     (λ c. search rules) mul-result returns)

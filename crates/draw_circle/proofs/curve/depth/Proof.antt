@@ -7,12 +7,12 @@ use Rattle.draw_circle.proofs.curve.depth.Tie as tie
 few : (d : ℕ) → d ≤ 32768 → 875 * d / (d + 8192) ≤ 740
 few d h = div-le_of_le-mul (d + 8192) (omega arith)
 
-sub-result : tie.Need-overflow-sub-result
+sub-result : tie.Need-overflow_sub-result
 sub-result c = few c.args.apart (search rules)
 
 returns : tie.Need-returns
 unfolding depth_of
 returns c = (refl, search rules)
 
-pub depth-spec : {M : Type 1} → statement M
-depth-spec = tie.close (tie.spec (λ c. search rules) (λ c. search rules) (λ c. search rules) sub-result returns)
+pub depth_spec : {M : Type 1} → statement M
+depth_spec = tie.close (tie.spec (λ c. search rules) (λ c. search rules) (λ c. search rules) sub-result returns)
