@@ -4,19 +4,18 @@ use lib.Dec.{ltb}
 use Rattle.model.specs.Sets.{of_bits}
 use Rattle.listener.proofs.Records.{plus_test, counted_fits, notice_bit}
 use borrow.Author.Rules.{rules}
-use Rattle.listener.proofs.count.Statement.{statement}
-use Rattle.listener.proofs.count.Tie as tie
+use Rattle.listener.proofs.count.Goals as goal
 
-add-next : tie.Need-overflow_add-next
-add-next c =
+pub overflow_add-next : goal.overflow_add-next
+overflow_add-next c =
     let a = c.args in
     record { fits = counted_fits (of_bits a.watched a.s) a.silence a.window (search rules) (search rules) }
 
-returns : tie.Need-returns
+pub returns : goal.returns
 returns c =
     let a = c.args in
     let awaited = of_bits a.watched a.s && ltb a.silence a.window in
-    (plus_test awaited a.silence, notice_bit awaited a.silence a.window a.s c.requires)
-
-pub count_spec : {M : Type 1} → statement M
-count_spec = tie.close (tie.spec (λ c. search rules) (λ c. search rules) add-next (λ c. search rules) (λ c. search rules) returns)
+    record {
+      silence = plus_test awaited a.silence;
+      notice = notice_bit awaited a.silence a.window a.s c.requires.bounds;
+    }
