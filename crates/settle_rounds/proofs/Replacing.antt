@@ -36,7 +36,7 @@ module _ (t : Table) (x now : ℕ) (o : Own) where
       → Memᴰ (stamped 9 x (o.spare z) z now) (timer t x now o 3).sent
   unfolding timer timer3
   sends_9 z l e d =
-      map_in (λ z. stamped 9 x (o.spare z) z now) (members (size t) (λ z. outside t x now o z && not (eqb (o.spare z) none_node))) z
+      map_in (λ z. stamped 9 x (o.spare z) z now) z (members (size t) (λ z. outside t x now o z && not (eqb (o.spare z) none_node)))
       (members_in (size t) (λ z. outside t x now o z && not (eqb (o.spare z) none_node)) z l (and_in e (not_in (ne_eqb (o.spare z) none_node d))))
 
   pub answers_9 : (y z time : ℕ) → o.held z ≡ true → Memᴰ (stamped 10 x y z time) (deliver t x now o (stamped 9 y x z time)).sent

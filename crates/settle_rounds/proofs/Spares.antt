@@ -34,7 +34,7 @@ use Rattle.settle_rounds.proofs.Inviting.{Steady, start}
 module _ (t : Table) (x now : ℕ) (o : Own) where
   pub sends_7 : (z : ℕ) → z < size t → outside t x now o z ≡ true → Memᴰ (plain 7 x z) (timer t x now o 2).sent
   unfolding timer timer2
-  sends_7 z l e = map_in (plain 7 x) (members (size t) (outside t x now o)) z (members_in (size t) (outside t x now o) z l e)
+  sends_7 z l e = map_in (plain 7 x) z (members (size t) (outside t x now o)) (members_in (size t) (outside t x now o) z l e)
 
   pub answers_7 : (y : ℕ) → Memᴰ (naming 8 x y (closest t x o.held y)) (deliver t x now o (plain 7 y x)).sent
   unfolding on_ping_ask_repl

@@ -37,9 +37,9 @@ members_in (suc n) S y h e =
       | no d ↦ Memᴰ.append_left _ (members_in n S y (omega arith) e)
     ]
 
-pub map_in : (make : ℕ → Message) (l : List ℕ) (y : ℕ) → Memᴰ y l → Memᴰ (make y) (map make l)
-map_in make l y (Memᴰ.head e) = Memᴰ.head (ap make e)
-map_in make l y (Memᴰ.tail h) = Memᴰ.tail (map_in make _ y h)
+pub map_in : (make : ℕ → Message) (y : ℕ) (l : List ℕ) → Memᴰ y l → Memᴰ (make y) (map make l)
+map_in make y l (Memᴰ.head e) = Memᴰ.head (ap make e)
+map_in make y l (Memᴰ.tail h) = Memᴰ.tail (map_in make y _ h)
 
 -- ---- what a delivery and a timer leave
 

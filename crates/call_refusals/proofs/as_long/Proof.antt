@@ -5,5 +5,5 @@ use Rattle.call_refusals.proofs.as_long.Tie as tie
 returns : tie.Need-returns
 returns c = refl
 
-pub as-long-spec : {M : Type 1} → statement M
-as-long-spec = tie.close (tie.spec returns)
+pub as_long_spec : {M : Type 1} → statement M
+as_long_spec = tie.close (tie.spec returns)

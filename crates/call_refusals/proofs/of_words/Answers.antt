@@ -1,0 +1,37 @@
+use mathlib.Core.Path.{sym, ap, ◌∙◌}
+use mathlib.Core.Bool.{not}
+use mathlib.Core.List.{List}
+use Prim.Native.Nat.{ℕ}
+use borrow.Author.Tests.{eqb-true, not-true, not-false}
+use Rattle.model.specs.Buffer.{ring_answer}
+use Rattle.model.proofs.Answers.{here, next, no_more}
+use Rattle.answers.proofs.Refusals.{no_ring, a_ring}
+use Rattle.call_refusals.proofs.of_words.Goals as goal
+
+pub returns-then-not-as_long : goal.returns-then-not-as_long
+unfolding ring_answer
+returns-then-not-as_long c = record { answer = sym (here _ _ (ap not (sym c.as_long.ensures.value ∙ not-true _ c.if-not-as_long.true-raw))) }
+
+pub reads_as_ring-requires : goal.reads_as_ring-requires
+reads_as_ring-requires c = record { length = eqb-true _ _ (sym c.as_long.ensures.value ∙ not-false _ c.if-not-as_long.false-raw) }
+
+pub returns-then-not-reads_as_ring : goal.returns-then-not-reads_as_ring
+unfolding ring_answer
+returns-then-not-reads_as_ring c = record {
+  answer =
+      let ws : List ℕ = c.args.words.now in
+      sym
+      (next _ _ (ap not (sym c.as_long.ensures.value ∙ not-false _ c.if-not-as_long.false-raw))
+      ∙ here _ _ (no_ring ws (sym c.reads_as_ring.ensures.value ∙ not-true _ c.if-not-reads_as_ring.true-raw)));
+}
+
+pub returns : goal.returns
+unfolding ring_answer
+returns c = record {
+  answer =
+      let ws : List ℕ = c.args.words.now in
+      sym
+      (next _ _ (ap not (sym c.as_long.ensures.value ∙ not-false _ c.if-not-as_long.false-raw))
+      ∙ next _ _ (a_ring ws (sym c.reads_as_ring.ensures.value ∙ not-false _ c.if-not-reads_as_ring.false-raw))
+      ∙ no_more);
+}
