@@ -406,7 +406,8 @@ module _ (old : List ℕ) (opens : (open_buffer old two).answer ≡ 0) where
   ten_well = well_at lent_left (initial two) (reached old two opens left_script left_accepted) left_script 10
 
   -- nobody but node 0 runs, and holds one that is off
-  only_one : (x z : ℕ) → is_running ten x ≡ true → is_running ten z ≡ false → holds ten x z ≡ true → Notice (node_of 0) (node_of 1) ≡ Notice (node_of x) (node_of z)
+  only_one : (x z : ℕ) → is_running ten x ≡ true → is_running ten z ≡ false → holds ten x z ≡ true
+      → Notice (node_of 0) (node_of 1) ≡ Notice (node_of x) (node_of z)
   only_one x z on off held =
       let low_x = (ten_well.node_well x).running_low on in
       let low-z = ((ten_well.node_well x).own_well.held_other z held).low in

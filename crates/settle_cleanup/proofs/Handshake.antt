@@ -85,7 +85,9 @@ module _ (r : Ring) (well : WellFormed r) (tidy : Tidy r) where
       ap (λ (o : Own). o.held z) (own_at_lem i (stamped 10 y x z c) is (runs x z out))
       ∙ if_law (λ (e : Effect). e.own.held z ≡ false) (outside t x (now_at r x) (own_at r x) z && eqb ((own_at r x).spare z) y)
       (record {
-        own = if ltb ((own_at r x).commit z) c then set_commit y (now_at r x) (release z (hold (now_at r x) y (own_at r x))) else hold (now_at r x) y (own_at r x);
+        own =
+            if ltb ((own_at r x).commit z) c then set_commit y (now_at r x) (release z (hold (now_at r x) y (own_at r x)))
+            else hold (now_at r x) y (own_at r x);
         sent = [];
       })
       (record { own = own_at r x; sent = [] })

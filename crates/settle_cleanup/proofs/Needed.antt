@@ -384,8 +384,8 @@ twice = map on seven_nodes ++ each seven_nodes (λ x. meets 0 x ((x + 2) % 7) ++
 
 -- `unfolding shown` opens every definition
 unfoldable shown : Unit {0}
-unfolding computed total_lacking sum_to fate_by two four times failing both walk round_tests same_messages is_repeated played turn turns compared from along outcome
-    each timers_of fair across trade acknowledged twice
+unfolding computed total_lacking sum_to fate_by two four times failing both walk round_tests same_messages is_repeated played turn turns compared from along
+    outcome each timers_of fair across trade acknowledged twice
 shown = tt
 
 -- ---- rows of two nodes, with as many rounds as `progress` asks for: 19

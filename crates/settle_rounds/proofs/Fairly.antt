@@ -41,7 +41,8 @@ module _ (start : List ℕ) (r : Ring) (reached : Reached start r) (words : List
   runs_at : (k : ℕ) → k < length words → answer_at start words k ≡ 0 → Runs (at k) (event_at start words k)
   unfolding play_word
   runs_at k l ok =
-      none_runs (at k) (event_at start words k) (accepted_word (at k) (get_or words k 0) (ap is_accepted (sym (answer_at_lem start r reached words k l) ∙ ok))).passed
+      none_runs (at k) (event_at start words k)
+      (accepted_word (at k) (get_or words k 0) (ap is_accepted (sym (answer_at_lem start r reached words k l) ∙ ok))).passed
 
   module _ (p q : ℕ) (round : Round start words p q) where
     turn_at : (k : ℕ) → p ≤ k → k < q → Turn (at k) (at (suc k))

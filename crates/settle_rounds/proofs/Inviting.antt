@@ -34,11 +34,14 @@ module _ (t : Table) (x now : ℕ) (o : Own) where
   sends_invitation : (y : ℕ) → y < size t → invited t x now o y ≡ true → Memᴰ (plain 5 x y) (timer t x now o 0).sent
   unfolding timer timer0
   sends_invitation y l e =
-      mathlib.Core.List.Memᴰ.append_left (questions t x now o) (map_in (plain 5 x) y (members (size t) (invited t x now o)) (members_in (size t) (invited t x now o) y l e))
+      mathlib.Core.List.Memᴰ.append_left (questions t x now o)
+      (map_in (plain 5 x) y (members (size t) (invited t x now o)) (members_in (size t) (invited t x now o) y l e))
 
   pub sends_question : (y : ℕ) → y < size t → o.held y ≡ true → Memᴰ (plain 3 x y) (timer t x now o 0).sent
   unfolding timer timer0
-  sends_question y l e = mathlib.Core.List.Memᴰ.append_right (invitations t x now o) (map_in (plain 3 x) y (members (size t) o.held) (members_in (size t) o.held y l e))
+  sends_question y l e =
+      mathlib.Core.List.Memᴰ.append_right (invitations t x now o)
+      (map_in (plain 3 x) y (members (size t) o.held) (members_in (size t) o.held y l e))
 
   answers_invitation : (y : ℕ) → Memᴰ (plain 6 x y) (deliver t x now o (plain 5 y x)).sent
   unfolding on_ping_invite

@@ -107,7 +107,8 @@ module _ (w : Stretch) (steady : Steady w) (honest : (m : Message) → Memᴰ m 
           ]
 
       -- one that offers nobody stays, is asked, and does not lack x
-      pub offers_none : (i j : ℕ) → b w 0 ≤ i → i ≤ b w j → suc (suc (suc (suc (suc j)))) ≤ K w → holds (at w i) x z ≡ true → y ≡ none_node → lacks s z x ≡ false
+      pub offers_none : (i j : ℕ) → b w 0 ≤ i → i ≤ b w j → suc (suc (suc (suc (suc j)))) ≤ K w → holds (at w i) x z ≡ true → y ≡ none_node
+          → lacks s z x ≡ false
       offers_none i j f l room h none =
           let end_1 = rises w (suc j) (K w) (omega arith) (le_refl (K w)) in
           let mid = rises w 0 j zero-le (omega arith) in
@@ -165,7 +166,8 @@ module _ (w : Stretch) (steady : Steady w) (honest : (m : Message) → Memᴰ m 
 
         -- the request goes out at k, is answered at n, and the acknowledgement comes
         by_9 :
-            (k j : ℕ) → b w 0 ≤ k → suc k ≤ b w j → suc (suc j) ≤ K w → Ready k → at w (suc k) ≡ after (at w k) (Timer (node_of x) 3) → Later (b w (suc (suc j)))
+            (k j : ℕ) → b w 0 ≤ k → suc k ≤ b w j → suc (suc j) ≤ K w → Ready k → at w (suc k) ≡ after (at w k) (Timer (node_of x) 3)
+            → Later (b w (suc (suc j)))
         by_9 k j f l room h is =
             let v =
             answered w (suc k) j (omega arith) l (omega arith) (stamped 9 x y z (now_at (at w k) x)) (stamped 10 y x z (now_at (at w k) x)) nine

@@ -1,2 +1,3 @@
-// Fair rounds, what becomes of a message in them, and that they bring every node its leafset. Definitions and theorems, no code.
+// Fair rounds, what becomes of a message in them, and that they bring every node its leafset. Definitions and
+// theorems, no code.
 #![tactic(auto)]

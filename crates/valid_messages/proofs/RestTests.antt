@@ -251,7 +251,9 @@ as_words : (ws : List ℕ) (base : ℕ) (t : Table) (k n : ℕ) → size t ≡ n
     ∷ every
     (leb (number (beyond ws base k 1 2147483648) (beyond ws base k 2 2147483648) (beyond ws base k 3 2147483648))
     (if uses_view (at ws (base + 5 * k) % 16) then 2 ^ n - 1 else 0)
-    ∷ not (of_bits (number (beyond ws base k 1 2147483648) (beyond ws base k 2 2147483648) (beyond ws base k 3 2147483648)) (at ws (base + 5 * k) / 2 ^ 10 % 64))
+    ∷ not
+    (of_bits (number (beyond ws base k 1 2147483648) (beyond ws base k 2 2147483648) (beyond ws base k 3 2147483648))
+    (at ws (base + 5 * k) / 2 ^ 10 % 64))
     ∷ [])
     ∷ [])
     ≡ rest_reads ws base t k

@@ -42,7 +42,8 @@ fn subject_fits(tag: u16, subject: u16, n: u16) -> bool
 // The first word of a message, in two halves.
 fn first_fits(low: u16, high: u16, n: u16) -> bool
     ensures value { (ws : List ℕ) (base : ℕ) (t : Table) (k : ℕ) → size t ≡ n
-        → at ws (base + 5 * k) % 2 ^ 16 ≡ low → at ws (base + 5 * k) / 2 ^ 16 ≡ high → result ≡ first_reads ws base t k }
+        → at ws (base + 5 * k) % 2 ^ 16 ≡ low → at ws (base + 5 * k) / 2 ^ 16 ≡ high
+        → result ≡ first_reads ws base t k }
 {
     let tag = low % 16;
     let sender = (low >> 4) % 64;

@@ -59,7 +59,8 @@ module _ (ws : List ℕ) (n : ℕ) where
       (λ t. all_in (size (decode_table ws)) (λ x. all (size (decode_table ws)) (λ y. eqb x y || not (eqb (key (decode_table ws) x) (key (decode_table ws) y))))
       (λ x hx. all_in (size (decode_table ws)) (λ y. eqb x y || not (eqb (key (decode_table ws) x) (key (decode_table ws) y)))
       (λ y hy. differ t x y (below hx) (below hy))))
-      (λ t. all_in n (λ x. all x (λ y. not (eqb (key_of_lem y) (key_of_lem x)))) (λ x hx. all_in x (λ y. not (eqb (key_of_lem y) (key_of_lem x))) (λ y hy. new t x y hx hy)))
+      (λ t. all_in n (λ x. all x (λ y. not (eqb (key_of_lem y) (key_of_lem x))))
+      (λ x hx. all_in x (λ y. not (eqb (key_of_lem y) (key_of_lem x))) (λ y hy. new t x y hx hy)))
     where
       key_of_lem : ℕ → ℕ
       key_of_lem s = bits 0 24 (key_at ws s)
@@ -81,7 +82,9 @@ module _ (ws : List ℕ) (n : ℕ) where
           ])
         where
           met : (y x : ℕ) → y < x → x < n → not (eqb (key_of_lem y) (key_of_lem x)) ≡ true
-          met y x l h = all_out x (λ y. not (eqb (key_of_lem y) (key_of_lem x))) (all_out n (λ x. all x (λ y. not (eqb (key_of_lem y) (key_of_lem x)))) t x h) y l
+          met y x l h =
+              all_out x (λ y. not (eqb (key_of_lem y) (key_of_lem x)))
+              (all_out n (λ x. all x (λ y. not (eqb (key_of_lem y) (key_of_lem x)))) t x h) y l
 
       new : keys_differ (decode_table ws) ≡ true → (x y : ℕ) → x < n → y < x → not (eqb (key_of_lem y) (key_of_lem x)) ≡ true
       new t x y hx hy =

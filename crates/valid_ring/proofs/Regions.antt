@@ -109,7 +109,8 @@ module _ (ws : List ℕ) where
       ∷ (not (flag 24 (link_at ws x z)) ⇒ eqb (bits 0 7 (spare_at ws x z)) none_node)
       ∷ []
 
-  pair_fits_lem : (x z : ℕ) → x < size_in ws → is_pair (decode_table ws) x z ≡ true → pair_fits (decode_table ws) (decode_node ws x) x z ≡ every (pair_tests x z)
+  pair_fits_lem : (x z : ℕ) → x < size_in ws → is_pair (decode_table ws) x z ≡ true
+      → pair_fits (decode_table ws) (decode_node ws x) x z ≡ every (pair_tests x z)
   unfolding pair_fits decode_node decode_own
   pair_fits_lem x z h e =
       let l : ltb x (size (decode_table ws)) ≡ true = lt-ltb x (size (decode_table ws)) (rw (size_is ws) h) in
@@ -208,7 +209,8 @@ module _ (ws : List ℕ) where
     module _ (x : ℕ) (hx : x < size_in ws) where
       node_tests : Each (λ b. b ≡ true)
           (all (size (decode_table ws)) (λ z. is_pair (decode_table ws) x z ⇒ pair_fits (decode_table ws) (decode_node ws x) x z)
-          ∷ (not (decode_node ws x).running ⇒ all (size (decode_table ws)) (λ z. not ((decode_node ws x).own.held z) && not ((decode_node ws x).own.candidates z)))
+          ∷ (not (decode_node ws x).running
+          ⇒ all (size (decode_table ws)) (λ z. not ((decode_node ws x).own.held z) && not ((decode_node ws x).own.candidates z)))
           ∷ [])
       unfolding node_fits
       node_tests =
@@ -355,7 +357,8 @@ module _ (ws : List ℕ) where
         elim (dec_lt s (size_in ws)) [
           | yes h ↦ each_word s h j hj ∙ sym (node_word s j h)
           | no d ↦
-              clear_out ws (node_place (size_in ws)) 129 (first (rest (rest (rest (rest (rest (rest regions))))))) (node_place s + j) (omega arith) (omega arith)
+              clear_out ws (node_place (size_in ws)) 129 (first (rest (rest (rest (rest (rest (rest regions))))))) (node_place s + j)
+              (omega arith) (omega arith)
               ∙ sym (node_none s j (omega arith))
         ]
       where
@@ -487,7 +490,9 @@ module _ (ws : List ℕ) where
 
     range : in_range (decode_table ws) ≡ true
     unfolding in_range decode_table
-    range = every_in (cons (first (rest in_head_lem)) (cons {a = between 1 64 (size (decode_table ws))} (rw (size_is ws) (first (rest (rest in_head_lem)))) nil))
+    range =
+        every_in
+        (cons (first (rest in_head_lem)) (cons {a = between 1 64 (size (decode_table ws))} (rw (size_is ws) (first (rest (rest in_head_lem)))) nil))
 
     few : leb (length (decode ws).messages) 1024 ≡ true
     few = rw count_is (first (rest (rest (rest in_head_lem))))

@@ -44,7 +44,8 @@ apart_cong : (ws vs : List ℕ) (n x z p q : ℕ) → key_at ws x ≡ key_at vs 
 apart_cong ws vs n x z p q k c w s = rw (k, c, w, s)
 
 -- a message is what its five words say
-message_cong : (ws vs : List ℕ) (p q : ℕ) → at ws p ≡ at vs q → ((i : ℕ) → i < 5 → at ws (p + i) ≡ at vs (q + i)) → decode_message_at ws p ≡ decode_message_at vs q
+message_cong : (ws vs : List ℕ) (p q : ℕ) → at ws p ≡ at vs q → ((i : ℕ) → i < 5 → at ws (p + i) ≡ at vs (q + i))
+    → decode_message_at ws p ≡ decode_message_at vs q
 unfolding decode_message_at
 message_cong ws vs p q e f = rw (e, f 1 (lit< tt), f 2 (lit< tt), f 3 (lit< tt), f 4 (lit< tt))
 

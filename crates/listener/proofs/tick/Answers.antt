@@ -16,8 +16,11 @@ overflow_add-notices c =
 pub loop-s-preserved : goal.loop-s-preserved
 loop-s-preserved c =
     let l = c.loop-s in
-    let q = listener_of c.args.listener in
-    (search rules, more_notices (notices_of q Tick) l.s l.invariant.1 c.count-counted.ensures.notice, counting_more q l.invariant.2 (search rules) c.count-counted.ensures.silence)
+    let q = listener_of c.args.listener in (
+      search rules,
+      more_notices (notices_of q Tick) l.s l.invariant.1 c.count-counted.ensures.notice,
+      counting_more q l.invariant.2 (search rules) c.count-counted.ensures.silence,
+    )
 
 pub returns : goal.returns
 returns c =

@@ -6,8 +6,8 @@ use Rattle.mekvalgs.proofs.mekvalgs_join.Tie as tie
 returns : tie.Need-returns
 returns c = (rw c.number.ensures c.before.before.before.join.ensures.0, c.before.before.before.join.ensures.1)
 
-pub mekvalgs-join-spec : {M : Type 1} → statement M
-mekvalgs-join-spec =
+pub mekvalgs_join_spec : {M : Type 1} → statement M
+mekvalgs_join_spec =
     tie.close
     (tie.spec
     (λ c κs. search rules) (λ c κs. search rules) (λ c. search rules) returns)

@@ -7,8 +7,8 @@ use Rattle.mekvalgs.proofs.mekvalgs_lengthen.Tie as tie
 returns : tie.Need-returns
 returns c = (rw c.number.ensures c.before.before.before.lengthen.ensures, refl)
 
-pub mekvalgs-lengthen-spec : {M : Type 1} → statement M
-mekvalgs-lengthen-spec =
+pub mekvalgs_lengthen_spec : {M : Type 1} → statement M
+mekvalgs_lengthen_spec =
     tie.close
     (tie.spec
     (λ c κs. search rules) (λ c κs. search rules) (λ c. search rules) returns)

@@ -7,8 +7,8 @@ use Rattle.mekvalgs.proofs.mekvalgs_messages.Tie as tie
 returns : tie.Need-returns
 returns c = ap length c.messages.ensures
 
-pub mekvalgs-messages-spec : {M : Type 1} → statement M
-mekvalgs-messages-spec =
+pub mekvalgs_messages_spec : {M : Type 1} → statement M
+mekvalgs_messages_spec =
     tie.close
     (tie.spec
     (λ c κs. search rules) returns)

@@ -9,8 +9,8 @@ returns c =
     let e = c.before.before.before.«open».ensures in
     (c.number.ensures ∙ ap (λ (w : Written). w.answer) e, ap (λ (w : Written). w.words) e)
 
-pub mekvalgs-open-spec : {M : Type 1} → statement M
-mekvalgs-open-spec =
+pub mekvalgs_open_spec : {M : Type 1} → statement M
+mekvalgs_open_spec =
     tie.close
     (tie.spec
     (λ c κs. search rules) (λ c κs. search rules) (λ c. search rules) returns)

@@ -5,8 +5,8 @@ use Rattle.mekvalgs.proofs.mekvalgs_replay.Tie as tie
 returns : tie.Need-returns
 returns c = rw c.number.ensures c.before.before.before.before.before.replay.ensures
 
-pub mekvalgs-replay-spec : {M : Type 1} → statement M
-mekvalgs-replay-spec =
+pub mekvalgs_replay_spec : {M : Type 1} → statement M
+mekvalgs_replay_spec =
     tie.close
     (tie.spec
     (λ c κs. search rules) (λ c κs. search rules) (λ c. search rules) (λ c. search rules) returns)

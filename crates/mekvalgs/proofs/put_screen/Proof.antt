@@ -5,5 +5,5 @@ use Rattle.mekvalgs.proofs.put_screen.Tie as tie
 returns : tie.Need-returns
 returns c = refl
 
-pub put-screen-spec : {M : Type 1} → statement M
-put-screen-spec = tie.close (tie.spec returns)
+pub put_screen_spec : {M : Type 1} → statement M
+put_screen_spec = tie.close (tie.spec returns)

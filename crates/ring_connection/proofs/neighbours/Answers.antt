@@ -14,7 +14,13 @@ pub with-more-requires : goal.with-more-requires
 with-more-requires c = record { bounds = (rising_first c.loop-rest.invariant.rising c.loop-rest-test.true _ c.lowest-z.ensures.value).below }
 
 pub holds-requires : goal.holds-requires
-holds-requires c = record { words = (search rules, search rules, (rising_first c.loop-rest.invariant.rising c.loop-rest-test.true _ c.lowest-z.ensures.value).below) }
+holds-requires c = record {
+  words = (
+    search rules,
+    search rules,
+    (rising_first c.loop-rest.invariant.rising c.loop-rest-test.true _ c.lowest-z.ensures.value).below,
+  );
+}
 
 pub holds-requires-in-loop-rest : goal.holds-requires-in-loop-rest
 holds-requires-in-loop-rest c = record {

@@ -68,7 +68,8 @@ returns c = record {
       (c.nodes_read.ensures.value ∙ ap (nodes_read ws) c.nodes-n.ensures.value)
       c.keys_differ.ensures.value)
       (c.pairs_read.ensures.value ∙ ap (pairs_read ws) c.nodes-n.ensures.value))
-      (c.messages_read.ensures.value (decode_table ws) (size_is ws ∙ sym c.nodes-n.ensures.value) ∙ ap (messages_read ws 8321 (decode_table ws)) c.messages-m.ensures.value))
+      (c.messages_read.ensures.value (decode_table ws) (size_is ws ∙ sym c.nodes-n.ensures.value)
+      ∙ ap (messages_read ws 8321 (decode_table ws)) c.messages-m.ensures.value))
       (c.clear.ensures.value ∙ ap (λ (m : ℕ). clear ws (message_place m) ring_length) c.messages-m.ensures.value))
       (c.clear-2.ensures.value ∙ ap (λ (n : ℕ). clear ws (node_place n) 129) c.nodes-n.ensures.value)
       ∙ after_head ws c.requires.length (sym c.head_reads.ensures.value ∙ c.if-not-head_reads.false);

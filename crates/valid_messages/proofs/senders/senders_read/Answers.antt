@@ -18,7 +18,8 @@ count-requires c =
 pub returns-then-none_above : goal.returns-then-none_above
 returns-then-none_above c = record {
   value = λ t e.
-      few_before c.args.words.now c.args.base t (c.args.m - 224) c.args.m _ (omega (arith, c.requires.words.1, e)) (omega arith) (omega (arith, c.if-m-le-SENDER.false))
+      few_before c.args.words.now c.args.base t (c.args.m - 224) c.args.m _
+      (omega (arith, c.requires.words.1, e)) (omega arith) (omega (arith, c.if-m-le-SENDER.false))
       c.count.ensures.counts
       (rw e (sym c.none_above.ensures.value ∙ c.if-none_above.true));
 }

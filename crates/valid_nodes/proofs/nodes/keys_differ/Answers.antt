@@ -16,9 +16,6 @@ pub loop-x-init : goal.loop-x-init
 unfolding all
 loop-x-init c = (search rules, refl, refl, λ y h. absurd (not-suc-le-zero h))
 
-pub bounds-met-h : goal.bounds-met-h
-bounds-met-h c = omega arith
-
 pub hashed_is_new-requires : goal.hashed_is_new-requires
 hashed_is_new-requires c = record {
   words =
@@ -40,9 +37,6 @@ returns-then-not-hashed_is_new c = record {
       sym (sym (keys_tests ws a.n c.requires.words.2)
       ∙ is_false (all a.n (is_new ws)) (λ t. clash (all_out a.n (is_new ws) t l.x (omega arith)) old));
 }
-
-pub bounds-met-h-in-loop-x : goal.bounds-met-h-in-loop-x
-bounds-met-h-in-loop-x c = omega arith
 
 pub loop-x-preserved : goal.loop-x-preserved
 loop-x-preserved c =

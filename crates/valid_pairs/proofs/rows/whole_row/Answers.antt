@@ -11,11 +11,13 @@ use Rattle.valid_pairs.proofs.rows.whole_row.Goals as goal
 pub returns : goal.returns
 returns c = record {
   fits =
-      let ws = c.args.words.now in
-      let counted : c.fitting-run.result.fit ≡ count c.args.n (other_reads ws c.args.n c.args.x) =
-      count_whole (run_reads ws c.args.n c.args.x (129 + 128 * c.args.x)) c.args.n c.fitting-run.result.fit c.fitting-run.ensures.counted
-      ∙ count_cong c.args.n (run_reads ws c.args.n c.args.x (129 + 128 * c.args.x)) (other_reads ws c.args.n c.args.x)
-      (λ z h. let e : 129 + 128 * c.args.x + 2 * z ≡ pair_place c.args.x z = omega arith in ap (running_reads ws c.args.n c.args.x z) e) in
-      let none : other_reads ws c.args.n c.args.x c.args.x ≡ false = rw c.requires.words.3 (no_link_lem (bits 0 24 (clock_at ws c.args.x)) (spare_reads c.args.n c.args.x c.args.x 0 (spare_at ws c.args.x c.args.x))) in
-      ap (λ (k : ℕ). eqb (k + 1) c.args.n) counted ∙ others_full c.args.n c.args.x (other_reads ws c.args.n c.args.x) c.requires.words.2 none;
+      let a = c.args in
+      let ws = a.words.now in
+      let counted : c.fitting-run.result.fit ≡ count a.n (other_reads ws a.n a.x) =
+      count_whole (run_reads ws a.n a.x (129 + 128 * a.x)) a.n c.fitting-run.result.fit c.fitting-run.ensures.counted
+      ∙ count_cong a.n (run_reads ws a.n a.x (129 + 128 * a.x)) (other_reads ws a.n a.x)
+      (λ z h. let e : 129 + 128 * a.x + 2 * z ≡ pair_place a.x z = omega arith in ap (running_reads ws a.n a.x z) e) in
+      let none : other_reads ws a.n a.x a.x ≡ false =
+      rw c.requires.words.3 (no_link_lem (bits 0 24 (clock_at ws a.x)) (spare_reads a.n a.x a.x 0 (spare_at ws a.x a.x))) in
+      ap (λ (k : ℕ). eqb (k + 1) a.n) counted ∙ others_full a.n a.x (other_reads ws a.n a.x) c.requires.words.2 none;
 }

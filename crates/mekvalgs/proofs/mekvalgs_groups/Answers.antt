@@ -1,0 +1,8 @@
+use mathlib.Core.Path.{◌∙◌}
+use Rattle.mekvalgs.proofs.mekvalgs_groups.Goals as goal
+
+pub returns : goal.returns
+returns c = record {
+  answer = c.number.ensures.answer ∙ c.groups-asked.ensures.answer;
+  groups = c.groups-asked.ensures.groups;
+}
