@@ -121,7 +121,8 @@ whole_is : (r : Ring) (ev b : List ℕ) (m : ℕ) → size r.table ≡ m
     → whole session (0, r) ev (tail_of b)
     ≡ lines_bytes
     (event_lines 1 r ev
-    ++ (if eqb (4 * length (little_endian b)) (length b) then [] else ((length ev + 1) ∷ number_of NotAnEvent ∷ length (play_all r ev).messages ∷ []) ∷ [])
+    ++ (if eqb (4 * length (little_endian b)) (length b) then []
+    else ((length ev + 1) ∷ number_of NotAnEvent ∷ length (play_all r ev).messages ∷ []) ∷ [])
     ++ tabulate m (node_line (play_all r ev)))
     ++ groups_bytes (groups (play_all r ev))
 unfolding session
