@@ -2,8 +2,8 @@
 use mathlib.Core.Path.{◌≡◌, refl}
 use Prim.Native.Nat.{ℕ, zero, suc, ◌+◌, ◌*◌}
 use mathlib.Core.Bool.{true, false}
-use mathlib.Core.List.{List, [], ◌∷◌, map}
-use lib.ListN.{length, get_or, take, drop, replicate}
+use mathlib.Core.List.{[], ◌∷◌, map}
+use lib.ListN.{length, get_or, take, replicate}
 use Rattle.model.specs.Choice.{if◌then◌else◌}
 use Rattle.model.specs.Sets.{put, of_bits, to_bits, count, none_node, tabulate, tabulate_from}
 use Rattle.model.specs.Leafset.{Table, leafset}

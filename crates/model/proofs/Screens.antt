@@ -1,22 +1,22 @@
 -- The screens: what a ring's words show, that rings alike in what the conductor may see show alike, and that unlike ones do not.
-use mathlib.Core.Path.{◌≡◌, refl, sym, ap, ◌∙◌}
-use Prim.Native.Nat.{ℕ, ◌*◌, ◌≤◌, ◌<◌}
-use mathlib.Core.Bool.{Bool, true, false}
+use mathlib.Core.Path.{◌≡◌, sym, ap, ◌∙◌}
+use Prim.Native.Nat.{ℕ, ◌*◌, ◌<◌}
+use mathlib.Core.Bool.{true, false}
 use mathlib.Core.List.{List}
 use native.Mathlib.Omega.{arith}
 use native.Mathlib.Decide.{dec_lt}
-use lib.ListN.{length, get_or, take, drop}
+use lib.ListN.{length, get_or, drop}
 use lib.Seq.{ext_get_or, length-take-le}
 use lib.ListN.{length-drop}
 use borrow.Author.Tests.{eq-eqb}
-use Rattle.model.specs.Sets.{Set, of_bits, to_bits}
-use Rattle.model.specs.Leafset.{Table, size, key}
+use Rattle.model.specs.Sets.{of_bits}
+use Rattle.model.specs.Leafset.{size, key}
 use Rattle.model.specs.Ring.{Ring, is_running}
 use Rattle.model.specs.WellFormed.{WellFormed}
 use Rattle.model.specs.Words.{ring_length, decode, reads_as_ring}
 use Rattle.model.specs.Answers.{first_of, is_accepted}
 use Rattle.model.specs.Buffer.{ring_answer}
-use Rattle.model.specs.Screens.{Seen, seen, shown_leafset, conductor_screen, conductor_of, messages_in, messages_of, Alike}
+use Rattle.model.specs.Screens.{seen, conductor_screen, conductor_of, messages_in, messages_of, Alike}
 use Rattle.model.specs.declared.screen.ConductorScreen.{ConductorScreen}
 use Rattle.model.proofs.Laws.{is_false, get_d_tabulate}
 use Rattle.model.proofs.Words.{reads_out}

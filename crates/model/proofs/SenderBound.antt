@@ -3,12 +3,11 @@ use mathlib.Core.Path.{◌≡◌, refl, sym, ap, ◌∙◌}
 use Prim.Native.Nat.{ℕ, suc, ◌+◌, ◌≤◌, ◌<◌}
 use native.Mathlib.Omega.{arith}
 use native.Mathlib.Decide.{dec_lt, ℕ_discrete}
-use mathlib.Core.Bool.{Bool, true, false, not}
-use mathlib.Core.List.{List, [], ◌∷◌, ◌++◌, append-nil}
+use mathlib.Core.Bool.{Bool, true, false}
+use mathlib.Core.List.{List, [], ◌++◌, append-nil}
 use lib.Dec.{lit≤, ltb}
 use lib.ListN.{length, take, drop, length-append, length-take, length-drop}
 use borrow.Author.Tests.{ltb-false, le-ltb, eq-eqb, eqb-true}
-use Rattle.model.specs.Choice.{if◌then◌else◌}
 use Rattle.model.specs.Leafset.{size}
 use Rattle.model.specs.Ring.{Message, Ring, message_at, sent_by}
 use Rattle.model.specs.Words.{senders_fit}
@@ -16,15 +15,14 @@ use Rattle.model.specs.WellFormed.{WellFormed, Each, nil, cons}
 use Rattle.model.specs.Answers.{Refusal, first_of, is_accepted}
 use Rattle.model.specs.Events.{word_of, event_answer, same_node}
 use Rattle.model.specs.Steps.{leaving, notice, contact, timer}
-use Rattle.model.specs.Play.{set_messages, remove_message, act, send_leave, after, actor, refusals, left_refusals, state_refusals, play_answer}
+use Rattle.model.specs.Play.{set_messages, remove_message, act, after, actor, refusals, left_refusals, state_refusals, play_answer}
 use Rattle.model.specs.declared.event.Event.{Event}
 use Rattle.model.specs.declared.event.Event.TheVariants.{On, Off, Notice, Contact, Timer, Deliver, Lose}
 use Rattle.model.proofs.Laws.{clash, decide, if_law}
-use Rattle.model.proofs.Lists.{first, rest}
-use Rattle.model.proofs.Answers.{here, next, none_applies, stays, passes}
-use Rattle.model.proofs.Events.{Writable, writable}
+use Rattle.model.proofs.Answers.{here, none_applies, stays, passes}
+use Rattle.model.proofs.Events.{writable}
 use Rattle.model.proofs.Cases.{after_table, refusals_refuse}
-use Rattle.model.proofs.Senders.{one_of, sent_append, sent_without, senders_in, senders_out}
+use Rattle.model.proofs.Senders.{one_of, sent_append, sent_without, senders_in}
 use Rattle.model.proofs.WellFormedPlay.{others_few}
 use Rattle.model.proofs.Echoes.{by_event}
 

@@ -1,12 +1,12 @@
 -- Where the words of a short ring stand: how many places before a place belong, run by run.
-use mathlib.Core.Path.{◌≡◌, refl, sym, ap, ap₂, ◌∙◌, subst}
+use mathlib.Core.Path.{◌≡◌, refl, sym, ap, ◌∙◌, subst}
 use Prim.Native.Nat.{ℕ, zero, suc, ◌+◌, ◌-◌, ◌*◌, ◌/◌, ◌%◌, ◌<◌, ◌≤◌}
-use native.Mathlib.Nat.{le_refl, add-zero, add-suc, add_assoc, mul-zero, mul-suc, suc-mul, mul-le-mul_left, not-suc-le-zero}
+use native.Mathlib.Nat.{le_refl, add-zero, mul-zero, mul-suc, suc-mul, mul-le-mul_left, not-suc-le-zero}
 use native.Mathlib.Omega.{arith}
 use native.Mathlib.Decide.{ℕ_discrete, dec_lt}
-use mathlib.Core.Bool.{Bool, true, false, not, ◌&&◌, and-false}
-use mathlib.Core.List.{List, [], ◌∷◌, ◌++◌, map}
-use lib.ListN.{length, get_or, drop, length-append, length-map, get_or-append}
+use mathlib.Core.Bool.{true, false, ◌&&◌, and-false}
+use mathlib.Core.List.{List, [], ◌∷◌, ◌++◌}
+use lib.ListN.{length, get_or, drop, length-map, get_or-append}
 use lib.Seq.{get_or_at, ext_get_or}
 use lib.Dec.{ltb, eqb, lit<}
 use borrow.Author.Tests.{le-ltb, lt-ltb, eqb-true, eq-eqb, ne_eqb}

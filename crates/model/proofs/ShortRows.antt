@@ -3,7 +3,7 @@ use mathlib.Core.Path.{◌≡◌, refl}
 use mathlib.Core.Bool.{true, false}
 use mathlib.Core.List.{List, [], ◌∷◌, map}
 use Prim.Native.Nat.{ℕ, ◌+◌}
-use lib.ListN.{length, replicate}
+use lib.ListN.{replicate}
 use Rattle.model.specs.Sets.{Set, all, count, members, tabulate_from}
 use Rattle.model.specs.Answers.{first_of, number_of}
 use Rattle.model.specs.Words.{node_place, pair_place, message_place, belongs, head_word, word_at, decode_table, decode, format_fits, reads_as_ring}

@@ -12,7 +12,7 @@ use Rattle.model.specs.Choice.{if◌then◌else◌}
 use Rattle.model.specs.Key.{clockwise}
 use Rattle.model.specs.Sets.{Set, empty, without, count, none_node}
 use Rattle.model.specs.Leafset.{Table, size, key, leafset, beats, nearest}
-use Rattle.model.specs.Ring.{Own, Message, Ring, initial, holds, is_running, message_at, sent_by}
+use Rattle.model.specs.Ring.{Own, Message, Ring, initial, is_running, message_at, sent_by}
 use Rattle.model.specs.Types.{types}
 use Rattle.model.specs.Steps.{step_by_type}
 use Rattle.model.specs.WellFormed.{WellFormedTable, WellFormed, Each}

@@ -1,5 +1,5 @@
 -- A short ring for the log: document 02's note 14.
-use Rattle.std.specs.Prelude.{ℕ, ◌+◌, ◌-◌, ◌*◌, Bool, not, List, [], ◌∷◌, ◌++◌, map, length, get_or, drop, ltb, eqb}
+use Rattle.std.specs.Prelude.{ℕ, ◌+◌, ◌-◌, ◌*◌, Bool, not, List, [], ◌∷◌, ◌++◌, map, length, drop, ltb, eqb}
 use Rattle.model.specs.Choice.{if◌then◌else◌, every}
 use Rattle.model.specs.Sets.{count, members, tabulate}
 use Rattle.model.specs.Answers.{Refusal, first_of, is_accepted}

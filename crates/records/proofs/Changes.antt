@@ -7,7 +7,7 @@ use native.Mathlib.Omega.{arith}
 use native.Mathlib.Decide.{ℕ_discrete}
 use lib.ListN.{length, get_or, set, length-set}
 use lib.Seq.{get_or-set_same, get_or-set_other}
-use Rattle.model.specs.Sets.{with, put, of_bits}
+use Rattle.model.specs.Sets.{put, of_bits}
 use Rattle.model.specs.Ring.{Own}
 use Rattle.model.specs.Steps.{set_commit, set_spare}
 use Rattle.model.specs.Structs.{own_of, stamp_at, spare_at}

@@ -7,7 +7,7 @@ use native.Mathlib.Nat.{le_refl, add-zero, not-suc-le-zero}
 use native.Mathlib.Omega.{arith}
 use native.Mathlib.Decide.{ℕ_discrete, dec_lt}
 use lib.Dec.{eqb}
-use lib.ListN.{length, get_or, length-append}
+use lib.ListN.{get_or}
 use borrow.Author.Tests.{eq-eqb, ne_eqb, eqb-true}
 use Rattle.model.specs.Choice.{if◌then◌else◌}
 use Rattle.model.specs.Sets.{Set, without, none_node, some, count, members, lowest, to_bits}

@@ -13,7 +13,7 @@ pub sides-theirs-requires : goal.sides-theirs-requires
 sides-theirs-requires c = record { length = long _ c.requires.rings.1 }
 
 pub returns-then-not-ours-theirs : goal.returns-then-not-ours-theirs
-returns-then-not-ours-theirs c = record { answer = sym (here _ _ (sides_differ_lem _ _ _ _ c.sides-ours.ensures.value c.sides-theirs.ensures.value (not-true _ c.if-not-ours-theirs.true-raw))) }
+returns-then-not-ours-theirs c = record { answer = sym (here _ _ (sides_differ_lem _ _ _ _ c.sides-ours.ensures.value c.sides-theirs.ensures.value (c.if-not-ours-theirs.true))) }
 
 pub nodes-requires : goal.nodes-requires
 nodes-requires c = record { length = long _ c.requires.rings.0 }
@@ -25,7 +25,7 @@ pub returns-then-nodes-gt64 : goal.returns-then-nodes-gt64
 returns-then-nodes-gt64 c = record {
   answer =
       sym
-      (next _ _ (same_sides _ _ _ _ c.sides-ours.ensures.value c.sides-theirs.ensures.value (not-false _ c.if-not-ours-theirs.false-raw))
+      (next _ _ (same_sides _ _ _ _ c.sides-ours.ensures.value c.sides-theirs.ensures.value (c.if-not-ours-theirs.false))
       ∙ here _ _ (many_nodes _ _ _ _ c.nodes.ensures.value c.nodes-2.ensures.value c.if-nodes-gt64.true));
 }
 
@@ -40,7 +40,7 @@ pub returns-then-shares_key : goal.returns-then-shares_key
 returns-then-shares_key c = record {
   answer =
       sym
-      (next _ _ (same_sides _ _ _ _ c.sides-ours.ensures.value c.sides-theirs.ensures.value (not-false _ c.if-not-ours-theirs.false-raw))
+      (next _ _ (same_sides _ _ _ _ c.sides-ours.ensures.value c.sides-theirs.ensures.value (c.if-not-ours-theirs.false))
       ∙ here _ _ (key_shared_lem _ _ c.shares_key.ensures.value c.if-shares_key.true));
 }
 
@@ -54,7 +54,7 @@ pub returns-then-messages-gt-MESSAGES : goal.returns-then-messages-gt-MESSAGES
 returns-then-messages-gt-MESSAGES c = record {
   answer =
       sym
-      (next _ _ (same_sides _ _ _ _ c.sides-ours.ensures.value c.sides-theirs.ensures.value (not-false _ c.if-not-ours-theirs.false-raw))
+      (next _ _ (same_sides _ _ _ _ c.sides-ours.ensures.value c.sides-theirs.ensures.value (c.if-not-ours-theirs.false))
       ∙ next _ _
       (no_clash _ _ _ _ c.nodes.ensures.value c.nodes-2.ensures.value c.if-nodes-gt64.false
       c.shares_key.ensures.value c.if-shares_key.false)
@@ -65,7 +65,7 @@ pub returns : goal.returns
 returns c = record {
   answer =
       sym
-      (next _ _ (same_sides _ _ _ _ c.sides-ours.ensures.value c.sides-theirs.ensures.value (not-false _ c.if-not-ours-theirs.false-raw))
+      (next _ _ (same_sides _ _ _ _ c.sides-ours.ensures.value c.sides-theirs.ensures.value (c.if-not-ours-theirs.false))
       ∙ next _ _
       (no_clash _ _ _ _ c.nodes.ensures.value c.nodes-2.ensures.value c.if-nodes-gt64.false
       c.shares_key.ensures.value c.if-shares_key.false)

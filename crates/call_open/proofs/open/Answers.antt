@@ -25,7 +25,7 @@ returns-then-not-in_range c = record {
   written =
       let a = c.args in
       let sides : Sides = record { ahead = a.clockwise; behind = a.counter_clockwise } in
-      let range = sym c.in_range.ensures.value ∙ not-true _ c.if-not-in_range.true-raw in
+      let range = sym c.in_range.ensures.value ∙ c.if-not-in_range.true in
       let no-range = refused_range a.words.now sides a.keys.now c.if-words-ne-LENGTH.false range in
       refuses a.words.now _ OpeningOutOfRange _ (ap is_accepted no-range) (sym no-range);
 }
@@ -36,8 +36,8 @@ returns-then-not-keys_fit-keys_differ c = record {
   written =
       let a = c.args in
       let sides : Sides = record { ahead = a.clockwise; behind = a.counter_clockwise } in
-      let range = sym c.in_range.ensures.value ∙ not-false _ c.if-not-in_range.false-raw in
-      let keys = sym (ap₂ ◌&&◌ c.keys_fit.ensures.value (c.keys_differ.ensures.value sides)) ∙ not-true _ c.if-not-keys_fit-keys_differ.true-raw in
+      let range = sym c.in_range.ensures.value ∙ c.if-not-in_range.false in
+      let keys = sym (ap₂ ◌&&◌ c.keys_fit.ensures.value (c.keys_differ.ensures.value sides)) ∙ c.if-not-keys_fit-keys_differ.true in
       let no_key = refused_key a.words.now sides a.keys.now c.if-words-ne-LENGTH.false range keys in
       refuses a.words.now _ BadKey _ (ap is_accepted no_key) (sym no_key);
 }
@@ -47,10 +47,10 @@ write-requires c = record {
   words =
       let a = c.args in
       let sides : Sides = record { ahead = a.clockwise; behind = a.counter_clockwise } in
-      let range = sym c.in_range.ensures.value ∙ not-false _ c.if-not-in_range.false-raw in
+      let range = sym c.in_range.ensures.value ∙ c.if-not-in_range.false in
       let keys =
       sym (ap₂ ◌&&◌ c.keys_fit.ensures.value (c.keys_differ.ensures.value sides))
-      ∙ not-false _ c.if-not-keys_fit-keys_differ.false-raw in
+      ∙ c.if-not-keys_fit-keys_differ.false in
       let ok = opened a.words.now sides a.keys.now c.if-words-ne-LENGTH.false range keys in (
         c.if-words-ne-LENGTH.false,
         sides_room a.words.now sides a.keys.now ok,
@@ -65,10 +65,10 @@ returns c = record {
   written =
       let a = c.args in
       let sides : Sides = record { ahead = a.clockwise; behind = a.counter_clockwise } in
-      let range = sym c.in_range.ensures.value ∙ not-false _ c.if-not-in_range.false-raw in
+      let range = sym c.in_range.ensures.value ∙ c.if-not-in_range.false in
       let keys =
       sym (ap₂ ◌&&◌ c.keys_fit.ensures.value (c.keys_differ.ensures.value sides))
-      ∙ not-false _ c.if-not-keys_fit-keys_differ.false-raw in
+      ∙ c.if-not-keys_fit-keys_differ.false in
       let ok = opened a.words.now sides a.keys.now c.if-words-ne-LENGTH.false range keys in
       accepts a.words.now _ _ Accepted _ ok (sym ok) c.write.ensures.words;
 }

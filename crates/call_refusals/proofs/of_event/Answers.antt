@@ -6,26 +6,26 @@ use Rattle.call_refusals.proofs.of_event.Goals as goal
 
 -- 1
 pub returns-then-not-as_long : goal.returns-then-not-as_long
-returns-then-not-as_long c = record { admitted = not_as_long _ _ (sym c.as_long.ensures.value ∙ not-true _ c.if-not-as_long.true-raw) }
+returns-then-not-as_long c = record { admitted = not_as_long _ _ (sym c.as_long.ensures.value ∙ c.if-not-as_long.true) }
 
 pub reads_as_ring-requires : goal.reads_as_ring-requires
-reads_as_ring-requires c = record { length = eqb-true _ _ (sym c.as_long.ensures.value ∙ not-false _ c.if-not-as_long.false-raw) }
+reads_as_ring-requires c = record { length = eqb-true _ _ (sym c.as_long.ensures.value ∙ c.if-not-as_long.false) }
 
 -- 6
 pub returns-then-not-reads_as_ring : goal.returns-then-not-reads_as_ring
 returns-then-not-reads_as_ring c = record {
   admitted =
-      let long = sym c.as_long.ensures.value ∙ not-false _ c.if-not-as_long.false-raw in
+      let long = sym c.as_long.ensures.value ∙ c.if-not-as_long.false in
       not_a_ring _ _ long c.read_event-reading.ensures.value c.in-Read.is
-      (sym c.reads_as_ring.ensures.value ∙ not-true _ c.if-not-reads_as_ring.true-raw);
+      (sym c.reads_as_ring.ensures.value ∙ c.if-not-reads_as_ring.true);
 }
 
 -- the event
 pub returns : goal.returns
 returns c = record {
   admitted =
-      let long = sym c.as_long.ensures.value ∙ not-false _ c.if-not-as_long.false-raw in
-      let reads = sym c.reads_as_ring.ensures.value ∙ not-false _ c.if-not-reads_as_ring.false-raw in
+      let long = sym c.as_long.ensures.value ∙ c.if-not-as_long.false in
+      let reads = sym c.reads_as_ring.ensures.value ∙ c.if-not-reads_as_ring.false in
       subst (Admitted _ _) (sym c.in-Read.is)
       (record { reads = reads; same = an_event _ _ long c.read_event-reading.ensures.value c.in-Read.is reads });
 }
@@ -35,6 +35,6 @@ pub returns-in_default : goal.returns-in_default
 returns-in_default c = record {
   admitted =
       let is = c.in_default.is in
-      let long = sym c.as_long.ensures.value ∙ not-false _ c.if-not-as_long.false-raw in
+      let long = sym c.as_long.ensures.value ∙ c.if-not-as_long.false in
       subst (Admitted _ _) (sym is) (not_an_event _ _ long c.read_event-reading.ensures.value is);
 }

@@ -49,7 +49,7 @@ returns-then-not-is_running c = record {
       (next _ _ (in_table ws c.args.a.0 (omega (arith, n)))
       ∙ next _ _ (in_table ws c.args.b.0 (omega (arith, n)))
       ∙ one_off ws c.args.a.0 c.args.b.0
-      (sym (ap₂ ◌&&◌ c.is_running.ensures.value c.is_running-2.ensures.value) ∙ not-true _ c.if-not-is_running.true-raw));
+      (sym (ap₂ ◌&&◌ c.is_running.ensures.value c.is_running-2.ensures.value) ∙ c.if-not-is_running.true));
 }
 
 pub returns : goal.returns
@@ -61,5 +61,5 @@ returns c = record {
       (next _ _ (in_table ws c.args.a.0 (omega (arith, n)))
       ∙ next _ _ (in_table ws c.args.b.0 (omega (arith, n)))
       ∙ both_on ws c.args.a.0 c.args.b.0
-      (sym (ap₂ ◌&&◌ c.is_running.ensures.value c.is_running-2.ensures.value) ∙ not-false _ c.if-not-is_running.false-raw));
+      (sym (ap₂ ◌&&◌ c.is_running.ensures.value c.is_running-2.ensures.value) ∙ c.if-not-is_running.false));
 }

@@ -10,10 +10,10 @@ use Rattle.call_refusals.proofs.of_words.Goals as goal
 
 pub returns-then-not-as_long : goal.returns-then-not-as_long
 unfolding ring_answer
-returns-then-not-as_long c = record { answer = sym (here _ _ (ap not (sym c.as_long.ensures.value ∙ not-true _ c.if-not-as_long.true-raw))) }
+returns-then-not-as_long c = record { answer = sym (here _ _ (ap not (sym c.as_long.ensures.value ∙ c.if-not-as_long.true))) }
 
 pub reads_as_ring-requires : goal.reads_as_ring-requires
-reads_as_ring-requires c = record { length = eqb-true _ _ (sym c.as_long.ensures.value ∙ not-false _ c.if-not-as_long.false-raw) }
+reads_as_ring-requires c = record { length = eqb-true _ _ (sym c.as_long.ensures.value ∙ c.if-not-as_long.false) }
 
 pub returns-then-not-reads_as_ring : goal.returns-then-not-reads_as_ring
 unfolding ring_answer
@@ -21,8 +21,8 @@ returns-then-not-reads_as_ring c = record {
   answer =
       let ws : List ℕ = c.args.words.now in
       sym
-      (next _ _ (ap not (sym c.as_long.ensures.value ∙ not-false _ c.if-not-as_long.false-raw))
-      ∙ here _ _ (no_ring ws (sym c.reads_as_ring.ensures.value ∙ not-true _ c.if-not-reads_as_ring.true-raw)));
+      (next _ _ (ap not (sym c.as_long.ensures.value ∙ c.if-not-as_long.false))
+      ∙ here _ _ (no_ring ws (sym c.reads_as_ring.ensures.value ∙ c.if-not-reads_as_ring.true)));
 }
 
 pub returns : goal.returns
@@ -31,7 +31,7 @@ returns c = record {
   answer =
       let ws : List ℕ = c.args.words.now in
       sym
-      (next _ _ (ap not (sym c.as_long.ensures.value ∙ not-false _ c.if-not-as_long.false-raw))
-      ∙ next _ _ (a_ring ws (sym c.reads_as_ring.ensures.value ∙ not-false _ c.if-not-reads_as_ring.false-raw))
+      (next _ _ (ap not (sym c.as_long.ensures.value ∙ c.if-not-as_long.false))
+      ∙ next _ _ (a_ring ws (sym c.reads_as_ring.ensures.value ∙ c.if-not-reads_as_ring.false))
       ∙ no_more);
 }

@@ -29,7 +29,7 @@ returns-then-not-is_running c = record {
       let a = c.args in
       sym
       (next _ _ (Refusals.in_table a.words.now a.x.0 (omega (arith, c.nodes.ensures.value)))
-      ∙ here _ _ (Refusals.off a.words.now a.x.0 (sym c.is_running.ensures.value ∙ not-true _ c.if-not-is_running.true-raw)));
+      ∙ here _ _ (Refusals.off a.words.now a.x.0 (sym c.is_running.ensures.value ∙ c.if-not-is_running.true)));
 }
 
 pub clock-requires : goal.clock-requires
@@ -45,7 +45,7 @@ returns-then-clock-eq-CLOCK c = record {
       let a = c.args in
       sym
       (Refusals.runs a.words.now a.x.0 _ (omega (arith, c.nodes.ensures.value))
-      (sym c.is_running.ensures.value ∙ not-false _ c.if-not-is_running.false-raw)
+      (sym c.is_running.ensures.value ∙ c.if-not-is_running.false)
       ∙ here _ _ (Refusals.spent a.words.now a.x.0 (sym c.clock.ensures.value ∙ c.if-clock-eq-CLOCK.true)));
 }
 
@@ -55,7 +55,7 @@ returns c = record {
       let a = c.args in
       sym
       (Refusals.runs a.words.now a.x.0 _ (omega (arith, c.nodes.ensures.value))
-      (sym c.is_running.ensures.value ∙ not-false _ c.if-not-is_running.false-raw)
+      (sym c.is_running.ensures.value ∙ c.if-not-is_running.false)
       ∙ next _ _ (Refusals.unspent a.words.now a.x.0 (λ e. c.if-clock-eq-CLOCK.false (c.clock.ensures.value ∙ e)))
       ∙ no_more);
 }

@@ -45,13 +45,13 @@ pub returns-then-not-is_running : goal.returns-then-not-is_running
 returns-then-not-is_running c = record {
   decides =
       Delivery.off_decides c.requires.ring c.load-message.ensures.loaded (omega (arith, c.messages-m.ensures.value)) c.args.echo
-      c.taken.ensures.value (sym c.is_running.ensures.value ∙ not-true _ c.if-not-is_running.true-raw) c.silent.ensures.decided;
+      c.taken.ensures.value (sym c.is_running.ensures.value ∙ c.if-not-is_running.true) c.silent.ensures.decided;
 }
 
 pub returns-then-is_refusal : goal.returns-then-is_refusal
 returns-then-is_refusal c = record {
   decides =
-      let on = sym c.is_running.ensures.value ∙ not-false _ c.if-not-is_running.false-raw in
+      let on = sym c.is_running.ensures.value ∙ c.if-not-is_running.false in
       let rise = Delivery.must_rise c.load-message.ensures.loaded (omega (arith, c.messages-m.ensures.value)) c.requires.ring on c.args.echo in
       asked_refused c.refused-then-is_refusal.ensures.answer (c.may_act-answer.ensures.answer ∙ rise) c.is_refusal.ensures.value c.if-is_refusal.true;
 }
@@ -79,6 +79,6 @@ returns c = record {
   decides =
       Delivery.on_decides c.requires.ring c.load-message.ensures.loaded (omega (arith, c.messages-m.ensures.value, c.if-m-k.false))
       c.args.echo c.taken-2.ensures.value c.load-actor.ensures.actor c.step-effect.ensures.effect
-      (sym c.is_running.ensures.value ∙ not-false _ c.if-not-is_running.false-raw)
+      (sym c.is_running.ensures.value ∙ c.if-not-is_running.false)
       (accepted c.may_act-answer.result _ c.may_act-answer.ensures.answer c.is_refusal.ensures.value c.if-is_refusal.false) c.acting.ensures.decided;
 }

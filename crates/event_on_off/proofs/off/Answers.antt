@@ -34,7 +34,7 @@ returns-then-not-is_running c = record {
   decides =
       refused_before c.refused-then-not-is_running.ensures.answer
       (next _ _ (Refusals.in_table _ _ (omega (arith, c.nodes-n.ensures.value)))
-      ∙ here _ _ (Refusals.off _ _ (sym c.is_running.ensures.value ∙ not-true _ c.if-not-is_running.true-raw))) refl;
+      ∙ here _ _ (Refusals.off _ _ (sym c.is_running.ensures.value ∙ c.if-not-is_running.true))) refl;
 }
 
 pub messages-m-requires : goal.messages-m-requires
@@ -53,9 +53,9 @@ returns-then-not-polite c = record {
       let ws : List ℕ = c.args.words.now in
       let x : ℕ = c.args.x.0 in
       let in_table : x < size (decode_table ws) = omega (arith, c.nodes-n.ensures.value) in
-      let on = sym c.is_running.ensures.value ∙ not-false _ c.if-not-is_running.false-raw in
+      let on = sym c.is_running.ensures.value ∙ c.if-not-is_running.false in
       silent_decides ws c.requires.ring c.silent.ensures.decided (Off c.args.x c.args.polite) (may_stop ws x in_table on)
-      tt in_table (lit< tt) (λ e. absurd (never_starts refl e)) (stops (decode ws) c.args.x (not-true _ c.if-not-polite.true-raw) refl);
+      tt in_table (lit< tt) (λ e. absurd (never_starts refl e)) (stops (decode ws) c.args.x (c.if-not-polite.true) refl);
 }
 
 pub load-own-requires : goal.load-own-requires
@@ -84,10 +84,10 @@ returns c = record {
       let x : ℕ = c.args.x.0 in
       let in_table : x < size (decode_table ws) = omega (arith, c.nodes-n.ensures.value) in
       let left = c.leaving-effect.ensures.effect (decode_table ws) x 0 (few ws c.requires.ring) (loaded_fits ws x c.requires.ring _ c.load-own.ensures.loaded) in
-      let on = sym c.is_running.ensures.value ∙ not-false _ c.if-not-is_running.false-raw in
+      let on = sym c.is_running.ensures.value ∙ c.if-not-is_running.false in
       let change = stopping c.args.x c.leaving-effect.result in
       decides ws (Off c.args.x c.args.polite) (may_stop ws x in_table on)
       change (change_fits change left c.requires.ring tt in_table (lit< tt) (λ e. absurd (never_starts refl e)))
-      (leaves (decode ws) c.args.x 0 (not-false _ c.if-not-polite.false-raw) left.effect c.load-own.ensures.loaded.own) _
+      (leaves (decode ws) c.args.x 0 (c.if-not-polite.false) left.effect c.load-own.ensures.loaded.own) _
       c.decided.ensures.decided;
 }

@@ -1,8 +1,8 @@
 use mathlib.Core.Path.{◌≡◌, sym, ◌∙◌}
-use Prim.Native.Nat.{◌-◌, ◌<◌}
+use Prim.Native.Nat.{◌<◌}
 use native.Mathlib.Omega.{arith}
 use borrow.Author.Rules.{rules}
-use Rattle.model.specs.Leafset.{size, key}
+use Rattle.model.specs.Leafset.{size}
 use Rattle.model.specs.Words.{decode_table}
 use Rattle.ring_head.proofs.Decoded.{key_read}
 use Rattle.ring_head.proofs.Arrays.{fill_none, fill_more}

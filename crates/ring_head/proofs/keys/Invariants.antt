@@ -1,4 +1,4 @@
-use Prim.Native.Nat.{◌-◌, ◌≤◌}
+use Prim.Native.Nat.{◌≤◌}
 use Rattle.model.specs.Leafset.{key}
 use Rattle.model.specs.Words.{decode_table}
 use Rattle.ring_head.proofs.Arrays.{Filled}

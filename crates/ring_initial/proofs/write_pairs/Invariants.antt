@@ -1,4 +1,4 @@
-use Prim.Native.Nat.{◌-◌, ◌≤◌}
+use Prim.Native.Nat.{◌≤◌}
 use Rattle.ring_initial.specs.Rows.{Rows}
 use Rattle.ring_initial.proofs.write_pairs.Given as goal
 

@@ -1,6 +1,6 @@
 -- The first k of the second's messages stand after the m: each is loaded, has room to rise, and is put.
 use mathlib.Core.Path.{◌≡◌}
-use Prim.Native.Nat.{◌-◌, ◌≤◌}
+use Prim.Native.Nat.{◌≤◌}
 use lib.ListN.{length}
 use Rattle.model.specs.Words.{decode}
 use Rattle.ring_join.proofs.Messages.{Appended}

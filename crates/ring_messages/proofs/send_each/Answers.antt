@@ -1,6 +1,5 @@
 use mathlib.Core.Path.{sym, ◌∙◌}
 use borrow.Author.Rules.{rules}
-use Rattle.model.specs.Steps.{plain}
 use Rattle.ring_messages.proofs.Sends.{sent_room, send_none, send_more, send_all, sent_below}
 use Rattle.ring_messages.proofs.send_each.Goals as goal
 

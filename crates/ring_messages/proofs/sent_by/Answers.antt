@@ -1,4 +1,3 @@
-use Prim.Native.Nat.{◌-◌}
 use native.Mathlib.Omega.{arith}
 use Rattle.ring_messages.proofs.Sent.{sent_before_first, sent_before_next, sent_before_few, sent_before_last}
 use Rattle.ring_messages.proofs.sent_by.Goals as goal

@@ -1,5 +1,4 @@
 -- Each message counts where its sender is x.
-use Prim.Native.Nat.{◌-◌}
 use Rattle.ring_messages.proofs.Sent.{SentBefore}
 use Rattle.ring_messages.proofs.sent_by.Given as goal
 

@@ -1,5 +1,5 @@
 use mathlib.Core.Path.{◌≡◌}
-use Prim.Native.Nat.{◌≤◌, ◌-◌}
+use Prim.Native.Nat.{◌≤◌}
 use Rattle.model.specs.Sets.{of_bits}
 use Rattle.model.specs.Fields.{flag}
 use Rattle.model.specs.Words.{at, node_place}

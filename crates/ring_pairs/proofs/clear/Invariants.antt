@@ -1,4 +1,4 @@
-use Prim.Native.Nat.{◌-◌, ◌≤◌}
+use Prim.Native.Nat.{◌≤◌}
 use Rattle.model.specs.Ring.{cleared}
 use Rattle.ring_pairs.specs.Stored.{Stored}
 use Rattle.ring_pairs.proofs.clear.Given as goal

@@ -1,4 +1,3 @@
-use Prim.Native.Nat.{◌-◌}
 use Rattle.ring_pairs.proofs.Loads.{Loading}
 use Rattle.ring_pairs.proofs.load.Given as goal
 

@@ -1,5 +1,5 @@
 use mathlib.Core.Path.{◌≡◌}
-use Prim.Native.Nat.{◌-◌, ◌/◌, ◌^◌, ◌≤◌}
+use Prim.Native.Nat.{◌/◌, ◌^◌, ◌≤◌}
 use Rattle.model.specs.Structs.{own_of}
 use Rattle.ring_pairs.specs.Stored.{Stored}
 use Rattle.ring_pairs.proofs.store.Given as goal

@@ -13,13 +13,13 @@ unfolding steps.timer4
 returns-then-not-passes_zero c = record {
   effect =
       λ sides time.
-      rw (sym (c.passes_zero.ensures.value sides) ∙ not-true _ c.if-not-passes_zero.true-raw) (c.quiet.ensures.effect _ _ _ _ (unchanged c.requires.record));
+      rw (sym (c.passes_zero.ensures.value sides) ∙ c.if-not-passes_zero.true) (c.quiet.ensures.effect _ _ _ _ (unchanged c.requires.record));
 }
 
 pub naming-requires : goal.naming-requires
 naming-requires c = record {
   bounds =
-      let passes = sym (c.passes_zero.ensures.value any_sides) ∙ not-false _ c.if-not-passes_zero.false-raw in
+      let passes = sym (c.passes_zero.ensures.value any_sides) ∙ c.if-not-passes_zero.false in
       let low = some_successor any_sides c.requires.table (passes_some any_sides c.requires.table passes) in (
         omega arith,
         omega (arith, c.requires.table.node, c.requires.table.few),
@@ -34,7 +34,7 @@ returns c = record {
   effect =
       let a = c.args in
       λ sides time.
-      rw (sym (c.passes_zero.ensures.value sides) ∙ not-false _ c.if-not-passes_zero.false-raw)
+      rw (sym (c.passes_zero.ensures.value sides) ∙ c.if-not-passes_zero.false)
       (c.replying.ensures.effect _ _ _ _ _ (unchanged c.requires.record) (record {
         message = c.naming.ensures.message.message ∙ ap (λ (y : ℕ). steps.naming 11 a.me.0 y a.me.0) (c.successor-next.ensures.value sides);
         room = c.naming.ensures.message.room;

@@ -20,7 +20,7 @@ returns-then-not-has c = record {
       let near = near_test a.sides c.requires.lent.table a.message.sender.0 _
       c.with.ensures.members c.requires.message.1 _ c.leafset-near.ensures.value
       in
-      rw (sym near ∙ sym c.has.ensures.value ∙ not-true _ c.if-not-has.true-raw)
+      rw (sym near ∙ sym c.has.ensures.value ∙ c.if-not-has.true)
       (c.quiet.ensures.effect _ _ _ _ (unchanged c.requires.lent.own_fits));
 }
 
@@ -32,6 +32,6 @@ returns c = record {
       let near = near_test a.sides c.requires.lent.table a.message.sender.0 _
       c.with.ensures.members c.requires.message.1 _ c.leafset-near.ensures.value
       in
-      rw (sym near ∙ sym c.has.ensures.value ∙ not-false _ c.if-not-has.false-raw)
+      rw (sym near ∙ sym c.has.ensures.value ∙ c.if-not-has.false)
       (c.quiet-2.ensures.effect _ _ _ _ (c.hold.ensures.record _ c.requires.lent.own_fits c.requires.message.1));
 }

@@ -9,7 +9,7 @@ unfolding steps.on_ping_replace
 returns-then-not-has c = record {
   effect =
       λ t n fits.
-      rw (sym c.has.ensures.value ∙ not-true _ c.if-not-has.true-raw) (c.quiet.ensures.effect n _ _ _ (unchanged fits));
+      rw (sym c.has.ensures.value ∙ c.if-not-has.true) (c.quiet.ensures.effect n _ _ _ (unchanged fits));
 }
 
 pub returns : goal.returns
@@ -17,6 +17,6 @@ unfolding steps.on_ping_replace
 returns c = record {
   effect =
       λ t n fits.
-      rw (sym c.has.ensures.value ∙ not-false _ c.if-not-has.false-raw)
+      rw (sym c.has.ensures.value ∙ c.if-not-has.false)
       (c.replying.ensures.effect n _ _ _ _ (c.set_commit-next.ensures.record n fits) c.stamped-answer.ensures.message);
 }

@@ -26,7 +26,7 @@ returns-then-not-has-own c = record {
       let asked = replace-test a.own _ a.message.sender.0 a.message.subject.0 _ _
       c.requires.lent.own_fits.room c.requires.message.2 c.has.ensures.value c.outside-outside.ensures.members
       in
-      rw (sym asked ∙ not-true _ c.if-not-has-own.true-raw)
+      rw (sym asked ∙ c.if-not-has-own.true)
       (c.quiet.ensures.effect _ _ _ _ (unchanged c.requires.lent.own_fits));
 }
 
@@ -41,6 +41,6 @@ returns c = record {
       let asked = replace-test a.own _ a.message.sender.0 a.message.subject.0 _ _
       c.requires.lent.own_fits.room c.requires.message.2 c.has.ensures.value c.outside-outside.ensures.members
       in
-      rw (sym asked ∙ not-false _ c.if-not-has-own.false-raw)
+      rw (sym asked ∙ c.if-not-has-own.false)
       (c.quiet-2.ensures.effect _ _ _ _ (c.replaced.ensures.record _ c.requires.lent.own_fits c.requires.message.1));
 }

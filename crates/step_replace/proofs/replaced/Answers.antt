@@ -5,7 +5,7 @@ use Rattle.records.proofs.Changes.{then}
 use Rattle.step_replace.proofs.replaced.Goals as goal
 
 pub returns-then-not-is_before : goal.returns-then-not-is_before
-returns-then-not-is_before c = record { «record» = λ n fits low. rw (sym c.is_before.ensures.value ∙ not-true _ c.if-not-is_before.true-raw) (c.hold-next.ensures.record n fits low) }
+returns-then-not-is_before c = record { «record» = λ n fits low. rw (sym c.is_before.ensures.value ∙ c.if-not-is_before.true) (c.hold-next.ensures.record n fits low) }
 
 pub release-requires : goal.release-requires
 release-requires c =
@@ -24,6 +24,6 @@ returns c = record {
       λ n fits low.
       let held = c.hold-next.ensures.record n fits low in
       let free = then (steps.release a.z.0) held (c.release.ensures.record n held.fits) in
-      rw (sym c.is_before.ensures.value ∙ not-false _ c.if-not-is_before.false-raw)
+      rw (sym c.is_before.ensures.value ∙ c.if-not-is_before.false)
       (then (steps.set_commit a.y.0 a.time.0) free (c.set_commit.ensures.record n free.fits));
 }

@@ -1,5 +1,4 @@
 use mathlib.Core.Path.{sym, ◌∙◌}
-use borrow.Author.Tests.{not-true, not-false}
 use Rattle.model.specs.Sets.{of_bits}
 use Rattle.model.specs.Steps as steps
 use Rattle.sets.proofs.Bits.{within_without}
@@ -13,7 +12,7 @@ returns-then-not-has c = record {
       let a = c.args in
       λ n fits.
       let low = within_without n a.own.candidates a.z.0 _ c.without-candidates.ensures.members fits.candidates_within in
-      rw (sym c.has.ensures.value ∙ not-true _ c.if-not-has.true-raw)
+      rw (sym c.has.ensures.value ∙ c.if-not-has.true)
       (rw c.without-candidates.ensures.members at (c.set_candidates.ensures.record n fits low));
 }
 
@@ -25,6 +24,6 @@ returns c = record {
       λ n fits.
       let low = within_without n a.own.candidates a.z.0 _ c.without-candidates.ensures.members fits.candidates_within in
       let released = c.release.ensures.record n fits in
-      rw (sym c.has.ensures.value ∙ not-false _ c.if-not-has.false-raw)
+      rw (sym c.has.ensures.value ∙ c.if-not-has.false)
       (rw c.without-candidates.ensures.members at (then (steps.set_candidates (of_bits c.without-candidates.result)) released (c.set_candidates-2.ensures.record n released.fits low)));
 }

@@ -1,8 +1,7 @@
 -- Part by part: the numbers by `raised`, the view by the law of a set that is moved up.
 use Prim.Native.Nat.{◌^◌, ◌<◌}
 use native.Mathlib.Omega.{arith}
-use borrow.Author.Rules.{rules}
-use Rattle.ring_join.proofs.Raises.{raised_node_room, raised_room, raised_view}
+use Rattle.ring_join.proofs.Raises.{raised_view}
 use Rattle.ring_join.proofs.numbers.raised_message.Goals as goal
 
 pub returns-clause-message : goal.returns-clause-message

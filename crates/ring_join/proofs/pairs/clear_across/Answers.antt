@@ -1,5 +1,4 @@
 use mathlib.Core.Path.{◌≡◌, refl, ◌∙◌}
-use Prim.Native.Nat.{◌-◌}
 use native.Mathlib.Omega.{arith}
 use Rattle.model.specs.Ring.{cleared}
 use Rattle.ring_join.proofs.Rows.{row_span, rows_none, rows_more}

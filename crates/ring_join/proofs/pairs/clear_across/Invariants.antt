@@ -1,5 +1,5 @@
 -- Rows 0 up to x are cleared: each is a span beside its own node.
-use Prim.Native.Nat.{◌-◌, ◌≤◌}
+use Prim.Native.Nat.{◌≤◌}
 use Rattle.model.specs.Ring.{cleared}
 use Rattle.ring_join.specs.Parts.{Rows}
 use Rattle.ring_join.proofs.pairs.clear_across.Given as goal

@@ -1,6 +1,6 @@
 -- The pairs of y with the second's nodes from a up to z, each copied, its spare raised.
 use mathlib.Core.Path.{◌≡◌}
-use Prim.Native.Nat.{◌+◌, ◌-◌, ◌≤◌}
+use Prim.Native.Nat.{◌+◌, ◌≤◌}
 use lib.ListN.{length}
 use Rattle.model.specs.Words.{decode_own}
 use Rattle.model.specs.Join.{raised_own}
