@@ -98,13 +98,11 @@ fn run<R: Read, F: Read + Write + Seek, W: Write, E: Write>(
     print(file, output)
 }
 
-// Makes a temporary file that has no name any more. No other process has a name with the number of this one, unless one
-// before it was ended at this place.
+// Makes a temporary file that has no name any more: a name that no file had, by the number of this process.
 fn temporary<R: Files + Alloc>(rt: &R, process: u32) -> io::Result<R::File> {
     let mut options = OpenOptions::new();
     options.read(true).write(true).create_new(true).mode(0o600);
-    let mut n = 0;
-    loop {
+    for n in 0..NAMES {
         let name = format!(in rt.alloc(); "/tmp/mekvalgs.{process}.{n}")?;
         match options.open(rt, name.as_str()) {
             Ok(file) => {
@@ -112,13 +110,13 @@ fn temporary<R: Files + Alloc>(rt: &R, process: u32) -> io::Result<R::File> {
                 return Ok(file);
             }
             Err(error) => {
-                if error.kind() != ErrorKind::AlreadyExists || n == NAMES {
+                if error.kind() != ErrorKind::AlreadyExists {
                     return Err(error);
                 }
             }
         }
-        n += 1;
     }
+    Err(io::Error::from(ErrorKind::AlreadyExists))
 }
 
 fn main(rt: HostRuntime) -> Result<()> {

@@ -1,7 +1,7 @@
 -- The account after an event, and the listed events.
-use mathlib.Core.Path.{◌≡◌, refl, sym, ap, ◌∙◌, subst}
-use mathlib.Core.Bool.{Bool, true, false, not, ◌&&◌, ◌||◌}
-use mathlib.Core.List.{List, [], ◌∷◌, ◌++◌}
+use mathlib.Core.Path.{◌≡◌, refl, sym, ◌∙◌, subst}
+use mathlib.Core.Bool.{Bool, true, ◌&&◌, ◌||◌}
+use mathlib.Core.List.{List}
 use Prim.Native.Nat.{ℕ, zero, suc, ◌+◌, ◌≤◌, ◌<◌}
 use native.Mathlib.Numerals.{add-one}
 use native.Mathlib.Omega.{arith}
@@ -12,9 +12,8 @@ use Rattle.model.specs.Fields.{bit}
 use Rattle.model.specs.Ring.{Ring}
 use Rattle.model.specs.Events.{event_of}
 use Rattle.model.specs.declared.event.Event.{Event}
-use Rattle.model.proofs.Laws.{clash}
 use Rattle.audit_account.specs.Points.{acknowledgements, late_leaves, is_point, is_uncovered_word, is_on, is_off, is_notice}
-use Rattle.audit_account.specs.Accounts.{most, Entry, noted, counted, begun}
+use Rattle.audit_account.specs.Accounts.{most, noted, counted, begun}
 use Rattle.audit_account.specs.declared.Account.{Account}
 use Rattle.audit_lines.specs.Seen.{entries_of}
 use Rattle.audit_event.specs.Kept.{Few, Fresh, Listed}

@@ -1,19 +1,16 @@
 -- What is told of an event, and what is kept after it.
 use mathlib.Core.Path.{◌≡◌, refl, sym, ap, ◌∙◌, subst}
-use mathlib.Core.Bool.{Bool, true, false, not, not-not}
+use mathlib.Core.Bool.{Bool, true, false, not-not}
 use mathlib.Core.List.{List, [], ◌∷◌, ◌++◌, append_assoc}
-use Prim.Native.Nat.{ℕ, ◌+◌, ◌^◌, ◌≤◌, ◌<◌, min}
+use Prim.Native.Nat.{ℕ, ◌+◌, ◌^◌, ◌<◌, min}
 use native.Mathlib.Omega.{arith}
 use borrow.Author.Tests.{eq-eqb, ne_eqb}
-use lib.Dec.{eqb}
-use lib.ListN.{length}
 use Rattle.bench_lines.specs.Decimal.{decimal, newline}
 use Rattle.bench_lines.specs.Put.{Put}
-use Rattle.bench_lines.proofs.Puts.{put_none, put_as, put_more}
+use Rattle.bench_lines.proofs.Puts.{put_none, put_as}
 use Rattle.text_form.specs.Ascii.{ascii}
 use Rattle.text_form.specs.Describe.{word_text}
 use Rattle.std.specs.Prelude.{if◌then◌else◌}
-use Rattle.model.specs.Sets.{of_bits}
 use Rattle.model.specs.Leafset.{size}
 use Rattle.model.specs.Ring.{Ring, is_running}
 use Rattle.model.specs.Words.{decode_table, decode}
@@ -24,8 +21,8 @@ use Rattle.model.specs.declared.answer.Answer.{Answer}
 use Rattle.model.proofs.Cases.{after_table}
 use Rattle.model.proofs.Laws.{decide, if_law, not_in, not_out}
 use Rattle.audit_account.specs.Points.{is_point}
-use Rattle.audit_account.specs.Partings.{torn, parts, sides_text}
-use Rattle.audit_account.specs.Accounts.{most, Entry, Standing, noted, counted, begun, entered, after_parting, played}
+use Rattle.audit_account.specs.Partings.{parts, sides_text}
+use Rattle.audit_account.specs.Accounts.{most, Standing, noted, counted, begun, entered, after_parting, played}
 use Rattle.audit_account.specs.Accounts.{parted_text, verdict_text, event_text, word_lines}
 use Rattle.audit_account.specs.declared.Account.{Account}
 use Rattle.audit_lines.specs.Seen.{entries_of}
@@ -33,7 +30,7 @@ use Rattle.audit_parting.specs.Groups.{AreGroups}
 use Rattle.audit_parting.specs.Groups as groups
 use Rattle.ring_connection.proofs.Linked.{running_low}
 use Rattle.audit_parting.proofs.Tearing.{none_torn}
-use Rattle.audit_event.specs.Kept.{Few, Fresh, Lists, Kept, Noted, Around, Grouped, parting_text, Audits}
+use Rattle.audit_event.specs.Kept.{Few, Kept, Noted, Around, Grouped, parting_text}
 
 parted_parts : (a b c d e : List ℕ) → (((a ++ b) ++ c) ++ d) ++ e ≡ a ++ b ++ c ++ d ++ e
 parted_parts a b c d e = simp append_assoc

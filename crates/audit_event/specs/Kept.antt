@@ -2,7 +2,7 @@
 use Rattle.std.specs.Prelude.{◌≡◌, Bool, true, List, [], ◌∷◌, ◌++◌, ℕ, ◌+◌, ◌≤◌, ◌<◌, min, length, if◌then◌else◌}
 use Rattle.model.specs.Sets.{of_bits}
 use Rattle.model.specs.Leafset.{size}
-use Rattle.model.specs.Ring.{Ring, is_running}
+use Rattle.model.specs.Ring.{is_running}
 use Rattle.model.specs.Answers.{number_of}
 use Rattle.model.specs.Words.{decode, reads_as_ring}
 use Rattle.model.specs.Play.{play_word}

@@ -45,17 +45,6 @@ few zero n f = omega arith
 few (suc zero) n f = omega arith
 few (suc (suc r)) n f = omega (arith, below_pow r, not_above r n f)
 
--- a number below 10 ^ k has at most k digits
-pub at_most : (k r n : ℕ) → 1 ≤ k → n < 10 ^ k → IsDigitCount 10 1 n r → r ≤ k
-at_most k zero n h b f = omega arith
-at_most k (suc zero) n h b f = h
-at_most zero (suc (suc r)) n h b f = omega arith
-at_most (suc zero) (suc (suc r)) n h b f = omega (arith, ten_or_more r n f)
-at_most (suc (suc k)) (suc (suc r)) n h b f =
-    let b' : n < 10 ^ suc k * 10 = rw (pow-suc 10 (suc k)) at b in
-    let i : suc r ≤ suc k = at_most (suc k) (suc r) (n / 10) (omega arith) (omega arith) (one_fewer r n f) in
-    omega arith
-
 pub fewest_decimal : (r n : ℕ) → IsDigitCount 10 1 n r → last_digits 10 r n ≡ decimal n
 unfolding decimal
 fewest_decimal r n f = decimal_in_lem (suc n) r n (few r n f) f

@@ -1,8 +1,6 @@
 // The drawing of the ring that a script leaves. The script is played as the bench plays it; the lines are dropped.
 #![tactic(auto)]
 
-#![tactic(auto)]
-
 ghost use Rattle.std.specs.Prelude.{◌≡◌, ◌^◌, ◌≤◌, length, IfOk, OnErr};
 ghost use Rattle.io.specs.Counts.{IsPrefixLen};
 ghost use Rattle.model.specs.Words.{ring_length};

@@ -27,3 +27,62 @@ pub fn read_full<R: Read>(reader: &mut R, buf: &mut [u8]) -> io::Result<usize>
     }
     Ok(done)
 }
+
+#[cfg(test)]
+mod tests {
+    use super::*;
+    use std::test::Fail;
+
+    // Gives the bytes from `next` to `last`, one at a time, and then ends or fails.
+    #[derive(Drop)]
+    struct Slow {
+        next: u8,
+        last: u8,
+        fails: bool,
+    }
+
+    impl Read for Slow {
+        fn read(&mut self, buf: &mut [u8]) -> io::Result<usize> {
+            if buf.is_empty() {
+                return Ok(0);
+            }
+            if self.next > self.last {
+                if self.fails {
+                    return Err(io::Error::from(io::ErrorKind::Other));
+                }
+                return Ok(0);
+            }
+            buf[0] = self.next;
+            self.next = self.next.saturating_add(1);
+            Ok(1)
+        }
+    }
+
+    #[test]
+    fn reads_part_after_part(rt: HostRuntime) -> Result<(), Fail> {
+        let mut reader = Slow {
+            next: 1,
+            last: 5,
+            fails: false,
+        };
+        let mut buf = [0u8; 3];
+        assert_eq!(rt; read_full(&mut reader, &mut buf)?, 3);
+        assert_eq!(rt; buf, [1, 2, 3]);
+        assert_eq!(rt; read_full(&mut reader, &mut buf)?, 2);
+        assert_eq!(rt; buf, [4, 5, 3]);
+        assert_eq!(rt; read_full(&mut reader, &mut buf)?, 0);
+        Ok(())
+    }
+
+    #[test]
+    fn fails_in_mid_stream(rt: HostRuntime) {
+        let mut reader = Slow {
+            next: 1,
+            last: 2,
+            fails: true,
+        };
+        let mut buf = [0u8; 4];
+        assert!(rt; read_full(&mut reader, &mut buf).is_err());
+        assert!(rt; read_full(&mut reader, &mut buf).is_err());
+    }
+}

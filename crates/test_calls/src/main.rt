@@ -2,8 +2,6 @@
 // document 01 demands of them, by an implementation of its own (compare/README.md).
 #![tactic(auto)]
 
-#![tactic(auto)]
-
 mod ask;
 mod calls;
 mod command;

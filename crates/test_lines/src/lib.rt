@@ -1,8 +1,6 @@
 // What the test programs share: commands from standard input, digests, and the lines that they print.
 #![tactic(auto)]
 
-#![tactic(auto)]
-
 pub mod digests;
 
 ghost use Rattle.std.specs.Prelude.{◌≤◌, length};

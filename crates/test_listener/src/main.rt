@@ -2,8 +2,6 @@
 // document 02's note 13 demands of them, by an implementation of its own (compare/README.md).
 #![tactic(auto)]
 
-#![tactic(auto)]
-
 mod command;
 
 use listener::Called;

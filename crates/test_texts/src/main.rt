@@ -1,8 +1,6 @@
 // Makes random scripts, describes each, assembles its text, and compares the bytes: how many come back.
 #![tactic(auto)]
 
-#![tactic(auto)]
-
 mod make;
 mod random;
 

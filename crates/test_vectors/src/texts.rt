@@ -53,10 +53,5 @@ pub fn comes_back<R: Runtime>(rt: &R, name: &str) -> io::Result<bool> {
     let mut out = [0u8; ChunkRead::ROOM];
     let mut script = test_files::open(rt, name, ".bin")?;
     let n = streams::read_full(&mut script, &mut bytes)?;
-    Ok(test_trip::comes_back(
-        &bytes[..n],
-        &mut text,
-        &mut keys,
-        &mut out,
-    ))
+    Ok(test_trip::comes_back(&bytes[..n], &mut text, &mut keys, &mut out))
 }

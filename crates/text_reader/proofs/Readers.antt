@@ -1,9 +1,9 @@
 -- A reader's definitions, case by case.
 use mathlib.Core.Path.{◌≡◌, sym, ap, ◌∙◌}
-use mathlib.Core.Bool.{Bool, true, false, not}
+use mathlib.Core.Bool.{Bool, true, false}
 use Prim.Native.Nat.{ℕ, ◌+◌, ◌≤◌, ◌<◌}
 use lib.ListN.{length}
-use borrow.Author.Tests.{eq-eqb, ne_eqb, le-leb, lt-leb, not-true, not-false}
+use borrow.Author.Tests.{eq-eqb, ne_eqb, le-leb, lt-leb}
 use Rattle.bench_lines.specs.Decimal.{newline}
 use Rattle.text_form.specs.Assemble.{parts, expected_at, value_of, fits, line_given, silent, stopped, part_read, continued, complete}
 use Rattle.text_form.specs.Assemble.{line_ended, commented, grown_by, after, token_ended, hash, byte_read, closed}
@@ -94,13 +94,13 @@ module _ (r : Reader) (t : ℕ) {e : Expected} (expects : e ≡ expected_at r) w
   pub valued : {v : ℕ} → v ≡ value_of e t → v ≡ value_of (expected_at r) t
   valued f = f ∙ ap (λ (x : Expected). value_of x t) expects
 
-  pub fitted : {q : Bool} → q ≡ fits e t → not q ≡ false → fits (expected_at r) t ≡ true
-  fitted {q} f g = ap (λ (x : Expected). fits x t) (sym expects) ∙ sym f ∙ not-false q g
+  pub fitted : {q : Bool} → q ≡ fits e t → q ≡ true → fits (expected_at r) t ≡ true
+  fitted {q} f g = ap (λ (x : Expected). fits x t) (sym expects) ∙ sym f ∙ g
 
-  pub unfitted : {q : Bool} → q ≡ fits e t → not q ≡ true → silent (stopped r) ≡ continued r t
+  pub unfitted : {q : Bool} → q ≡ fits e t → q ≡ false → silent (stopped r) ≡ continued r t
   unfolding continued
   unfitted {q} f g =
-      let no-fit : fits (expected_at r) t ≡ false = ap (λ (x : Expected). fits x t) (sym expects) ∙ sym f ∙ not-true q g in
+      let no-fit : fits (expected_at r) t ≡ false = ap (λ (x : Expected). fits x t) (sym expects) ∙ sym f ∙ g in
       rw no-fit
 
 module _ (r : Reader) (t : ℕ) (fit : fits (expected_at r) t ≡ true) where

@@ -6,5 +6,5 @@ use Rattle.audit_parting.proofs.is_torn.Tie as tie
 returns : tie.Need-returns
 returns c = lost_some _ _ _ _ (search rules) c.minus.ensures
 
-pub is-torn-spec : {M : Type 1} → statement M
-is-torn-spec = tie.close (tie.spec (λ c κs. search rules) returns)
+pub is_torn_spec : {M : Type 1} → statement M
+is_torn_spec = tie.close (tie.spec (λ c κs. search rules) returns)

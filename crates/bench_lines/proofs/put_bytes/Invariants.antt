@@ -1,5 +1,4 @@
-use Prim.Native.Nat.{◌-◌}
-use lib.ListN.{length}
+use Rattle.std.proofs.Common.{length, ◌-◌}
 use Rattle.bench_lines.proofs.Puts.{Copied}
 use Rattle.bench_lines.proofs.put_bytes.Given as goal
 

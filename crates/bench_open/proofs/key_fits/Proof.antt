@@ -7,5 +7,5 @@ returns : tie.Need-returns
 unfolding key_fits
 returns c = rw (c.before.new.ensures, c.before.before.key.ensures)
 
-pub key-fits-spec : {M : Type 1} → statement M
-key-fits-spec = tie.close (tie.spec (λ c κs. search rules) (λ c κs. search rules) returns)
+pub key_fits_spec : {M : Type 1} → statement M
+key_fits_spec = tie.close (tie.spec (λ c κs. search rules) (λ c κs. search rules) returns)

@@ -8,5 +8,5 @@ returns : tie.Need-returns
 unfolding commented
 returns c = refl
 
-pub commented-spec : {M : Type 1} → statement M
-commented-spec = tie.close (tie.spec returns)
+pub commented_spec : {M : Type 1} → statement M
+commented_spec = tie.close (tie.spec returns)

@@ -8,5 +8,5 @@ returns : tie.Need-returns
 unfolding complete
 returns c = rw c.before.arity.ensures
 
-pub complete-spec : {M : Type 1} → statement M
-complete-spec = tie.close (tie.spec (λ c κs. search rules) returns)
+pub complete_spec : {M : Type 1} → statement M
+complete_spec = tie.close (tie.spec (λ c κs. search rules) returns)

@@ -8,5 +8,5 @@ returns : tie.Need-returns
 unfolding stopped
 returns c = refl
 
-pub stopped-spec : {M : Type 1} → statement M
-stopped-spec = tie.close (tie.spec returns)
+pub stopped_spec : {M : Type 1} → statement M
+stopped_spec = tie.close (tie.spec returns)

@@ -6,8 +6,8 @@ use borrow.Author.Rules.{rules}
 use Rattle.audit_event.proofs.cause.is_member.Statement.{statement}
 use Rattle.audit_event.proofs.cause.is_member.Tie as tie
 
-returns : tie.Need-returns
+returns : tie.Need-returns-then-z-ge64
 returns c = sym (is_false _ (λ t. absurd (omega (arith, bit_below 64 _ _ c.before.before.ranges.set.fits t))))
 
-pub is-member-spec : {M : Type 1} → statement M
-is-member-spec = tie.close (tie.spec returns (λ c κs. search rules) (λ c. search rules))
+pub is_member_spec : {M : Type 1} → statement M
+is_member_spec = tie.close (tie.spec returns (λ c κs. search rules) (λ c. search rules))

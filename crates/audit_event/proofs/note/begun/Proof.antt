@@ -1,6 +1,5 @@
 use mathlib.Core.Path.{refl}
 use Rattle.audit_account.specs.Accounts.{begun}
-use borrow.Author.Rules.{rules}
 use Rattle.audit_event.proofs.note.begun.Statement.{statement}
 use Rattle.audit_event.proofs.note.begun.Tie as tie
 
@@ -8,5 +7,5 @@ returns : tie.Need-returns
 unfolding begun
 returns c = refl
 
-pub begun-spec : {M : Type 1} → statement M
-begun-spec = tie.close (tie.spec returns)
+pub begun_spec : {M : Type 1} → statement M
+begun_spec = tie.close (tie.spec returns)

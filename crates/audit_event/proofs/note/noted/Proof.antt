@@ -11,7 +11,7 @@ returns c =
     let few = at_mark.before.before.requires.0 in
     let m = at_mark.mark.ensures in (
       λ ρ w u e.
-          noted_is _ ρ w _ _ m.0 at_on.is-on.ensures c.before.before.before.is-off.ensures c.before.is-notice.ensures u e,
+          noted_is _ ρ w _ _ m.0 at_on.is_on.ensures c.before.before.before.is_off.ensures c.before.is_notice.ensures u e,
       record {
         point = omega (arith, few.point);
         uncovered = omega (arith, few.uncovered, m.1);
@@ -22,8 +22,8 @@ returns c =
       },
     )
 
-pub noted-spec : {M : Type 1} → statement M
-noted-spec =
+pub noted_spec : {M : Type 1} → statement M
+noted_spec =
     tie.close
     (tie.spec
     (λ c. search rules) (λ c κs. search rules) (λ c. search rules) (λ c. search rules)

@@ -6,10 +6,10 @@ use Rattle.text_assemble.proofs.put.put_word.Tie as tie
 
 returns : tie.Need-returns
 unfolding word_bytes
-returns c = c.before.before.put-bytes.ensures
+returns c = c.before.before.put_bytes.ensures
 
-pub put-word-spec : {M : Type 1} → statement M
-put-word-spec =
+pub put_word_spec : {M : Type 1} → statement M
+put_word_spec =
     tie.close
     (tie.spec
     (λ c. search rules) (λ c. search rules) (λ c. search rules) (λ c. search rules) (λ c. search rules)

@@ -7,5 +7,5 @@ use Rattle.text_reader.proofs.line.arity.Tie as tie
 returns : tie.Need-returns
 returns c = arities c.args.kind c.requires
 
-pub arity-spec : {M : Type 1} → statement M
-arity-spec = tie.close (tie.spec (λ c. search rules) returns)
+pub arity_spec : {M : Type 1} → statement M
+arity_spec = tie.close (tie.spec (λ c. search rules) returns)

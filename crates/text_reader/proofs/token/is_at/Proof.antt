@@ -8,5 +8,5 @@ returns : tie.Need-returns
 unfolding packed grown
 returns c = refl
 
-pub is-at-spec : {M : Type 1} → statement M
-is-at-spec = tie.close (tie.spec returns)
+pub is_at_spec : {M : Type 1} → statement M
+is_at_spec = tie.close (tie.spec returns)

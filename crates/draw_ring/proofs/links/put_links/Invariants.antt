@@ -1,0 +1,7 @@
+use mathlib.Core.Path.{◌≡◌}
+use Prim.Native.Nat.{◌+◌, ◌*◌, ◌≤◌}
+use lib.ListN.{length}
+use Rattle.draw_ring.proofs.links.put_links.Given as goal
+
+abbrev pub invariant-loop-x : goal.invariant-loop-x
+invariant-loop-x l = (l.x ≤ length l.keys) × (l.end ≤ l.at + 26368 * l.x) × (length l.out ≡ length l.initial.out)
