@@ -11,7 +11,7 @@ use lib.Dec.{eqb}
 use lib.ListN.{length, length-drop}
 use Rattle.bench_lines.specs.Decimal.{line_bytes, lines_bytes}
 use Rattle.bench_lines.proofs.Decimals.{lines_append, one_line}
-use Rattle.model.specs.Choice.{if◌then◌else◌}
+use Rattle.std.specs.Prelude.{if◌then◌else◌}
 use Rattle.model.specs.Ring.{Ring, initial}
 use Rattle.model.specs.Sets.{tabulate}
 use Rattle.model.specs.Leafset.{size}

@@ -10,7 +10,7 @@ use mathlib.Core.List.{List, [], ◌∷◌, ◌++◌, map, Memᴰ}
 use lib.ListN.{get_or, take, drop}
 use lib.Dec.{eqb, ltb}
 use borrow.Author.Tests.{eqb-true, eqb-false, eq-eqb, ne_eqb, ltb-true}
-use Rattle.model.specs.Choice.{if◌then◌else◌}
+use Rattle.std.specs.Prelude.{if◌then◌else◌}
 use Rattle.model.specs.Sets.{Set, with, put, members, some, none_node}
 use Rattle.model.specs.Leafset.{Table, size, leafset, passes_zero}
 use Rattle.model.specs.Ring.{Ring, Own, Node, Message, blank, is_running, holds, message_at, initial}
