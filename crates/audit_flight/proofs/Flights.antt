@@ -63,7 +63,8 @@ module _ (ws : List ℕ) where
 
     message_is : (j : ℕ) → j < length (decode ws).messages → decode_message ws j ≡ message_at (decode ws) j
     unfolding decode
-    message_is j h = sym (get_d_tabulate (decode_message ws) blank (bits 11 11 (at ws 0)) j (rw (length_tabulate (decode_message ws) (bits 11 11 (at ws 0))) at h))
+    message_is j h = sym (get_d_tabulate (decode_message ws) blank (bits 11 11 (at ws 0)) j
+        (rw (length_tabulate (decode_message ws) (bits 11 11 (at ws 0))) at h))
 
     pub all_acknowledged : a ≡ acknowledgements (decode ws)
     unfolding acknowledgements

@@ -96,7 +96,10 @@ module _ (line : ℕ) (s : Stage) (c f : ℕ) (sides : Sides) (keys script : Lis
       ≡ state line (packed 0 bs) (stage_after d) d 1 0 sides keys (script ++ opened s d sides keys)
   unfolding text_read opened
   first_word t d bs there is ok h =
-      rw (begun_by t d there is ok, opening_given (opens s d) (state line t s c 0 f sides keys script) (reader line 0 (stage_after d) d 1 0 sides (length keys)))
+      rw (
+        begun_by t d there is ok,
+        opening_given (opens s d) (state line t s c 0 f sides keys script) (reader line 0 (stage_after d) d 1 0 sides (length keys)),
+      )
       (token_read line (stage_after d) d 1 0 sides keys (script ++ opened s d sides keys) 0 bs h)
 
 -- ---- the other words of a line

@@ -11,7 +11,8 @@ use Rattle.bench_session.proofs.begin.Goals as goal
 pub returns-then-refusal-ne0 : goal.returns-then-refusal-ne0
 returns-then-refusal-ne0 c = record {
   turn =
-      refused_script _ _ c.open_script-answer.result c.open_script-answer.ensures.written c.number-refusal.ensures.answer _ c.if-refusal-ne0.true c.requires.words.1
+      refused_script _ _ c.open_script-answer.result c.open_script-answer.ensures.written c.number-refusal.ensures.answer _ c.if-refusal-ne0.true
+      c.requires.words.1
       c.put_three.ensures.bytes;
 }
 

@@ -11,7 +11,10 @@ unfolding standing_of
 put_tail-tail_end-requires c =
     record {
       ring = c.audit_all-audited.ensures.audited.holds.kept.reads;
-      room = (omega (arith, c.audit_all-audited.ensures.audited.room, c.audit_all-audited.ensures.audited.put.long, c.requires.room.0, c.requires.room.1), omega (arith, audited_count c.audit_all-audited.ensures.audited, c.requires.room.0, c.requires.room.2));
+      room = (
+        omega (arith, c.audit_all-audited.ensures.audited.room, c.audit_all-audited.ensures.audited.put.long, c.requires.room.0, c.requires.room.1),
+        omega (arith, audited_count c.audit_all-audited.ensures.audited, c.requires.room.0, c.requires.room.2),
+      );
     }
 
 pub put_end-end-requires : goal.put_end-end-requires
@@ -24,4 +27,6 @@ put_end-end-requires c = record {
 }
 
 pub returns : goal.returns
-returns c = record { turn = turn_played c.args.bytes.now c.audit_all-audited.ensures.audited c.put_tail-tail_end.ensures.bytes c.put_end-end.ensures.bytes refl }
+returns c = record {
+  turn = turn_played c.args.bytes.now c.audit_all-audited.ensures.audited c.put_tail-tail_end.ensures.bytes c.put_end-end.ensures.bytes refl;
+}

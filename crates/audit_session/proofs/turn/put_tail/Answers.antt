@@ -29,6 +29,7 @@ returns c =
     let bytes = c.args.bytes.now in
     record {
       bytes = λ s ring count.
-          put_as (c.put_tail_line.ensures.bytes s (subst (Sees _) ring c.see-sight.ensures.sight) (ap (λ (k : ℕ). k + 1) count)) (ap (tail_line s) (rest_from bytes (words_end bytes)));
+          put_as (c.put_tail_line.ensures.bytes s (subst (Sees _) ring c.see-sight.ensures.sight) (ap (λ (k : ℕ). k + 1) count))
+          (ap (tail_line s) (rest_from bytes (words_end bytes)));
       end = c.put_tail_line.ensures.end;
     }
