@@ -556,7 +556,7 @@ all_stay r m h = h
 -- a node says that it leaves
 leaving_types : (t : Table) (x now : ℕ) (o : Own) (m : Message) → Memᴰ m (leaving t x now o).sent → m.type ≡ leave
 unfolding leaving
-leaving_types t x now o m h = ap (λ (a : Message). a.type) (map_out (plain leave x) (members (size t) o.held) m h).2
+leaving_types t x _ o m h = ap (λ (a : Message). a.type) (map_out (plain leave x) (members (size t) o.held) m h).2
 
 leave_requests : (r : Ring) (x : ℕ) → Requests r → Requests (send_leave x r)
 leave_requests r x q m h nine =

@@ -1,5 +1,5 @@
 -- Choice by a test, and several tests as one.
-use Rattle.std.specs.Prelude.{Bool, true, false, not, ◌&&◌, ◌||◌, List, [], ◌∷◌}
+use Rattle.std.specs.Prelude.{Bool, true, not, ◌&&◌, ◌||◌, List, [], ◌∷◌}
 
 -- b, wherever a
 infixr 25 ◌⇒◌
