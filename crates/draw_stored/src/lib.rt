@@ -1,7 +1,7 @@
 // The drawing of a ring that was stored as a short ring.
 #![tactic(auto)]
 
-ghost use Rattle.std.specs.Prelude.{◌≡◌, ◌≤◌, length};
+ghost use Rattle.std.specs.Prelude.{◌≡◌, ◌≤◌, length, IfOk, OnErr};
 ghost use Rattle.model.specs.Words.{ring_length};
 ghost use Rattle.draw_svg.specs.Room.{Room};
 

@@ -1,8 +1,0 @@
-use native.Mathlib.Omega.{arith}
-use borrow.Author.Rules.{rules}
-use Rattle.io.proofs.Counting.{prefix_len_of_le}
-use Rattle.test_calls.proofs.memory.at_most_bytes.Statement.{statement}
-use Rattle.test_calls.proofs.memory.at_most_bytes.Tie as tie
-
-pub at-most-bytes-spec : {M : Type 1} → statement M
-at-most-bytes-spec = tie.close (tie.spec (λ c κs. search rules) (λ c. prefix_len_of_le _ _ (omega arith)))
