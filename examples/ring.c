@@ -1,7 +1,7 @@
 /* A ring of three nodes, and the worked example of document 01 played on it:
  *
- *     rt staticlib mekvalgs
- *     cc -Iinclude examples/ring.c target/staticlib/libmekvalgs.a -o target/ring
+ *     (cd crates/mekvalgs && rt lib)
+ *     mkdir -p target && cc -Iinclude examples/ring.c crates/mekvalgs/out/libmekvalgs.a -o target/ring
  *     target/ring
  *
  * A preview of the first event; for each event its answer and the messages in flight; then each node with those that it

@@ -7,7 +7,7 @@ use lib.Dec.{eqb}
 use Rattle.bench_lines.specs.Decimal
 use Rattle.text_form.specs.Ascii.{ascii}
 use Rattle.text_form.specs.Describe
-use Rattle.model.specs.Choice.{if◌then◌else◌}
+use Rattle.std.specs.Prelude.{if◌then◌else◌}
 use Rattle.model.specs.Fields.{bit}
 use Rattle.model.specs.Sets
 use Rattle.model.specs.Sets.{empty, of_bits, none_node}

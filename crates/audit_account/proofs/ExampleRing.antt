@@ -2,7 +2,7 @@
 use mathlib.Core.List.{List, [], ◌∷◌}
 use Prim.Native.Nat.{ℕ}
 use lib.ListN.{get_or}
-use Rattle.model.specs.Choice.{if◌then◌else◌}
+use Rattle.std.specs.Prelude.{if◌then◌else◌}
 use Rattle.model.specs.Sets.{empty, of_bits, none_node}
 use Rattle.model.specs.Types.{ping_contact, pong_replace, leave}
 use Rattle.model.specs.Ring.{Own, Message, Ring}

@@ -10,7 +10,7 @@ use lib.Dec.{leb, ltb}
 use lib.ListN.{length, get_or, take, length-append}
 use lib.Seq.{take_all, take-append-le}
 use borrow.Author.Tests.{le-leb, lt-leb, ltb-true, ltb-false}
-use Rattle.model.specs.Choice.{if◌then◌else◌}
+use Rattle.std.specs.Prelude.{if◌then◌else◌}
 use Rattle.model.specs.Fields.{bit}
 use Rattle.model.specs.Sets.{Set, members, count}
 use Rattle.model.specs.Leafset.{Table}
@@ -45,7 +45,7 @@ or_assoc true b c = refl
 or_assoc false b c = refl
 
 -- x is added, if the test says so
-abbrev also {ℓ} : {A : Type ℓ} → Bool → A → List A
+abbrev also : {A : Type 0} → Bool → A → List A
 also b x = if b then x ∷ [] else []
 
 has_also : (S : Set) (xs : List ℕ) (b : Bool) (x : ℕ) → has S (xs ++ also b x) ≡ (has S xs || b && S x)

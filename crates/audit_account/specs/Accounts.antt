@@ -1,9 +1,8 @@
 -- The account of a script: what each event leaves in it and prints.
-use Rattle.std.specs.Prelude.{ℕ, ◌+◌, ◌-◌, Bool, false, ◌&&◌, ◌||◌, List, [], ◌∷◌, ◌++◌, ltb, eqb, length, get_or}
+use Rattle.std.specs.Prelude.{ℕ, ◌+◌, ◌-◌, Bool, false, ◌&&◌, ◌||◌, List, [], ◌∷◌, ◌++◌, ltb, eqb, length, get_or, if◌then◌else◌}
 use Rattle.bench_lines.specs.Decimal.{decimal, newline}
 use Rattle.text_form.specs.Ascii.{ascii}
 use Rattle.text_form.specs.Describe.{word_text}
-use Rattle.model.specs.Choice.{if◌then◌else◌}
 use Rattle.model.specs.Fields.{bit}
 use Rattle.model.specs.Leafset.{size}
 use Rattle.model.specs.Ring.{Ring}

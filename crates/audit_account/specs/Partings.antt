@@ -1,8 +1,7 @@
 -- Which running nodes an event parts: connected before it, both running after it, and not connected any more.
-use Rattle.std.specs.Prelude.{ℕ, zero, suc, Bool, not, ◌&&◌, List, [], ◌++◌}
+use Rattle.std.specs.Prelude.{ℕ, zero, suc, Bool, not, ◌&&◌, List, [], ◌++◌, if◌then◌else◌}
 use Rattle.bench_lines.specs.Decimal.{spaced}
 use Rattle.text_form.specs.Ascii.{ascii}
-use Rattle.model.specs.Choice.{if◌then◌else◌}
 use Rattle.model.specs.Sets.{Set, some, members}
 use Rattle.model.specs.Leafset.{size}
 use Rattle.model.specs.Ring.{Ring, is_running}

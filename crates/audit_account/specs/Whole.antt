@@ -1,9 +1,8 @@
 -- The account of a whole script.
-use Rattle.std.specs.Prelude.{ℕ, ◌+◌, ◌*◌, List, [], ◌∷◌, ◌++◌, length, drop}
+use Rattle.std.specs.Prelude.{ℕ, ◌+◌, ◌*◌, List, [], ◌∷◌, ◌++◌, length, drop, if◌then◌else◌}
 use Rattle.bench_lines.specs.Decimal.{space}
 use Rattle.text_form.specs.Names.{tail_name}
 use Rattle.text_form.specs.Describe.{hex_bytes}
-use Rattle.model.specs.Choice.{if◌then◌else◌}
 use Rattle.model.specs.Leafset.{Table, size}
 use Rattle.model.specs.Ring.{initial}
 use Rattle.model.specs.Answers.{is_accepted, number_of}

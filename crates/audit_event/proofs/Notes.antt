@@ -103,7 +103,11 @@ listed_one u k number word counts words l m h =
       counts_long = length-set counts k number ∙ l;
       words_long = length-set words k word ∙ m;
       kept = before;
-      added = λ t i. rw (add-one k) (rw (before k (omega arith), get_or-set_same counts k number 0 (omega arith), get_or-set_same words k word 0 (omega arith)));
+      added = λ t i. rw (add-one k) (rw (
+        before k (omega arith),
+        get_or-set_same counts k number 0 (omega arith),
+        get_or-set_same words k word 0 (omega arith),
+      ));
     }
   where
     before : (k' : ℕ) → k' ≤ k → entries_of (set counts k number) (set words k word) k' ≡ entries_of counts words k'

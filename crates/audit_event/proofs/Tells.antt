@@ -10,7 +10,7 @@ use Rattle.bench_lines.specs.Put.{Put}
 use Rattle.bench_lines.proofs.Puts.{put_none, put_as}
 use Rattle.text_form.specs.Ascii.{ascii}
 use Rattle.text_form.specs.Describe.{word_text}
-use Rattle.model.specs.Choice.{if◌then◌else◌}
+use Rattle.std.specs.Prelude.{if◌then◌else◌}
 use Rattle.model.specs.Leafset.{size}
 use Rattle.model.specs.Ring.{Ring, is_running}
 use Rattle.model.specs.Words.{decode_table, decode}

@@ -1,6 +1,5 @@
 -- An account in lent words: what is kept between two events.
-use Rattle.std.specs.Prelude.{◌≡◌, Bool, true, List, [], ◌∷◌, ◌++◌, ℕ, ◌+◌, ◌≤◌, ◌<◌, min, length}
-use Rattle.model.specs.Choice.{if◌then◌else◌}
+use Rattle.std.specs.Prelude.{◌≡◌, Bool, true, List, [], ◌∷◌, ◌++◌, ℕ, ◌+◌, ◌≤◌, ◌<◌, min, length, if◌then◌else◌}
 use Rattle.model.specs.Sets.{of_bits}
 use Rattle.model.specs.Leafset.{size}
 use Rattle.model.specs.Ring.{is_running}

@@ -1,6 +1,5 @@
 // An account by value.
-ghost use Rattle.std.specs.Prelude.{◌≡◌, ℕ, ◌+◌, ◌<◌, ◌^◌, length};
-ghost use Rattle.model.specs.Choice.{if◌then◌else◌};
+ghost use Rattle.std.specs.Prelude.{◌≡◌, ℕ, ◌+◌, ◌<◌, ◌^◌, length, if◌then◌else◌};
 ghost use Rattle.model.specs.Ring.{Ring};
 ghost use Rattle.model.specs.Events.{event_of};
 ghost use Rattle.audit_account.specs.Points.{is_uncovered_word};

@@ -7,7 +7,7 @@ use native.Mathlib.Numerals.{add-one}
 use native.Mathlib.Omega.{arith}
 use lib.Dec.{eqb}
 use lib.ListN.{length}
-use Rattle.model.specs.Choice.{if◌then◌else◌}
+use Rattle.std.specs.Prelude.{if◌then◌else◌}
 use Rattle.model.specs.Fields.{bit, bits}
 use Rattle.model.specs.Sets.{Set, count}
 use Rattle.model.specs.Types.{pong_replace, leave}
@@ -63,7 +63,8 @@ module _ (ws : List ℕ) where
 
     message_is : (j : ℕ) → j < length (decode ws).messages → decode_message ws j ≡ message_at (decode ws) j
     unfolding decode
-    message_is j h = sym (get_d_tabulate (decode_message ws) blank (bits 11 11 (at ws 0)) j (rw (length_tabulate (decode_message ws) (bits 11 11 (at ws 0))) at h))
+    message_is j h = sym (get_d_tabulate (decode_message ws) blank (bits 11 11 (at ws 0)) j
+        (rw (length_tabulate (decode_message ws) (bits 11 11 (at ws 0))) at h))
 
     pub all_acknowledged : a ≡ acknowledgements (decode ws)
     unfolding acknowledgements

@@ -7,7 +7,7 @@ use native.Mathlib.Numerals.{add-one}
 use native.Mathlib.Omega.{arith}
 use borrow.Author.Tests.{eq-eqb, ne_eqb, lt-ltb, le-ltb}
 use lib.ListN.{length, get_or}
-use Rattle.model.specs.Choice.{if◌then◌else◌}
+use Rattle.std.specs.Prelude.{if◌then◌else◌}
 use Rattle.bench_lines.specs.Decimal.{decimal, newline}
 use Rattle.bench_lines.specs.Put.{Put}
 use Rattle.bench_lines.proofs.Puts.{put_none, put_as, put_more}

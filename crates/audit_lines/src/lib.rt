@@ -8,7 +8,8 @@ ghost use Rattle.model.specs.Answers.{number_of};
 ghost use Rattle.model.specs.Ring.{Ring};
 ghost use Rattle.text_form.specs.Ascii.{ascii};
 ghost use Rattle.text_form.specs.Describe.{word_text};
-ghost use Rattle.audit_account.specs.Accounts.{most, Entry, answer_text, state_text, event_text, entry_text, entries_text};
+ghost use Rattle.audit_account.specs.Accounts.{most, Entry, answer_text, state_text};
+ghost use Rattle.audit_account.specs.Accounts.{event_text, entry_text, entries_text};
 ghost use Rattle.audit_account.specs.Accounts.{no_ring_text, more_text, verdict_text, end_text};
 ghost use Rattle.audit_lines.specs.Seen.{Sees, entries_of};
 

@@ -1,7 +1,6 @@
 -- What stands between the sides.
-use Rattle.std.specs.Prelude.{ℕ, Bool, List, []}
+use Rattle.std.specs.Prelude.{ℕ, Bool, List, [], if◌then◌else◌}
 use Rattle.text_form.specs.Ascii.{ascii}
-use Rattle.model.specs.Choice.{if◌then◌else◌}
 
 -- the bar, where another side stands before
 abbrev pub bar_text : Bool → List ℕ

@@ -1,7 +1,6 @@
 -- A session of the audit: what each chunk of the script prints and leaves.
-use Rattle.std.specs.Prelude.{Bool, true, false, List, [], ◌∷◌, ◌++◌, ℕ, ◌+◌, eqb, length, drop}
+use Rattle.std.specs.Prelude.{Bool, true, false, List, [], ◌∷◌, ◌++◌, ℕ, ◌+◌, eqb, length, drop, if◌then◌else◌}
 use Rattle.bench_script.specs.Chunks.{chunk_size, tail_of}
-use Rattle.model.specs.Choice.{if◌then◌else◌}
 use Rattle.model.specs.Leafset.{size}
 use Rattle.model.specs.Answers.{is_accepted}
 use Rattle.model.specs.Bench.{little_endian, script_table, script_answer}

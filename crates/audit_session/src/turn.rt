@@ -54,7 +54,8 @@ impl Session {
 
     // No ring was opened.
     pub fn ended(end: usize) -> Session
-        ensures session { (result.more ≡ false) × (result.opened ≡ false) × (result.account ≡ opened) × (result.end ≡ end) }
+        ensures session { (result.more ≡ false) × (result.opened ≡ false) × (result.account ≡ opened)
+            × (result.end ≡ end) }
     {
         let groups = [0u64; 64];
         Session {

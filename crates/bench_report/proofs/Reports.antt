@@ -42,7 +42,8 @@ held_list S {n} e = sym (spaced_append (n ∷ []) (members 64 (of_bits S))) ∙ 
 
 -- ---- a node
 
-pub state_of_node : (ws : List ℕ) (x : ℕ) {k time : ℕ} {b : Bool} → k ≡ key (decode_table ws) x → b ≡ (decode_node ws x).running → time ≡ (decode_node ws x).clock
+pub state_of_node : (ws : List ℕ) (x : ℕ) {k time : ℕ} {b : Bool} → k ≡ key (decode_table ws) x → b ≡ (decode_node ws x).running
+    → time ≡ (decode_node ws x).clock
     → ((decimal x ++ spaced (k ∷ [])) ++ spaced (bit b ∷ [])) ++ spaced (time ∷ []) ≡ state_bytes (decode ws) x
 unfolding state_bytes decode
 state_of_node ws x {k} {time} {b} e f g =

@@ -1,6 +1,5 @@
 -- A script in chunks of bytes, as they are read.
-use Rattle.std.specs.Prelude.{◌≡◌, List, [], ◌∷◌, ◌++◌, ℕ, zero, suc, ◌*◌, ◌<◌, ltb, length, take, drop}
-use Rattle.model.specs.Choice.{if◌then◌else◌}
+use Rattle.std.specs.Prelude.{◌≡◌, List, [], ◌∷◌, ◌++◌, ℕ, zero, suc, ◌*◌, ◌<◌, ltb, length, take, drop, if◌then◌else◌}
 use Rattle.model.specs.Bench.{little_endian}
 
 -- a chunk of the input that is shorter than this is the last

@@ -11,7 +11,7 @@ use lib.Dec.{eqb}
 use lib.ListN.{length, length-drop}
 use Rattle.bench_lines.specs.Decimal.{line_bytes, lines_bytes}
 use Rattle.bench_lines.proofs.Decimals.{lines_append, one_line}
-use Rattle.model.specs.Choice.{if◌then◌else◌}
+use Rattle.std.specs.Prelude.{if◌then◌else◌}
 use Rattle.model.specs.Ring.{Ring, initial}
 use Rattle.model.specs.Sets.{tabulate}
 use Rattle.model.specs.Leafset.{size}
@@ -121,8 +121,7 @@ whole_is : (r : Ring) (ev b : List ℕ) (m : ℕ) → size r.table ≡ m
     → whole session (0, r) ev (tail_of b)
     ≡ lines_bytes
     (event_lines 1 r ev
-    ++ (if eqb (4 * length (little_endian b)) (length b) then []
-    else ((length ev + 1) ∷ number_of NotAnEvent ∷ length (play_all r ev).messages ∷ []) ∷ [])
+    ++ (if eqb (4 * length (little_endian b)) (length b) then [] else ((length ev + 1) ∷ number_of NotAnEvent ∷ length (play_all r ev).messages ∷ []) ∷ [])
     ++ tabulate m (node_line (play_all r ev)))
     ++ groups_bytes (groups (play_all r ev))
 unfolding session

@@ -25,8 +25,7 @@ use Rattle.bench_session.specs.declared.turn.Session.{Session}
 -- ---- the first chunk
 
 module _ (ws script : List ℕ) {ws' : List ℕ} {n : ℕ} (a : Answer) (e : written a ws' ≡ open_script ws script) (number : n ≡ number_of a) where
-  pub refused_script : (bytes : ℕ) {out out' : List ℕ} {end : ℕ} → (n ≡ 0 → ⊥) → length ws ≡ ring_length
-      → Put out out' 0 end (line_bytes (0 ∷ n ∷ 0 ∷ []))
+  pub refused_script : (bytes : ℕ) {out out' : List ℕ} {end : ℕ} → (n ≡ 0 → ⊥) → length ws ≡ ring_length → Put out out' 0 end (line_bytes (0 ∷ n ∷ 0 ∷ []))
       → Stepped (first_turn script bytes) ws' out out' (record { more = false; opened = false; count = 0; end = end })
   unfolding first_turn
   refused_script bytes d long p =

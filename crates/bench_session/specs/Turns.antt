@@ -1,8 +1,7 @@
 -- A session of the bench: what each chunk of the script prints and leaves.
-use Rattle.std.specs.Prelude.{◌≡◌, Bool, true, false, List, [], ◌∷◌, ◌++◌, ℕ, ◌+◌, ◌%◌, ◌≤◌, eqb, length, drop}
+use Rattle.std.specs.Prelude.{◌≡◌, Bool, true, false, List, [], ◌∷◌, ◌++◌, ℕ, ◌+◌, ◌%◌, ◌≤◌, eqb, length, drop, if◌then◌else◌}
 use Rattle.bench_lines.specs.Decimal.{line_bytes, lines_bytes}
 use Rattle.bench_lines.specs.Put.{Put}
-use Rattle.model.specs.Choice.{if◌then◌else◌}
 use Rattle.model.specs.Leafset.{size}
 use Rattle.model.specs.Ring.{Ring, initial}
 use Rattle.model.specs.Answers.{number_of, is_accepted}

@@ -1,7 +1,6 @@
 -- A whole session: what its chunks print one after the other, beside the definition of the bench.
-use Rattle.std.specs.Prelude.{Bool, List, [], ◌∷◌, ◌++◌, ℕ}
+use Rattle.std.specs.Prelude.{Bool, List, [], ◌∷◌, ◌++◌, ℕ, if◌then◌else◌}
 use Rattle.bench_lines.specs.Decimal.{lines_bytes}
-use Rattle.model.specs.Choice.{if◌then◌else◌}
 use Rattle.model.specs.Ring.{Ring}
 use Rattle.model.specs.Bench.{Printed}
 use Rattle.bench_report.specs.Report.{groups_bytes}

@@ -9,7 +9,7 @@ use native.Mathlib.Omega.{arith}
 use lib.Dec.{eqb}
 use lib.ListN.{length, get_or}
 use borrow.Author.Tests.{eq-eqb}
-use Rattle.model.specs.Choice.{if◌then◌else◌}
+use Rattle.std.specs.Prelude.{if◌then◌else◌}
 use Rattle.model.specs.Key.{places, clockwise}
 use Rattle.model.specs.Ring.{Ring, is_running}
 use Rattle.model.specs.Reach.{spans, Ending, here, one_more, owner, next, reach, last_before, to_last}

@@ -8,7 +8,7 @@ use lib.Bits.{bit_and, and_le_r}
 use lib.Dec.{ltb}
 use lib.ListN.{length, get_or}
 use borrow.Author.Tests.{lt-ltb, le-ltb}
-use Rattle.model.specs.Choice.{if◌then◌else◌}
+use Rattle.std.specs.Prelude.{if◌then◌else◌}
 use Rattle.model.specs.Sets.{Set, some, of_bits, none_node}
 use Rattle.model.specs.Leafset.{Table, size, beats, nearest}
 use Rattle.model.specs.Ring.{Own, Ring, holds}

@@ -1,7 +1,6 @@
 -- What a route is walked with, and what a walk leaves.
-use Rattle.std.specs.Prelude.{◌≡◌, true, List, ℕ, ◌+◌, ◌-◌, length, get_or}
+use Rattle.std.specs.Prelude.{◌≡◌, true, List, ℕ, ◌+◌, ◌-◌, length, get_or, if◌then◌else◌}
 use Rattle.std.proofs.lemmas.List.Edits.{sets}
-use Rattle.model.specs.Choice.{if◌then◌else◌}
 use Rattle.model.specs.Sets.{of_bits, none_node}
 use Rattle.model.specs.Ring.{Ring, is_running}
 use Rattle.model.specs.Words.{decode_table, decode, reads_as_ring}

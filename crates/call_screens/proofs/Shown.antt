@@ -9,7 +9,7 @@ use lib.ListN.{length, take, drop, replicate, get_or-replicate, length-replicate
 use lib.Seq.{ext_get_or}
 use lib.Dec.{ltb, eqb}
 use borrow.Author.Tests.{lt-ltb, le-ltb}
-use Rattle.model.specs.Choice.{if◌then◌else◌}
+use Rattle.std.specs.Prelude.{if◌then◌else◌}
 use Rattle.model.specs.Sets.{Set, of_bits, to_bits, tabulate}
 use Rattle.model.specs.Leafset.{size, key, leafset}
 use Rattle.model.specs.Ring.{Own, Ring, holds, is_running}

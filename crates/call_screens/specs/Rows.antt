@@ -1,6 +1,5 @@
 -- What is put into the lent arrays of stamps and spares.
-use Rattle.std.specs.Prelude.{ℕ, ◌+◌, ◌-◌, ◌*◌, not, ◌&&◌, List, ltb, eqb}
-use Rattle.model.specs.Choice.{if◌then◌else◌}
+use Rattle.std.specs.Prelude.{ℕ, ◌+◌, ◌-◌, ◌*◌, not, ◌&&◌, List, ltb, eqb, if◌then◌else◌}
 use Rattle.model.specs.Leafset.{size}
 use Rattle.model.specs.Ring.{Own}
 use Rattle.model.specs.Words.{decode_table, decode}

@@ -2,8 +2,7 @@
 // answer, and writes zeros into what it is lent.
 #![tactic(auto)]
 
-ghost use Rattle.std.specs.Prelude.{◌≡◌, true, ◌<◌, ◌≤◌, length};
-ghost use Rattle.model.specs.Choice.{if◌then◌else◌};
+ghost use Rattle.std.specs.Prelude.{◌≡◌, true, ◌<◌, ◌≤◌, length, if◌then◌else◌};
 ghost use Rattle.model.specs.Sets.{tabulate, to_bits};
 ghost use Rattle.model.specs.Answers.{number_of};
 ghost use Rattle.model.specs.Words.{decode_table, decode, reads_as_ring};

@@ -1,6 +1,5 @@
 -- Points by angle and radius, in whole numbers. A turn has 65,536 parts, from the top, clockwise.
-use Rattle.std.specs.Prelude.{ℕ, ◌+◌, ◌-◌, ◌*◌, ◌/◌, ◌%◌, ◌≤◌, List, [], ◌∷◌, ◌==◌, slice_index}
-use Rattle.model.specs.Choice.{if◌then◌else◌}
+use Rattle.std.specs.Prelude.{ℕ, ◌+◌, ◌-◌, ◌*◌, ◌/◌, ◌%◌, ◌≤◌, List, [], ◌∷◌, ◌==◌, slice_index, if◌then◌else◌}
 use Rattle.draw_circle.specs.declared.Point.{Point}
 
 -- 32,768 times the sine of each 64th of a quarter turn

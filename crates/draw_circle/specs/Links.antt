@@ -1,6 +1,5 @@
 -- The curve between two discs, in halves.
-use Rattle.std.specs.Prelude.{ℕ, ◌+◌, ◌-◌, ◌*◌, ◌/◌, ◌%◌, nat_le}
-use Rattle.model.specs.Choice.{if◌then◌else◌}
+use Rattle.std.specs.Prelude.{ℕ, ◌+◌, ◌-◌, ◌*◌, ◌/◌, ◌%◌, nat_le, if◌then◌else◌}
 use Rattle.draw_circle.specs.declared.Point.{Point}
 use Rattle.draw_circle.specs.declared.curve.Half.{Half}
 use Rattle.draw_circle.specs.Circle.{point_at}

@@ -1,6 +1,5 @@
 -- Where the discs of the nodes stand.
-use Rattle.std.specs.Prelude.{List, map, ℕ, zero, suc, ◌+◌, ◌-◌, ◌*◌, ◌/◌, ◌%◌, min, max, ltb, length, get_or}
-use Rattle.model.specs.Choice.{if◌then◌else◌}
+use Rattle.std.specs.Prelude.{List, map, ℕ, zero, suc, ◌+◌, ◌-◌, ◌*◌, ◌/◌, ◌%◌, min, max, ltb, length, get_or, if◌then◌else◌}
 use Rattle.model.specs.Sets.{count}
 
 -- the angle of a key

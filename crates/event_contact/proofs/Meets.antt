@@ -6,7 +6,7 @@ use Prim.Native.Nat.{ℕ, ◌<◌}
 use native.Mathlib.Omega.{arith}
 use borrow.Author.Tests.{ltb-true, not-false}
 use Rattle.model.specs.Leafset.{size}
-use Rattle.model.specs.Choice.{if◌then◌else◌}
+use Rattle.std.specs.Prelude.{if◌then◌else◌}
 use Rattle.model.specs.Ring.{Own, Ring}
 use Rattle.model.specs.Steps.{Effect, contact, notice}
 use Rattle.model.specs.WellFormed.{nil, cons}

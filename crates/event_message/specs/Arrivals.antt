@@ -1,6 +1,5 @@
 -- What a delivery takes out.
-use Rattle.std.specs.Prelude.{ℕ, Bool}
-use Rattle.model.specs.Choice.{if◌then◌else◌}
+use Rattle.std.specs.Prelude.{ℕ, Bool, if◌then◌else◌}
 use Rattle.event_act.specs.declared.decision.Taken.{Taken}
 use Rattle.event_act.specs.declared.decision.Taken.TheVariants.{Nothing, Message}
 

@@ -1,7 +1,6 @@
 -- Distances in words of 32 bits are the defined ones, and ranks in them order nodes as nearness does.
-use Rattle.std.proofs.Common.{◌≡◌, ℕ, ◌+◌, ◌-◌, ◌*◌, ◌%◌, ◌^◌, ◌<◌, min, ltb, leb, sym, ◌∙◌, ap₂, arith}
+use Rattle.std.proofs.Common.{◌≡◌, ℕ, ◌+◌, ◌-◌, ◌*◌, ◌%◌, ◌^◌, ◌<◌, min, ltb, leb, sym, ◌∙◌, ap₂, arith, if◌then◌else◌}
 use lib.Pow.{mod-mod-pow}
-use Rattle.model.specs.Choice.{if◌then◌else◌}
 use Rattle.model.specs.Key.{places, clockwise}
 use Rattle.model.specs.Leafset.{Table, key, beats}
 use Rattle.leafset_nearest.specs.Span.{rank}

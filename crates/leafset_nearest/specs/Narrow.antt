@@ -1,6 +1,5 @@
 -- Distances on a processor of 32 bits: every sum, difference and double is a word, round at 2^32.
-use Rattle.std.specs.Prelude.{◌≡◌, ℕ, ◌+◌, ◌-◌, ◌*◌, ◌%◌, ◌^◌, min, nat_le}
-use Rattle.model.specs.Choice.{if◌then◌else◌}
+use Rattle.std.specs.Prelude.{◌≡◌, ℕ, ◌+◌, ◌-◌, ◌*◌, ◌%◌, ◌^◌, min, nat_le, if◌then◌else◌}
 use Rattle.model.specs.Key.{places, clockwise, counter_clockwise, distance}
 use Rattle.leafset_nearest.specs.Span.{rank_of}
 

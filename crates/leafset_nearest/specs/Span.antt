@@ -1,6 +1,5 @@
 -- What nodes are ordered by, and the first of a set.
-use Rattle.std.specs.Prelude.{◌≡◌, ℕ, ◌+◌, ◌*◌, ◌<◌, ◌≤◌, true, false, List, nat_le, slice_index}
-use Rattle.model.specs.Choice.{if◌then◌else◌}
+use Rattle.std.specs.Prelude.{◌≡◌, ℕ, ◌+◌, ◌*◌, ◌<◌, ◌≤◌, true, false, List, nat_le, slice_index, if◌then◌else◌}
 use Rattle.model.specs.Key.{clockwise, counter_clockwise}
 use Rattle.model.specs.Sets.{Set, none_node}
 use Rattle.leafset_nearest.specs.declared.Way.{Way}

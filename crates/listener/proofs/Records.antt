@@ -12,7 +12,7 @@ use lib.Seq.{get_or-set_same, get_or-set_other}
 use lib.Dec.{ltb, eqb, lit<}
 use mir.Val.{bool_byte}
 use borrow.Author.Tests.{ltb-true, lt-ltb, le-ltb}
-use Rattle.model.specs.Choice.{if◌then◌else◌}
+use Rattle.std.specs.Prelude.{if◌then◌else◌}
 use Rattle.model.specs.Sets.{Set, with, put, tabulate, to_bits, of_bits}
 use Rattle.model.specs.Listener.{Listener, Watch, Hear, grown, restarted, ticked, silent, heard, watch_answer, hear_answer, listener_of, record_of, leaves_record}
 use Rattle.model.specs.Answers.{first_of}

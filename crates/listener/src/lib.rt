@@ -2,8 +2,7 @@
 // needs no ring. The calls require nothing; a refused one gives the record back.
 #![tactic(auto)]
 
-ghost use Rattle.std.specs.Prelude.{◌≡◌, not, ◌&&◌, suc, ◌<◌, ◌^◌, ltb, eqb};
-ghost use Rattle.model.specs.Choice.{if◌then◌else◌};
+ghost use Rattle.std.specs.Prelude.{◌≡◌, not, ◌&&◌, suc, ◌<◌, ◌^◌, ltb, eqb, if◌then◌else◌};
 ghost use Rattle.model.specs.Sets.{to_bits, of_bits};
 ghost use Rattle.model.specs.Answers.{number_of};
 ghost use Rattle.model.specs.Listener.{Watch, Tick, Hear, grown, watch_answer, hear_answer};

@@ -1,6 +1,5 @@
 -- C's numbers for nodes.
-use Rattle.std.specs.Prelude.{ℕ, ltb}
-use Rattle.model.specs.Choice.{if◌then◌else◌}
+use Rattle.std.specs.Prelude.{ℕ, ltb, if◌then◌else◌}
 use Rattle.model.specs.Sets.{none_node}
 
 -- a number that may be too big for a node: then 64, which is no node either

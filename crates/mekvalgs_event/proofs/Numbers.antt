@@ -8,7 +8,7 @@ use native.Mathlib.Omega.{arith}
 use native.Mathlib.Decide.{dec_lt, ℕ_discrete}
 use lib.Dec.{ltb, leb, eqb}
 use borrow.Author.Tests.{ltb-true, leb-true}
-use Rattle.model.specs.Choice.{if◌then◌else◌}
+use Rattle.std.specs.Prelude.{if◌then◌else◌}
 use Rattle.model.specs.Words.{between}
 use Rattle.model.specs.Answers.{first_of, is_accepted, number_of}
 use Rattle.model.specs.Events.{ReadWord, event_of, is_timer, parts_fit, event_answer, write_event, word_answer, read_event, reading_of}

@@ -1,6 +1,5 @@
 -- An event as three numbers: its kind; its node or position; the other node, the timer, or 1 for a polite off and for an echo; or 0.
-use Rattle.std.specs.Prelude.{ℕ, ◌-◌, Bool, not, ◌&&◌, ◌||◌, List, [], ◌∷◌, leb, eqb, get_or}
-use Rattle.model.specs.Choice.{if◌then◌else◌}
+use Rattle.std.specs.Prelude.{ℕ, ◌-◌, Bool, not, ◌&&◌, ◌||◌, List, [], ◌∷◌, leb, eqb, get_or, if◌then◌else◌}
 use Rattle.model.specs.Fields.{bit}
 use Rattle.model.specs.Words.{between}
 use Rattle.model.specs.Answers.{Refusal, first_of, is_accepted}

@@ -5,7 +5,7 @@ use mathlib.Core.List.{List, [], ◌∷◌, map}
 use Prim.Native.Nat.{ℕ, zero, suc, ◌+◌, ◌*◌, ◌%◌, ◌^◌}
 use lib.Dec.{eqb}
 use lib.ListN.{get_or, take}
-use Rattle.model.specs.Choice.{if◌then◌else◌}
+use Rattle.std.specs.Prelude.{if◌then◌else◌}
 use Rattle.model.specs.Fields.{of_kind}
 use Rattle.model.specs.Sets.{none_node, of_bits, all, count, some, members, tabulate_from}
 use Rattle.model.specs.Leafset.{Table, leafset, nearest}

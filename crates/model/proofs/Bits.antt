@@ -7,7 +7,7 @@ use native.Mathlib.Decide.{ℕ_discrete, dec_lt}
 use mathlib.Core.Bool.{Bool, true, false}
 use lib.Arith.{digits_div}
 use lib.Dec.{eqb, lit<}
-use Rattle.model.specs.Choice.{if◌then◌else◌}
+use Rattle.std.specs.Prelude.{if◌then◌else◌}
 use Rattle.model.specs.Sets.{Set, to_bits, of_bits}
 use Rattle.model.specs.Fields.{bit}
 use Rattle.model.proofs.Laws.{clash, is_false}

@@ -9,7 +9,7 @@ use mathlib.Core.List.{List, [], ◌∷◌}
 use lib.ListN.{length, get_or, length-append}
 use lib.Dec.{ltb, eqb}
 use borrow.Author.Tests.{eq-eqb, eqb-true, eqb-false, ltb-false, le-ltb}
-use Rattle.model.specs.Choice.{if◌then◌else◌}
+use Rattle.std.specs.Prelude.{if◌then◌else◌}
 use Rattle.model.specs.Key.{clockwise}
 use Rattle.model.specs.Sets.{Set, without, members, lowest, some}
 use Rattle.model.specs.Leafset.{Table, size, key, nearer, first_met, leafset, nearest, closest, successor}

@@ -10,7 +10,7 @@ use lib.ListN.{length, take, drop, length-append, length-take, length-drop}
 use lib.Seq.{take-length, take-append_seam, take-append-le, drop-append-le}
 use lib.Dec.{ltb, eqb}
 use borrow.Author.Tests.{ltb-true, lt-ltb, eq-eqb, eqb-true}
-use Rattle.model.specs.Choice.{if◌then◌else◌}
+use Rattle.std.specs.Prelude.{if◌then◌else◌}
 use Rattle.model.specs.Ring.{Own, Message, Ring, blank, is_running, message_at, sent_by}
 use Rattle.model.specs.Leafset.{size}
 use Rattle.model.specs.Words.{senders_fit}

@@ -2,7 +2,7 @@
 use Prim.Native.Nat.{ℕ}
 use mathlib.Core.Bool.{true, false}
 use mathlib.Core.List.{[], ◌∷◌}
-use Rattle.model.specs.Choice.{if◌then◌else◌}
+use Rattle.std.specs.Prelude.{if◌then◌else◌}
 use Rattle.model.specs.Sets.{empty, put, of_bits, none_node}
 use Rattle.model.specs.Leafset.{Table}
 use Rattle.model.specs.Ring.{Own, Node, Message, Ring, cleared}

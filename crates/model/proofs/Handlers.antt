@@ -10,7 +10,7 @@ use mathlib.Core.List.{List, [], ◌∷◌, ◌++◌, map, Memᴰ}
 use lib.ListN.{get_or, take, drop}
 use lib.Dec.{eqb, ltb}
 use borrow.Author.Tests.{eqb-true, eqb-false, eq-eqb, ne_eqb, ltb-true}
-use Rattle.model.specs.Choice.{if◌then◌else◌}
+use Rattle.std.specs.Prelude.{if◌then◌else◌}
 use Rattle.model.specs.Sets.{Set, with, put, members, some, none_node}
 use Rattle.model.specs.Leafset.{Table, size, leafset, passes_zero}
 use Rattle.model.specs.Ring.{Ring, Own, Node, Message, blank, is_running, holds, message_at, initial}
@@ -556,7 +556,7 @@ all_stay r m h = h
 -- a node says that it leaves
 leaving_types : (t : Table) (x now : ℕ) (o : Own) (m : Message) → Memᴰ m (leaving t x now o).sent → m.type ≡ leave
 unfolding leaving
-leaving_types t x now o m h = ap (λ (a : Message). a.type) (map_out (plain leave x) (members (size t) o.held) m h).2
+leaving_types t x _ o m h = ap (λ (a : Message). a.type) (map_out (plain leave x) (members (size t) o.held) m h).2
 
 leave_requests : (r : Ring) (x : ℕ) → Requests r → Requests (send_leave x r)
 leave_requests r x q m h nine =

@@ -4,7 +4,7 @@ use mathlib.Core.Bool.{true, false}
 use mathlib.Core.List.{List, [], ◌∷◌, ◌++◌, map}
 use Prim.Native.Nat.{ℕ}
 use lib.ListN.{get_or, take, drop, replicate}
-use Rattle.model.specs.Sets.{none_node, all, some, count, members, to_bits, of_bits, tabulate_from, tabulate}
+use Rattle.model.specs.Sets.{none_node, all, some, count, members, to_bits, of_bits, tabulate_from, tabulate, put}
 use Rattle.model.specs.Ring.{Own, Node, Ring, fresh, is_running, sent_by}
 use Rattle.model.specs.Types.{ping_contact, pong_ask_inv, pong_ask_repl, ping_replace, used_by_type}
 use Rattle.model.specs.Steps.{stamped, naming, plain, viewing}
@@ -41,7 +41,7 @@ two =
       messages = plain ping_contact 1 0 ∷ [];
     }
 
--- node 1 is off; 0 holds 1, with spare 2, and 2, with none; 2 holds 0, with spare 1, which is its candidate too
+-- node 1 is off; 0 holds 1, with spare 2, and 2, with none; 2 holds 0, and 1 is its candidate
 pub three : Ring
 three =
     record {
@@ -49,9 +49,18 @@ three =
       node = nodes
           (record { running = true; clock = 9; own = own 0b110 0 (0 ∷ 7 ∷ 8 ∷ []) (64 ∷ 2 ∷ 64 ∷ []) }
           ∷ record { running = false; clock = 3; own = own 0 0 [] [] }
-          ∷ record { running = true; clock = 2; own = own 0b001 0b010 (1 ∷ []) (1 ∷ []) }
+          ∷ record { running = true; clock = 2; own = own 0b001 0b010 (1 ∷ []) [] }
           ∷ []);
       messages = naming pong_ask_repl 1 0 2 ∷ naming pong_ask_repl 1 0 64 ∷ viewing pong_ask_inv 0 2 (of_bits 0b011) ∷ stamped ping_replace 0 2 1 9 ∷ [];
+    }
+
+-- the same, but 2 has 1 as the spare of 0
+pub spared : Ring
+spared =
+    record {
+      table = three.table;
+      node = put three.node 2 (record { running = true; clock = 2; own = own 0b001 0b010 (1 ∷ []) (1 ∷ []) });
+      messages = three.messages;
     }
 
 pub five : Ring
@@ -112,8 +121,10 @@ pub record JoinRows : Type 0 where
       ∷ (64 ∷ 64 ∷ 64 ∷ 64 ∷ 64 ∷ 64 ∷ [])
       ∷ (64 ∷ 64 ∷ 64 ∷ 4 ∷ 64 ∷ 64 ∷ [])
       ∷ (64 ∷ 64 ∷ 64 ∷ 64 ∷ 64 ∷ 64 ∷ [])
-      ∷ (64 ∷ 64 ∷ 3 ∷ 64 ∷ 64 ∷ 64 ∷ [])
+      ∷ (64 ∷ 64 ∷ 64 ∷ 64 ∷ 64 ∷ 64 ∷ [])
       ∷ []
+  -- also the spare of the second's node 0
+  pub first_spare_risen : tabulate 6 ((join two spared).node 4).own.spare ≡ 64 ∷ 64 ∷ 3 ∷ 64 ∷ 64 ∷ 64 ∷ []
   -- "The first ring's messages come first, then the second's."
   pub messages_risen : in_flight_lem
       ≡ (1 ∷ 1 ∷ 0 ∷ 64 ∷ 0 ∷ [])
@@ -151,7 +162,7 @@ pub record JoinRows : Type 0 where
   pub too_many : tried (1 ∷ 2 ∷ []) (3 ∷ 4 ∷ []) 512 513 ≡ 16
 
 pub join_rows : JoinRows
-unfolding own nodes two three five of_each in_flight_lem sample keys_from tried sides_tried zeros join all some count members tabulate_from to_bits
+unfolding own nodes two three spared five of_each in_flight_lem sample keys_from tried sides_tried zeros join all some count members tabulate_from to_bits
     used_by_type first_of head_word belongs word_at decode_table decode in_range keys_differ pair_fits node_fits sent_by message_fits senders_fit ring_fits
     format_fits reads_as_ring
     reached connected groups join_answer join_buffer
@@ -166,6 +177,7 @@ join_rows =
       held_risen = refl;
       candidates_risen = refl;
       spares_risen = refl;
+      first_spare_risen = refl;
       messages_risen = refl;
       all_fit = refl;
       connected_apart = refl;

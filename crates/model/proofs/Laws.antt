@@ -10,7 +10,8 @@ use mathlib.Core.List.{List, [], ◌∷◌, map}
 use lib.ListN.{length, get_or, length-append}
 use lib.Dec.{T, eqb, leb}
 use borrow.Author.Tests.{eqb-true, eqb-false, eq-eqb, ne_eqb, leb-true, le-leb}
-use Rattle.model.specs.Choice.{if◌then◌else◌, ◌⇒◌, every}
+use Rattle.std.specs.Prelude.{if◌then◌else◌}
+use Rattle.model.specs.Choice.{◌⇒◌, every}
 use Rattle.model.specs.Sets.{Set, put, all, some, count, members, tabulate, tabulate_from}
 use Rattle.model.specs.Words.{between}
 use Rattle.model.specs.WellFormed.{Each, nil, cons}
@@ -105,7 +106,7 @@ every_out (b ∷ bs) e = cons (and_left b (every bs) e) (every_out bs (and_right
 -- ---- choice by a test
 
 -- what is shown of both branches is shown of the choice
-pub if_law {ℓ} : {A : Type ℓ} (P : A → Type 0) (b : Bool) (v w : A) → (b ≡ true → P v) → (b ≡ false → P w) → P (if b then v else w)
+pub if_law : {A : Type 0} (P : A → Type 0) (b : Bool) (v w : A) → (b ≡ true → P v) → (b ≡ false → P w) → P (if b then v else w)
 if_law P true v w f g = f refl
 if_law P false v w f g = g refl
 

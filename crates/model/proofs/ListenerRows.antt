@@ -5,7 +5,7 @@ use mathlib.Core.List.{List, [], ◌∷◌, ◌++◌, map}
 use Prim.Native.Nat.{ℕ, suc}
 use native.Mathlib.Omega.{arith}
 use lib.ListN.{replicate}
-use Rattle.model.specs.Choice.{if◌then◌else◌}
+use Rattle.std.specs.Prelude.{if◌then◌else◌}
 use Rattle.model.specs.Sets.{some, count, members, to_bits, tabulate_from}
 use Rattle.model.specs.Answers.{number_of, first_of}
 use Rattle.model.specs.Listener.{Listener, empty_listener, watch_answer, hear_refusals, hear_answer, Call, Watch, Tick, Hear, answer_of, notices_of, leaves}

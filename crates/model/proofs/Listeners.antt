@@ -11,7 +11,7 @@ use mathlib.Core.List.{List, [], ◌∷◌}
 use lib.ListN.{get_or, take, replicate}
 use lib.Dec.{ltb, eqb, lit<, lit≤}
 use borrow.Author.Tests.{ltb-true, ltb-false, lt-ltb, le-ltb, eqb-true, eq-eqb, ne_eqb}
-use Rattle.model.specs.Choice.{if◌then◌else◌}
+use Rattle.std.specs.Prelude.{if◌then◌else◌}
 use Rattle.model.specs.Sets.{Set, empty, some, count, tabulate}
 use Rattle.model.specs.Answers.{first_of, is_accepted}
 use Rattle.model.specs.Listener.{Listener, empty_listener, grown, with_watched, overdue, silent, heard, watch_answer, hear_answer}

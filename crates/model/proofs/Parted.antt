@@ -8,7 +8,7 @@ use lib.ListN.{length, drop}
 use lib.Seq.{take-append_seam, drop-append_seam}
 use lib.Dec.{ltb, leb}
 use borrow.Author.Tests.{le-leb, ltb-false, ne_eqb}
-use Rattle.model.specs.Choice.{if◌then◌else◌}
+use Rattle.std.specs.Prelude.{if◌then◌else◌}
 use Rattle.model.specs.Sets.{Set}
 use Rattle.model.specs.Leafset.{size}
 use Rattle.model.specs.Ring.{Node, Message, Ring, fresh}

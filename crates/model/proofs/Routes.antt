@@ -11,7 +11,7 @@ use lib.ListN.{length, get_or, drop, length-append, length-drop, get_or-append}
 use lib.Seq.{get_or-append-add, get_or-drop}
 use lib.Dec.{ltb, eqb}
 use borrow.Author.Tests.{lt-ltb, ltb-true, ltb-false, eq-eqb, eqb-true, eqb-false, ne_eqb, le-ltb}
-use Rattle.model.specs.Choice.{if◌then◌else◌}
+use Rattle.std.specs.Prelude.{if◌then◌else◌}
 use Rattle.model.specs.Key.{clockwise, counter_clockwise, distance}
 use Rattle.model.specs.Sets.{Set, without, some, count}
 use Rattle.model.specs.Leafset.{Table, size, key, nearer, is_near, leafset, beats, nearest}

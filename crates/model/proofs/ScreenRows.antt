@@ -4,7 +4,7 @@ use Prim.Native.Nat.{ℕ, zero, suc, ◌+◌, ◌*◌}
 use mathlib.Core.Bool.{true, false}
 use mathlib.Core.List.{[], ◌∷◌, map}
 use lib.ListN.{length, get_or, take, replicate}
-use Rattle.model.specs.Choice.{if◌then◌else◌}
+use Rattle.std.specs.Prelude.{if◌then◌else◌}
 use Rattle.model.specs.Sets.{put, of_bits, to_bits, count, none_node, tabulate, tabulate_from}
 use Rattle.model.specs.Leafset.{Table, leafset}
 use Rattle.model.specs.Ring.{Own, Node, Ring, blank, cleared}

@@ -10,7 +10,7 @@ use lib.ListN.{length, get_or, drop, length-map, get_or-append}
 use lib.Seq.{get_or_at, ext_get_or}
 use lib.Dec.{ltb, eqb, lit<}
 use borrow.Author.Tests.{le-ltb, lt-ltb, eqb-true, eq-eqb, ne_eqb}
-use Rattle.model.specs.Choice.{if◌then◌else◌}
+use Rattle.std.specs.Prelude.{if◌then◌else◌}
 use Rattle.model.specs.Sets.{Set, count, members}
 use Rattle.model.specs.Fields.{bits}
 use Rattle.model.specs.Leafset.{size}

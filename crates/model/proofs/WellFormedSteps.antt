@@ -7,7 +7,7 @@ use mathlib.Core.Bool.{true, false, not, ◌&&◌, ◌||◌}
 use mathlib.Core.List.{[], ◌∷◌, map}
 use lib.Dec.{ltb, eqb}
 use borrow.Author.Tests.{eq-eqb, ne_eqb, eqb-true, eqb-false}
-use Rattle.model.specs.Choice.{if◌then◌else◌}
+use Rattle.std.specs.Prelude.{if◌then◌else◌}
 use Rattle.model.specs.Sets.{Set, empty, with, without, union, members, some}
 use Rattle.model.specs.Leafset.{Table, size, leafset, closest, successor, passes_zero}
 use Rattle.model.specs.Ring.{Own, Message, cleared}

@@ -10,7 +10,7 @@ use lib.Seq.{ext_get_or}
 use lib.Arith.{digits_mod}
 use lib.Dec.{ltb, eqb, lit<}
 use borrow.Author.Tests.{le-ltb, lt-ltb, ltb-true, eqb-true, eqb-false, eq-eqb, ne_eqb}
-use Rattle.model.specs.Choice.{if◌then◌else◌}
+use Rattle.std.specs.Prelude.{if◌then◌else◌}
 use Rattle.model.specs.Leafset.{Table, size}
 use Rattle.model.specs.Ring.{Ring}
 use Rattle.model.specs.WellFormed.{WellFormedSides, Other, nil, cons}

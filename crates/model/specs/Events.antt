@@ -1,6 +1,5 @@
 -- Event words: writing one, and reading one.
-use Rattle.std.specs.Prelude.{ℕ, ◌+◌, ◌-◌, ◌*◌, ◌^◌, Bool, false, not, ◌&&◌, List, [], ◌∷◌, get_or, ltb, leb, eqb}
-use Rattle.model.specs.Choice.{if◌then◌else◌}
+use Rattle.std.specs.Prelude.{ℕ, ◌+◌, ◌-◌, ◌*◌, ◌^◌, Bool, false, not, ◌&&◌, List, [], ◌∷◌, get_or, ltb, leb, eqb, if◌then◌else◌}
 use Rattle.model.specs.Fields.{bits, bit, flag, kind, of_kind}
 use Rattle.model.specs.Answers.{Refusal, first_of, is_accepted, number_of}
 use Rattle.model.specs.declared.event.Event.{Event}

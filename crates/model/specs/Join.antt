@@ -1,6 +1,5 @@
 -- Two rings joined into one: document 02's note 10.
-use Rattle.std.specs.Prelude.{◌≡◌, ℕ, ◌+◌, ◌-◌, ◌≤◌, ◌<◌, Bool, not, ◌&&◌, ◌||◌, List, [], ◌∷◌, ◌++◌, map, length, take, drop, ltb, leb, eqb}
-use Rattle.model.specs.Choice.{if◌then◌else◌}
+use Rattle.std.specs.Prelude.{◌≡◌, ℕ, ◌+◌, ◌-◌, ◌≤◌, ◌<◌, Bool, not, ◌&&◌, ◌||◌, List, [], ◌∷◌, ◌++◌, map, length, take, drop, ltb, leb, eqb, if◌then◌else◌}
 use Rattle.model.specs.Sets.{Set, some, none_node}
 use Rattle.model.specs.Leafset.{size, key}
 use Rattle.model.specs.Ring.{Own, Node, Message, Ring, fresh}

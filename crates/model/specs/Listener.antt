@@ -1,6 +1,5 @@
 -- Hearing silence: document 02's note 13. A listener stands beside the ring and needs nothing of it.
-use Rattle.std.specs.Prelude.{ℕ, suc, ◌<◌, ◌≡◌, Bool, true, false, not, ◌&&◌, List, [], ◌∷◌, get_or, take, replicate, ltb, eqb}
-use Rattle.model.specs.Choice.{if◌then◌else◌}
+use Rattle.std.specs.Prelude.{ℕ, suc, ◌<◌, ◌≡◌, Bool, true, false, not, ◌&&◌, List, [], ◌∷◌, get_or, take, replicate, ltb, eqb, if◌then◌else◌}
 use Rattle.model.specs.Sets.{Set, empty, with, put, some, count, to_bits, of_bits, tabulate}
 use Rattle.model.specs.Answers.{Refusal, first_of, is_accepted}
 use Rattle.model.specs.declared.listener.ListenerRecord.{ListenerRecord}

@@ -1,6 +1,5 @@
 -- The questions about a lent buffer: a node's leafset, whether two nodes are connected, and the number of groups.
-use Rattle.std.specs.Prelude.{ℕ, Bool, false, List, [], ◌∷◌, ◌++◌}
-use Rattle.model.specs.Choice.{if◌then◌else◌}
+use Rattle.std.specs.Prelude.{ℕ, Bool, false, List, [], ◌∷◌, ◌++◌, if◌then◌else◌}
 use Rattle.model.specs.Sets.{to_bits}
 use Rattle.model.specs.Leafset.{leafset}
 use Rattle.model.specs.Ring.{Ring, holds}

@@ -1,6 +1,5 @@
 -- Long reaches, by fingers: document 02's note 11.
-use Rattle.std.specs.Prelude.{ℕ, zero, suc, ◌+◌, ◌&&◌, List, [], ◌∷◌, ◌++◌, length, get_or, ltb, eqb}
-use Rattle.model.specs.Choice.{if◌then◌else◌}
+use Rattle.std.specs.Prelude.{ℕ, zero, suc, ◌+◌, ◌&&◌, List, [], ◌∷◌, ◌++◌, length, get_or, ltb, eqb, if◌then◌else◌}
 use Rattle.model.specs.Key.{clockwise, counter_clockwise}
 use Rattle.model.specs.Sets.{Set, some, none_node}
 use Rattle.model.specs.Leafset.{size, key, first_met}

@@ -1,6 +1,5 @@
 -- The state: each node's own record, the messages in flight (document 01: travelling), and the initial ring.
-use Rattle.std.specs.Prelude.{ℕ, ◌+◌, Bool, false, List, [], ◌∷◌, get_or, eqb}
-use Rattle.model.specs.Choice.{if◌then◌else◌}
+use Rattle.std.specs.Prelude.{ℕ, ◌+◌, Bool, false, List, [], ◌∷◌, get_or, eqb, if◌then◌else◌}
 use Rattle.model.specs.Sets.{Set, empty, none_node}
 use Rattle.model.specs.Leafset.{Table}
 

@@ -1,6 +1,5 @@
 -- Routes to the node nearest to a key: document 02's note 5.
-use Rattle.std.specs.Prelude.{◌≡◌, ℕ, zero, suc, ◌-◌, Bool, true, ◌&&◌, List, [], ◌∷◌, ◌++◌, length, get_or, drop, ltb}
-use Rattle.model.specs.Choice.{if◌then◌else◌}
+use Rattle.std.specs.Prelude.{◌≡◌, ℕ, zero, suc, ◌-◌, Bool, true, ◌&&◌, List, [], ◌∷◌, ◌++◌, length, get_or, drop, ltb, if◌then◌else◌}
 use Rattle.model.specs.Sets.{Set, count, some, none_node}
 use Rattle.model.specs.Leafset.{size, leafset, beats, nearest}
 use Rattle.model.specs.Ring.{Ring, holds, is_running}

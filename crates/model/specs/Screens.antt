@@ -1,6 +1,5 @@
 -- The two screens: document 02's note 9.
-use Rattle.std.specs.Prelude.{◌≡◌, ℕ, ◌*◌, ◌/◌, ◌%◌, List, [], length, take, drop, replicate}
-use Rattle.model.specs.Choice.{if◌then◌else◌}
+use Rattle.std.specs.Prelude.{◌≡◌, ℕ, ◌*◌, ◌/◌, ◌%◌, List, [], length, take, drop, replicate, if◌then◌else◌}
 use Rattle.model.specs.Sets.{Set, tabulate, to_bits}
 use Rattle.model.specs.Leafset.{Table, size, key, leafset}
 use Rattle.model.specs.Ring.{Own, Ring, holds, is_running}
@@ -71,7 +70,7 @@ unfoldable pub empty_technician : TechnicianScreen
 empty_technician = record { conductor = empty_conductor; candidates = replicate 64 0 }
 
 -- of a lent ring what is shown of it, of any other words the empty answer
-abbrev pub shown {ℓ} : {A : Type ℓ} → List ℕ → (Ring → A) → A → A
+abbrev pub shown : {A : Type 0} → List ℕ → (Ring → A) → A → A
 shown ws show none = if is_accepted (ring_answer ws) then show (decode ws) else none
 
 unfoldable pub conductor_of : List ℕ → ConductorScreen

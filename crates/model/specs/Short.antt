@@ -1,6 +1,6 @@
 -- A short ring for the log: document 02's note 14.
-use Rattle.std.specs.Prelude.{ℕ, ◌+◌, ◌-◌, ◌*◌, Bool, not, List, [], ◌∷◌, ◌++◌, map, length, drop, ltb, eqb}
-use Rattle.model.specs.Choice.{if◌then◌else◌, every}
+use Rattle.std.specs.Prelude.{ℕ, ◌+◌, ◌-◌, ◌*◌, Bool, not, List, [], ◌∷◌, ◌++◌, map, length, drop, ltb, eqb, if◌then◌else◌}
+use Rattle.model.specs.Choice.{every}
 use Rattle.model.specs.Sets.{count, members, tabulate}
 use Rattle.model.specs.Answers.{Refusal, first_of, is_accepted}
 use Rattle.model.specs.Words.{belongs, ring_length, at, size_in, count_in, reads_as_ring}

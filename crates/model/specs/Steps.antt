@@ -1,6 +1,5 @@
 -- The steps: what a timer, a contact, a notice or a delivered message does to the own record of the node `me`, and what it sends.
-use Rattle.std.specs.Prelude.{ℕ, not, ◌&&◌, ◌||◌, List, [], ◌∷◌, ◌++◌, map, get_or, ltb, eqb}
-use Rattle.model.specs.Choice.{if◌then◌else◌}
+use Rattle.std.specs.Prelude.{ℕ, not, ◌&&◌, ◌||◌, List, [], ◌∷◌, ◌++◌, map, get_or, ltb, eqb, if◌then◌else◌}
 use Rattle.model.specs.Sets.{Set, empty, with, without, union, put, members, some, none_node}
 use Rattle.model.specs.Leafset.{Table, size, leafset, closest, successor, passes_zero}
 use Rattle.model.specs.Ring.{Own, Message}

@@ -8,7 +8,7 @@ use native.Mathlib.Omega.{arith}
 use lib.Dec.{eqb}
 use lib.ListN.{length, take}
 use lib.Seq.{length-take-le, take_all}
-use Rattle.model.specs.Choice.{if◌then◌else◌}
+use Rattle.std.specs.Prelude.{if◌then◌else◌}
 use Rattle.model.specs.Fields.{bit, bits}
 use Rattle.model.specs.Ring.{Message, message_at, sent_by}
 use Rattle.model.specs.Words.{at, message_place, decode_message_at, decode}

@@ -13,7 +13,7 @@ use lib.ListN.{length, get_or, set, length-set, replicate}
 use lib.Pow.{pow_pos, pow_mono, shr-shr}
 use lib.Seq.{get_or-set_same, get_or-set_other}
 use borrow.Author.Tests.{lt-ltb, le-ltb, eq-eqb, ne_eqb}
-use Rattle.model.specs.Choice.{if◌then◌else◌}
+use Rattle.std.specs.Prelude.{if◌then◌else◌}
 use Rattle.model.specs.Sets.{Set, without, of_bits, none_node}
 use Rattle.model.specs.Leafset.{size}
 use Rattle.model.specs.Fields.{bits, flag}

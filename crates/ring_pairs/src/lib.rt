@@ -1,8 +1,7 @@
 // A node's own record in its pairs: loaded, stored, cleared.
 #![tactic(auto)]
 
-ghost use Rattle.std.specs.Prelude.{◌≡◌, ◌+◌, ◌*◌, ◌<◌, ◌≤◌, ◌^◌, length};
-ghost use Rattle.model.specs.Choice.{if◌then◌else◌};
+ghost use Rattle.std.specs.Prelude.{◌≡◌, ◌+◌, ◌*◌, ◌<◌, ◌≤◌, ◌^◌, length, if◌then◌else◌};
 ghost use Rattle.model.specs.Leafset.{size};
 ghost use Rattle.model.specs.Words.{ring_length, decode_table};
 ghost use Rattle.model.specs.Ring.{cleared};

@@ -16,7 +16,7 @@ use lib.Bits.{and_self, and_step, and_shr, and_mod, or_shr, or_mod, xor_shr, xor
 use lib.Count.{ones, ones_cat, count_trailing_zeros, trailing_le, under}
 use native.Mathlib.Decide.{ℕ_discrete}
 use borrow.Author.Tests.{eqb-true, eq-eqb, ne_eqb}
-use Rattle.model.specs.Choice.{if◌then◌else◌}
+use Rattle.std.specs.Prelude.{if◌then◌else◌}
 use Rattle.model.specs.Sets.{Set, empty, with, without, union, count, some, members, lowest, to_bits, of_bits}
 use Rattle.model.specs.Fields.{bit}
 use Rattle.model.proofs.Laws.{clash, is_false, and_left, or_case, decide, some_none, some_out}

@@ -5,7 +5,7 @@ use mathlib.Core.Bool.{true, false, not, ◌&&◌}
 use mathlib.Core.List.{[], Memᴰ}
 use lib.Dec.{eqb, ltb}
 use borrow.Author.Tests.{eq-eqb, lt-ltb}
-use Rattle.model.specs.Choice.{if◌then◌else◌}
+use Rattle.std.specs.Prelude.{if◌then◌else◌}
 use Rattle.model.specs.Sets.{Set, without}
 use Rattle.model.specs.Leafset.{Table, size, closest}
 use Rattle.model.specs.Ring.{Ring, Own, Message, is_running, holds, message_at}

@@ -9,7 +9,7 @@ use mathlib.Core.List.Memᴰ
 use mathlib.Core.List.{List, [], ◌∷◌, ◌++◌, map, Memᴰ}
 use lib.Dec.{eqb, ltb}
 use borrow.Author.Tests.{eqb-true, eqb-false}
-use Rattle.model.specs.Choice.{if◌then◌else◌}
+use Rattle.std.specs.Prelude.{if◌then◌else◌}
 use Rattle.model.specs.Sets.{Set, empty, with, without, put, members, some, none_node}
 use Rattle.model.specs.Leafset.{Table, size, leafset, closest, successor, passes_zero}
 use Rattle.model.specs.Ring.{Ring, Own, Node, Message, is_running, message_at}

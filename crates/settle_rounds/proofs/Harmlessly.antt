@@ -8,7 +8,7 @@ use native.Mathlib.Decide.{dec_lt}
 use mathlib.Core.Bool.{true}
 use mathlib.Core.List.{List}
 use lib.ListN.{length}
-use Rattle.model.specs.Choice.{if◌then◌else◌}
+use Rattle.std.specs.Prelude.{if◌then◌else◌}
 use Rattle.model.specs.Sets.{Set}
 use Rattle.model.specs.Leafset.{Table, size}
 use Rattle.model.specs.Ring.{Ring, is_running}

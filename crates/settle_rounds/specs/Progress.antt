@@ -1,7 +1,6 @@
 -- Progress: where A = B, fair rounds bring every running node the leafset of all running nodes, or one that was lacked.
 -- Source 000, Corollary 20: "if .. G(t) is weakly connected, then for all time t' > t2, .. leafset(x, sset(Π)) = leafset(x, x.neighbors)".
-use Rattle.std.specs.Prelude.{◌≡◌, ◌⊎◌, ℕ, zero, suc, ◌+◌, ◌*◌, ◌≤◌, ◌<◌, true, List}
-use Rattle.model.specs.Choice.{if◌then◌else◌}
+use Rattle.std.specs.Prelude.{◌≡◌, ◌⊎◌, ℕ, zero, suc, ◌+◌, ◌*◌, ◌≤◌, ◌<◌, true, List, if◌then◌else◌}
 use Rattle.model.specs.Leafset.{Table, size}
 use Rattle.model.specs.Ring.{Ring, is_running}
 use Rattle.model.specs.Connection.{Connected}

@@ -1,9 +1,8 @@
 -- Fair rounds: stretches of a list of words in which every timer fires, every message in flight is delivered, and none is lost.
 -- Source 000 says of periodic events "Repeat periodically", and of a message m sent after a certain time that "m is eventually received".
 -- That channels "cannot create or duplicate messages" is not supposed: a round may have echoes.
-use Rattle.std.specs.Prelude.{◌≡◌, ℕ, zero, suc, ◌+◌, ◌-◌, ◌≤◌, ◌<◌, Bool, true, false, ◌||◌, length, get_or, eqb, ltb}
+use Rattle.std.specs.Prelude.{◌≡◌, ℕ, zero, suc, ◌+◌, ◌-◌, ◌≤◌, ◌<◌, Bool, true, false, ◌||◌, length, get_or, eqb, ltb, if◌then◌else◌}
 use mathlib.Core.List.{List, Memᴰ}
-use Rattle.model.specs.Choice.{if◌then◌else◌}
 use Rattle.model.specs.Ring.{Ring, Message, is_running}
 use Rattle.model.specs.Answers.{is_accepted}
 use Rattle.model.specs.Events.{event_of, is_timer}

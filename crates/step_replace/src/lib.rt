@@ -1,11 +1,10 @@
 // Document 01's step 4: timer 3, and message types 9 and 10.
 #![tactic(auto)]
 
-ghost use Rattle.std.specs.Prelude.{◌≡◌, not, ◌&&◌, ℕ, ◌<◌, ◌^◌, eqb, ltb, length};
+ghost use Rattle.std.specs.Prelude.{◌≡◌, not, ◌&&◌, ℕ, ◌<◌, ◌^◌, eqb, ltb, length, if◌then◌else◌};
 ghost use Rattle.model.specs.Sets.{of_bits, none_node};
 ghost use Rattle.model.specs.Leafset.{Table};
 ghost use Rattle.model.specs.Structs.{table_of, own_of, spare_at, RoomNode, message_of, stamp_at, RoomMessage};
-ghost use Rattle.model.specs.Choice.{if◌then◌else◌};
 ghost use Rattle.model.specs.Steps as steps;
 ghost use Rattle.records.specs.Effects.{OwnFits, Leaves, Owns};
 ghost use Rattle.records.specs.Lent.{Lent};

@@ -36,7 +36,8 @@ pub no_keys : (out : List ℕ) (at : ℕ) (ks : List ℕ) → Put out out at at 
 unfolding key_bytes
 no_keys out at ks = put_none out at
 
-pub keys_more : (ks : List ℕ) (i w : ℕ) → i < length ks → w ≡ key_word (get_or ks i 0) false → key_bytes (take i ks) ++ word_bytes w ≡ key_bytes (take (i + 1) ks)
+pub keys_more : (ks : List ℕ) (i w : ℕ) → i < length ks → w ≡ key_word (get_or ks i 0) false
+    → key_bytes (take i ks) ++ word_bytes w ≡ key_bytes (take (i + 1) ks)
 keys_more ks i w h e =
     rw (add-one i, take-suc ks i 0 h, keys_append (take i ks) (get_or ks i 0 ∷ []), one_key (get_or ks i 0), e)
 

@@ -59,7 +59,8 @@ pub more_read : {p : Progress} {bytes : List ℕ} {line : ℕ} {r : Reader} {ks 
 unfolding text_read
 more_read {p} {bytes} {line} {r} {ks} {ks'} {out} {out'} {out''} {end} {i} {q} t h c =
     let b : StepBounded (r.line + 1) r (byte_read r (get_or bytes i 0)) = byte_bounded r (get_or bytes i 0) t.reached.bounded in
-    let next : drop i bytes ≡ get_or bytes i 0 ∷ drop (i + 1) bytes = drop-cons bytes i 0 h ∙ ap (λ (j : ℕ). get_or bytes i 0 ∷ drop j bytes) (sym (add-one i)) in
+    let next : drop i bytes ≡ get_or bytes i 0 ∷ drop (i + 1) bytes = drop-cons bytes i 0 h
+    ∙ ap (λ (j : ℕ). get_or bytes i 0 ∷ drop j bytes) (sym (add-one i)) in
     let same : advanced t.progress (byte_read r (get_or bytes i 0)) ≡ advanced t.progress (byte_read t.progress.reader (get_or bytes i 0)) =
     ap (λ (x : Reader). advanced t.progress (byte_read x (get_or bytes i 0))) t.reached.reader in
     record {

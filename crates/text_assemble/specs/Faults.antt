@@ -1,7 +1,6 @@
 -- The line of a fault: its number, and what was expected there. The texts are in ASCII.
-use Rattle.std.specs.Prelude.{ℕ, ◌-◌, ◌&&◌, List, [], ◌∷◌, ◌++◌, eqb, ltb}
+use Rattle.std.specs.Prelude.{ℕ, ◌-◌, ◌&&◌, List, [], ◌∷◌, ◌++◌, eqb, ltb, if◌then◌else◌}
 use Rattle.bench_lines.specs.Decimal.{decimal, newline}
-use Rattle.model.specs.Choice.{if◌then◌else◌}
 use Rattle.text_form.specs.Ascii.{ascii}
 use Rattle.text_form.specs.declared.Expected.{Expected}
 use Rattle.text_form.specs.declared.Expected.TheVariants as expected

@@ -81,8 +81,8 @@ pub struct NextRead {
 }
 
 // Reads the next chunk of an open file to the start of `bytes`, and just as many bytes as were read. The bytes are the
-// file's next ones, and fewer than a chunk are its last. An error is one of reading the file, before anything is read of
-// the text.
+// file's next ones, and fewer than a chunk are its last. An error is one of reading the file, before anything is read
+// of the text.
 pub fn read_next<R: Read>(
     file: &mut R,
     reader: Reader,

@@ -43,7 +43,8 @@ module _ (ws : List ℕ) (accepted : is_accepted (script_answer ws) ≡ true) wh
   unfolding script_table
   nodes_as = keys_long ws (bits 4 7 (get_or ws 0 0)) words_enough
 
-pub opening_as : (ws : List ℕ) {n : ℕ} {sides : Sides} {keys : List ℕ} → sides ≡ sides_of (get_or ws 0 0) → n ≡ bits 4 7 (get_or ws 0 0) → keys ≡ script_keys ws n
+pub opening_as : (ws : List ℕ) {n : ℕ} {sides : Sides} {keys : List ℕ} → sides ≡ sides_of (get_or ws 0 0) → n ≡ bits 4 7 (get_or ws 0 0)
+    → keys ≡ script_keys ws n
     → (sides_name ++ spaced (sides.ahead ∷ sides.behind ∷ [])) ++ keys_text 0 keys ≡ opening_text (script_table ws)
 unfolding opening_text script_table
 opening_as ws s n k = rw (k, s, n)

@@ -11,7 +11,7 @@ use Rattle.io.specs.Digits.{last_digits}
 use Rattle.bench_lines.specs.Decimal.{newline, spaced}
 use Rattle.bench_lines.specs.Put.{Put}
 use Rattle.bench_lines.proofs.Puts.{put_none, put_more, put_as}
-use Rattle.model.specs.Choice.{if◌then◌else◌}
+use Rattle.std.specs.Prelude.{if◌then◌else◌}
 use Rattle.text_form.specs.Names.{keys_name}
 use Rattle.text_form.specs.Describe.{word_lines, keys_text, hex_bytes}
 

@@ -1,8 +1,7 @@
 -- What each chunk of a script gives of its text.
-use Rattle.std.specs.Prelude.{◌≡◌, Bool, true, List, ◌++◌, ℕ, eqb, length}
+use Rattle.std.specs.Prelude.{◌≡◌, Bool, true, List, ◌++◌, ℕ, eqb, length, if◌then◌else◌}
 use Rattle.bench_lines.specs.Put.{Put}
 use Rattle.bench_script.specs.Chunks.{chunk_size, tail_of}
-use Rattle.model.specs.Choice.{if◌then◌else◌}
 use Rattle.model.specs.Answers.{is_accepted}
 use Rattle.model.specs.Bench.{little_endian, script_answer}
 use Rattle.text_form.specs.Describe.{word_text, raw_text, word_lines, tail_text, words_text}

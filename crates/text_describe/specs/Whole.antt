@@ -1,6 +1,5 @@
 -- A whole session: what its chunks give one after the other.
-use Rattle.std.specs.Prelude.{Bool, true, List, [], ◌∷◌, ◌++◌, ℕ}
-use Rattle.model.specs.Choice.{if◌then◌else◌}
+use Rattle.std.specs.Prelude.{Bool, true, List, [], ◌∷◌, ◌++◌, ℕ, if◌then◌else◌}
 use Rattle.text_describe.specs.Turns.{Turn, turn}
 
 unfoldable pub turns_text : Bool → Bool → List (List ℕ) → List ℕ

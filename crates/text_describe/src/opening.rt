@@ -1,8 +1,7 @@
 // The opening of a script: whether there is one, and its text.
-ghost use Rattle.std.specs.Prelude.{◌≡◌, true, [], ◌∷◌, ◌++◌, ◌+◌, ◌*◌, ◌%◌, ◌≤◌, eqb, length};
+ghost use Rattle.std.specs.Prelude.{◌≡◌, true, [], ◌∷◌, ◌++◌, ◌+◌, ◌*◌, ◌%◌, ◌≤◌, eqb, length, if◌then◌else◌};
 ghost use Rattle.bench_lines.specs.Decimal.{newline, spaced};
 ghost use Rattle.bench_lines.specs.Put.{Put};
-ghost use Rattle.model.specs.Choice.{if◌then◌else◌};
 ghost use Rattle.model.specs.Leafset.{size};
 ghost use Rattle.model.specs.Answers.{is_accepted};
 ghost use Rattle.model.specs.Bench.{script_table, script_answer};

@@ -10,7 +10,7 @@ use Rattle.model.specs.Answers
 use Rattle.model.specs.Bench
 use Rattle.model.specs.Events
 use Rattle.model.specs.Sets
-use Rattle.model.specs.Choice.{if◌then◌else◌}
+use Rattle.std.specs.Prelude.{if◌then◌else◌}
 use Rattle.model.specs.Words
 use Rattle.text_form.specs.Assemble
 use Rattle.text_form.specs.Describe

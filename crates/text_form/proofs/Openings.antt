@@ -9,7 +9,7 @@ use lib.Dec.{leb, eqb, lit≤}
 use lib.ListN.{length, length-append}
 use Rattle.bench_lines.specs.Decimal.{space, newline, decimal, spaced}
 use Rattle.bench_lines.proofs.Decimals.{one_more_lem}
-use Rattle.model.specs.Choice.{if◌then◌else◌}
+use Rattle.std.specs.Prelude.{if◌then◌else◌}
 use Rattle.model.specs.WellFormed.{Each, nil, cons}
 use Rattle.model.specs.declared.values.Sides.{Sides}
 use Rattle.model.proofs.Laws.{decide, and_in}

@@ -8,7 +8,7 @@ use borrow.Author.Tests.{lt-leb, lt-ltb, ne_eqb, leb-true}
 use lib.Dec.{ltb, leb, eqb}
 use lib.ListN.{length}
 use Rattle.bench_lines.specs.Decimal.{space, newline}
-use Rattle.model.specs.Choice.{if◌then◌else◌}
+use Rattle.std.specs.Prelude.{if◌then◌else◌}
 use Rattle.model.specs.WellFormed.{Each, nil, cons}
 use Rattle.model.specs.declared.values.Sides.{Sides}
 use Rattle.model.proofs.Laws.{or_right}
@@ -96,7 +96,10 @@ module _ (line : ℕ) (s : Stage) (c f : ℕ) (sides : Sides) (keys script : Lis
       ≡ state line (packed 0 bs) (stage_after d) d 1 0 sides keys (script ++ opened s d sides keys)
   unfolding text_read opened
   first_word t d bs there is ok h =
-      rw (begun_by t d there is ok, opening_given (opens s d) (state line t s c 0 f sides keys script) (reader line 0 (stage_after d) d 1 0 sides (length keys)))
+      rw (
+        begun_by t d there is ok,
+        opening_given (opens s d) (state line t s c 0 f sides keys script) (reader line 0 (stage_after d) d 1 0 sides (length keys)),
+      )
       (token_read line (stage_after d) d 1 0 sides keys (script ++ opened s d sides keys) 0 bs h)
 
 -- ---- the other words of a line

@@ -1,7 +1,7 @@
 -- The script of a text, byte by byte.
-use Rattle.std.specs.Prelude.{◌≡◌, Bool, true, false, not, ◌&&◌, ◌||◌, ℕ, zero, suc, ◌+◌, ◌-◌, ◌*◌, ◌/◌, ◌%◌, ◌^◌, List, [], ◌∷◌, ◌++◌, ltb, leb, eqb, length, get_or}
+use Rattle.std.specs.Prelude.{◌≡◌, Bool, true, false, not, ◌&&◌, ◌||◌, ℕ, zero, suc, ◌+◌, ◌-◌}
+use Rattle.std.specs.Prelude.{◌*◌, ◌/◌, ◌%◌, ◌^◌, List, [], ◌∷◌, ◌++◌, ltb, leb, eqb, length, get_or, if◌then◌else◌}
 use Rattle.bench_lines.specs.Decimal.{newline}
-use Rattle.model.specs.Choice.{if◌then◌else◌}
 use Rattle.model.specs.Events.{word_of, is_timer}
 use Rattle.model.specs.Words.{head_word, key_word}
 use Rattle.model.specs.declared.event.Event.TheVariants as event

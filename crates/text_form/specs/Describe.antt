@@ -1,8 +1,7 @@
 -- The text of a script.
-use Rattle.std.specs.Prelude.{ℕ, ◌+◌, ◌*◌, ◌%◌, true, false, List, [], ◌∷◌, ◌++◌, eqb, length, drop}
+use Rattle.std.specs.Prelude.{ℕ, ◌+◌, ◌*◌, ◌%◌, true, false, List, [], ◌∷◌, ◌++◌, eqb, length, drop, if◌then◌else◌}
 use Rattle.io.specs.Digits.{last_digits}
 use Rattle.bench_lines.specs.Decimal.{space, newline, spaced}
-use Rattle.model.specs.Choice.{if◌then◌else◌}
 use Rattle.model.specs.Leafset.{Table, size}
 use Rattle.model.specs.Answers.{is_accepted}
 use Rattle.model.specs.Events.{event_of, is_event_word}

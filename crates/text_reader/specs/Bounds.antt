@@ -1,6 +1,5 @@
 -- The bounds of what a reader holds.
-use Rattle.std.specs.Prelude.{ℕ, ◌^◌, ◌≤◌, ◌<◌, [], ◌∷◌, ◌&&◌, eqb, get_or}
-use Rattle.model.specs.Choice.{if◌then◌else◌}
+use Rattle.std.specs.Prelude.{ℕ, ◌^◌, ◌≤◌, ◌<◌, [], ◌∷◌, ◌&&◌, eqb, get_or, if◌then◌else◌}
 use Rattle.model.specs.declared.values.Sides.{Sides}
 use Rattle.model.specs.Structs.{RoomSides}
 use Rattle.text_form.specs.declared.Given.{Given}

@@ -4,8 +4,7 @@
 mod line;
 mod token;
 
-ghost use Rattle.std.specs.Prelude.{◌≡◌, ◌+◌, ◌^◌, ◌<◌, ◌≤◌, eqb};
-ghost use Rattle.model.specs.Choice.{if◌then◌else◌};
+ghost use Rattle.std.specs.Prelude.{◌≡◌, ◌+◌, ◌^◌, ◌<◌, ◌≤◌, eqb, if◌then◌else◌};
 ghost use Rattle.text_form.specs.Assemble as form;
 ghost use Rattle.text_reader.specs.Bounds.{sides_after, ReaderBounded};
 

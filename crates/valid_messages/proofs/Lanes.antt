@@ -10,7 +10,7 @@ use lib.Pow.{pow_pos, pow-add, split, shr-shr, field, mod-mod-pow, shr_mod}
 use lib.Bits.{bit_and, and_high, and_zero_r}
 use lib.Dec.{ltb, leb, eqb, lit<}
 use borrow.Author.Tests.{eqb-true, eq-eqb, ne_eqb, lt-ltb, ltb-true, leb-true, le-leb, lt-leb}
-use Rattle.model.specs.Choice.{if◌then◌else◌}
+use Rattle.std.specs.Prelude.{if◌then◌else◌}
 use Rattle.model.specs.Sets.{of_bits}
 use Rattle.model.proofs.Laws.{same_test, and_left, and_right, and_in}
 use Rattle.valid_messages.specs.Masks.{part, above, receiver_bit}

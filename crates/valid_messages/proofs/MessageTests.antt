@@ -11,7 +11,8 @@ use lib.Seq.{get_or-set_same, get_or-set_other}
 use lib.Arith.{mod-mul, lt_of_le-ne}
 use lib.Pow.{field, mod-mod-pow, shr-shr}
 use lib.Dec.{ltb, eqb, lit<}
-use Rattle.model.specs.Choice.{if◌then◌else◌, ◌⇒◌, every}
+use Rattle.std.specs.Prelude.{if◌then◌else◌}
+use Rattle.model.specs.Choice.{◌⇒◌, every}
 use Rattle.model.specs.Sets.{Set, all}
 use Rattle.model.specs.Fields.{bits}
 use Rattle.model.specs.Leafset.{Table, size}

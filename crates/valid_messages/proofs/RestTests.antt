@@ -22,7 +22,8 @@ use Rattle.valid_nodes.proofs.Formats.{lowest, xor_test, xor_above}
 use Rattle.valid_messages.proofs.Lanes.{none_above, above_test, number, limited, short, without_receiver}
 use Rattle.valid_messages.proofs.Views.{second_kept, low_kept, middle_kept, high_kept, view_test}
 use Rattle.valid_messages.specs.Rests.{stamp_fits, rest_reads}
-use Rattle.model.specs.Choice.{if◌then◌else◌, every}
+use Rattle.std.specs.Prelude.{if◌then◌else◌}
+use Rattle.model.specs.Choice.{every}
 use Rattle.model.specs.Sets.{all, of_bits}
 use Rattle.valid_nodes.proofs.Gather.{or_test, or_more, all_both, all_cong}
 use Rattle.valid_messages.specs.Masks.{part, room, above, of_types_mask, receiver_bit, OfReceivers, Tables, beyond, wrong, nothing_wrong, Small}

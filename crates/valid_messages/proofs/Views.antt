@@ -9,7 +9,8 @@ use lib.Arith.{lt-one}
 use lib.Pow.{pow_pos}
 use lib.Dec.{ltb, leb, eqb, lit<}
 use borrow.Author.Tests.{eqb-true, eq-eqb, ne_eqb, lt-ltb, ltb-true, leb-true, le-leb}
-use Rattle.model.specs.Choice.{if◌then◌else◌, ◌⇒◌, every}
+use Rattle.std.specs.Prelude.{if◌then◌else◌}
+use Rattle.model.specs.Choice.{◌⇒◌, every}
 use Rattle.model.specs.Sets.{Set, all, to_bits, of_bits}
 use Rattle.model.specs.Fields.{bits}
 use Rattle.model.specs.Leafset.{Table, size}

@@ -1,7 +1,6 @@
 -- What the code tests of a rest: word i of it, without the bits of an empty one, under two masks.
-use Rattle.std.specs.Prelude.{◌≡◌, ℕ, zero, suc, ◌+◌, ◌-◌, ◌*◌, ◌/◌, ◌%◌, ◌^◌, ◌<◌, Bool, ◌&&◌, List, leb, eqb, get_or}
+use Rattle.std.specs.Prelude.{◌≡◌, ℕ, zero, suc, ◌+◌, ◌-◌, ◌*◌, ◌/◌, ◌%◌, ◌^◌, ◌<◌, Bool, ◌&&◌, List, leb, eqb, get_or, if◌then◌else◌}
 use Rattle.std.specs.Int.Bits.{bit_or, bit_xor, bit_and}
-use Rattle.model.specs.Choice.{if◌then◌else◌}
 use Rattle.model.specs.Sets.{tabulate}
 use Rattle.model.specs.Types.{uses_view, uses_stamp}
 use Rattle.model.specs.Words.{at}

@@ -1,10 +1,10 @@
 -- The two words of a pair at once: what the code tests is what `link_reads` and `spare_reads` ask.
-use Rattle.std.proofs.Common.{◌≡◌, ℕ, zero, suc, ◌+◌, ◌-◌, ◌*◌, ◌/◌, ◌%◌, ◌^◌, ◌<◌, ◌≤◌, Bool, true, false, not, ◌&&◌, ◌||◌, eqb, ltb, leb, List, [], ◌∷◌, sym, refl, ap, ◌∙◌, mod-lt, mod-eq_of_lt, div-add-mod', zero-add, add-one, arith, lit<, ltb-true, le-ltb, lt-ltb, eq-eqb, ne_eqb, eqb-true, le-leb, leb-true}
+use Rattle.std.proofs.Common.{◌≡◌, ℕ, zero, suc, ◌+◌, ◌-◌, ◌*◌, ◌/◌, ◌%◌, ◌^◌, ◌<◌, ◌≤◌, Bool, true, false, not, ◌&&◌, ◌||◌, eqb, ltb, leb, List, [], ◌∷◌, sym, refl, ap, ◌∙◌, mod-lt, mod-eq_of_lt, div-add-mod', zero-add, add-one, arith, lit<, ltb-true, le-ltb, lt-ltb, eq-eqb, ne_eqb, eqb-true, le-leb, leb-true, if◌then◌else◌}
 use native.Mathlib.Decide.{dec_lt, ℕ_discrete}
 use mathlib.Core.Bool.{and-true, and-false}
 use lib.Arith.{mod-mul}
 use lib.Bits.{bit_xor, bit_and, xor_zero_r, xor_self, xor_block}
-use Rattle.model.specs.Choice.{if◌then◌else◌, ◌⇒◌, every}
+use Rattle.model.specs.Choice.{◌⇒◌, every}
 use Rattle.model.specs.Sets.{Set, count, all, without}
 use Rattle.model.specs.Fields.{flag}
 use Rattle.model.specs.Words.{pair_word}

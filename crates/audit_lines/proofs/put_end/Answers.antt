@@ -12,7 +12,15 @@ returns-then-account-eq0 c =
 
 pub returns : goal.returns
 returns c =
-    let all = put_more (put_more (put_more (put_more c.put_numbered-first.ensures.bytes c.put_numbered-second.ensures.bytes) c.put_numbered-third.ensures.bytes) c.put_numbered-fourth.ensures.bytes) c.put_byte.ensures.bytes in record {
+    let all = put_more (put_more (put_more (put_more c.put_numbered-first.ensures.bytes c.put_numbered-second.ensures.bytes)
+    c.put_numbered-third.ensures.bytes) c.put_numbered-fourth.ensures.bytes) c.put_byte.ensures.bytes in record {
       bytes = put_as all (parted_line _ c.if-account-eq0.false);
-      end = omega (arith, c.put_numbered-first.ensures.end, c.put_numbered-second.ensures.end, c.put_numbered-third.ensures.end, c.put_numbered-fourth.ensures.end, c.put_byte.ensures.bytes.ends);
+      end = omega (
+        arith,
+        c.put_numbered-first.ensures.end,
+        c.put_numbered-second.ensures.end,
+        c.put_numbered-third.ensures.end,
+        c.put_numbered-fourth.ensures.end,
+        c.put_byte.ensures.bytes.ends,
+      );
     }

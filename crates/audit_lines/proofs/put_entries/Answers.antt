@@ -12,8 +12,11 @@ loop-i-init c = (omega arith, put_none_yet _ _ _ _, refl)
 
 pub loop-i-preserved : goal.loop-i-preserved
 loop-i-preserved c =
-    let l = c.loop-i in
-    (omega arith, put_one_more l.invariant.1 refl refl c.put_entry-end.ensures.bytes c.put_entry-end.ensures.end, c.put_entry-end.ensures.bytes.long ∙ l.invariant.2)
+    let l = c.loop-i in (
+      omega arith,
+      put_one_more l.invariant.1 refl refl c.put_entry-end.ensures.bytes c.put_entry-end.ensures.end,
+      c.put_entry-end.ensures.bytes.long ∙ l.invariant.2,
+    )
 
 pub returns : goal.returns
 returns c =

@@ -13,6 +13,7 @@ returns c =
     record {
       bytes = λ es q.
           let same = ap (λ (j : ℕ). entries_text (entries_of args.counts.now args.words.now j)) c.listed.ensures.value ∙ ap entries_text (sym q) in
-          put_as (put_more (put_more (put_more c.put_numbered-first.ensures.bytes c.put_bytes-second.ensures.bytes) (put_as c.put_entries-third.ensures.bytes same)) c.put_more.ensures.bytes) (verdict_lines _ es);
+          put_as (put_more (put_more (put_more c.put_numbered-first.ensures.bytes c.put_bytes-second.ensures.bytes)
+          (put_as c.put_entries-third.ensures.bytes same)) c.put_more.ensures.bytes) (verdict_lines _ es);
       end = omega (arith, c.put_numbered-first.ensures.end, c.put_bytes-second.ensures.bytes.ends, c.put_entries-third.ensures.end, c.put_more.ensures.end);
     }

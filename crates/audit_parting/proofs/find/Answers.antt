@@ -18,8 +18,11 @@ without : (left group rest : ℕ) → of_bits rest ≡ (λ (b : ℕ). of_bits le
 without left group rest is b = ap (λ (S : Set). S b) is
 
 pub loop-left-init : goal.loop-left-init
-loop-left-init c =
-    (search rules, counted_none _ (running_closed _ c.running-left.ensures.members) c.running-left.ensures.members, found_none _ c.requires.room c.fill.ensures.groups c.running-left.ensures.members)
+loop-left-init c = (
+  search rules,
+  counted_none _ (running_closed _ c.running-left.ensures.members) c.running-left.ensures.members,
+  found_none _ c.requires.room c.fill.ensures.groups c.running-left.ensures.members,
+)
 
 pub group-group-requires : goal.group-group-requires
 group-group-requires c = record {
@@ -54,7 +57,8 @@ loop-left-preserved c =
     let is = rest_is (decode ws) (running_low ws) l.invariant.1.closed f.member _ c.group-group.ensures.members less in (
       search rules,
       counted_next (decode ws) (running_low ws) f is l.invariant.1,
-      found_next (decode ws) (running_low ws) l.invariant.1.closed f.member _ c.group-group.ensures.members less l.invariant.2 c.fill-in-loop-left.ensures.groups,
+      found_next (decode ws) (running_low ws) l.invariant.1.closed f.member _ c.group-group.ensures.members less l.invariant.2
+          c.fill-in-loop-left.ensures.groups,
     )
 
 pub shape_of-groups : goal.shape_of-groups

@@ -28,8 +28,10 @@ pub loop-rest-preserved : goal.loop-rest-preserved
 loop-rest-preserved c =
     let i = c.loop-rest.invariant in
     elim c.if-is_torn.branch [
-      | then-is_torn w ↦ collect_kept i c.loop-rest-test.true _ c.lowest-x.ensures.value c.rest-rest.ensures.rest c.with-more.ensures.members w.torn-is (sym c.is_torn.ensures.value ∙ w.if-is_torn.true)
-      | else-is_torn w ↦ collect_passed i c.loop-rest-test.true _ c.lowest-x.ensures.value c.rest-rest.ensures.rest w.torn-is (sym c.is_torn.ensures.value ∙ w.if-is_torn.false)
+      | then-is_torn w ↦ collect_kept i c.loop-rest-test.true _ c.lowest-x.ensures.value c.rest-rest.ensures.rest c.with-more.ensures.members w.torn-is
+          (sym c.is_torn.ensures.value ∙ w.if-is_torn.true)
+      | else-is_torn w ↦ collect_passed i c.loop-rest-test.true _ c.lowest-x.ensures.value c.rest-rest.ensures.rest w.torn-is
+          (sym c.is_torn.ensures.value ∙ w.if-is_torn.false)
     ]
 
 pub returns : goal.returns

@@ -9,10 +9,12 @@ use Rattle.bench_session.proofs.Sessions.{refused_script, first_played}
 use Rattle.bench_session.proofs.begin.Goals as goal
 
 pub returns-then-refusal-ne0 : goal.returns-then-refusal-ne0
-returns-then-refusal-ne0 c =
-    let o = c.open_script-answer in
-    let number = c.number-refusal.ensures.answer in
-    record { turn = refused_script _ _ o.result o.ensures.written number _ c.if-refusal-ne0.true c.requires.words.1 c.put_three.ensures.bytes }
+returns-then-refusal-ne0 c = record {
+  turn =
+      refused_script _ _ c.open_script-answer.result c.open_script-answer.ensures.written c.number-refusal.ensures.answer _ c.if-refusal-ne0.true
+      c.requires.words.1
+      c.put_three.ensures.bytes;
+}
 
 pub slice_bounds-play-count : goal.slice_bounds-play-count
 slice_bounds-play-count c =
@@ -20,7 +22,9 @@ slice_bounds-play-count c =
     omega (arith, o.enough, nodes_are o, c.nodes-first.ensures.value)
 
 pub slice_bounds-play-start : goal.slice_bounds-play-start
-slice_bounds-play-start c = slice_bounds-play-count c
+slice_bounds-play-start c =
+    let o = opened_ring _ _ c.open_script-answer.result c.open_script-answer.ensures.written c.number-refusal.ensures.answer c.if-refusal-ne0.false in
+    omega (arith, o.enough, nodes_are o, c.nodes-first.ensures.value)
 
 pub play-requires : goal.play-requires
 play-requires c = record {

@@ -5,7 +5,7 @@ use native.Mathlib.Nat.{add-zero, add-sub_cancel_left}
 use native.Mathlib.Omega.{arith}
 use lib.Dec.{ltb, eqb}
 use borrow.Author.Rules.{rules}
-use Rattle.model.specs.Choice.{if◌then◌else◌}
+use Rattle.std.specs.Prelude.{if◌then◌else◌}
 use Rattle.model.specs.Structs.{stamp_at}
 use Rattle.sets.proofs.Arrays.{spare_read}
 use Rattle.ring_ranges.proofs.Patches.{patched_none, patched_more}

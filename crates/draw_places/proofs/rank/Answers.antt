@@ -22,7 +22,12 @@ loop-y-preserved c =
     let keys = c.args.keys.now in
     let lower : ℕ → Bool = λ z. ltb (get_or keys z 0) c.args.key in
     elim c.if-keys-y.branch [
-      | then-keys-y w ↦ (omega arith, omega arith, w.rank-is ∙ ap (λ (k : ℕ). k + 1) l.invariant.2 ∙ sym (count_one_more lower l.y (lt-ltb _ _ w.if-keys-y.true)))
+      | then-keys-y w ↦ (
+        omega arith,
+        omega arith,
+        w.rank-is ∙ ap (λ (k : ℕ). k + 1) l.invariant.2
+            ∙ sym (count_one_more lower l.y (lt-ltb _ _ w.if-keys-y.true)),
+      )
       | else-keys-y w ↦ (omega arith, omega arith, w.rank-is ∙ l.invariant.2 ∙ sym (count_no_more lower l.y (le-ltb _ _ w.if-keys-y.false)))
     ]
 

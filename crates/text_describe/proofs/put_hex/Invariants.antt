@@ -5,4 +5,5 @@ use Rattle.text_describe.proofs.Pieces.{PutBefore}
 use Rattle.text_describe.proofs.put_hex.Given as goal
 
 abbrev pub invariant-loop-i : goal.invariant-loop-i
-invariant-loop-i l = (l.i ≤ length l.bytes) × (l.end ≤ l.at + 2 * l.i) × PutBefore l.initial.out l.out l.at l.end (hex_bytes l.bytes) (hex_bytes (drop l.i l.bytes))
+invariant-loop-i l = (l.i ≤ length l.bytes) × (l.end ≤ l.at + 2 * l.i)
+    × PutBefore l.initial.out l.out l.at l.end (hex_bytes l.bytes) (hex_bytes (drop l.i l.bytes))

@@ -33,6 +33,7 @@ pub returns : goal.returns
 returns c = record {
   turn =
       let chunk = c.args.bytes.now in
-      stepped _ _ chunk c.load-n.ensures.loaded.loaded (rest_from chunk (words_counted chunk c.load-n.ensures.loaded.count)) c.put_chunk-given.ensures.bytes c.put_chunk-given.ensures.opened
+      stepped _ _ chunk c.load-n.ensures.loaded.loaded (rest_from chunk (words_counted chunk c.load-n.ensures.loaded.count)) c.put_chunk-given.ensures.bytes
+      c.put_chunk-given.ensures.opened
       c.put_tail.ensures.bytes;
 }

@@ -7,6 +7,7 @@ pub returns : goal.returns
 unfolding event_text
 returns c =
     record {
-      bytes = put_more (put_more (put_more c.put_bytes-first.ensures.bytes c.put_node-second.ensures.bytes) c.put_bytes-third.ensures.bytes) c.put_node.ensures.bytes;
+      bytes = put_more (put_more (put_more c.put_bytes-first.ensures.bytes c.put_node-second.ensures.bytes) c.put_bytes-third.ensures.bytes)
+          c.put_node.ensures.bytes;
       end = omega (arith, c.put_bytes-first.ensures.bytes.ends, c.put_bytes-third.ensures.bytes.ends);
     }

@@ -11,7 +11,10 @@ pub returns-then-byte-eq-NEWLINE : goal.returns-then-byte-eq-NEWLINE
 returns-then-byte-eq-NEWLINE c = record { value = c.newline_read.ensures.value ∙ at_newline _ _ c.if-reader.false c.if-byte-eq-NEWLINE.true }
 
 pub returns-then-reader-2 : goal.returns-then-reader-2
-returns-then-reader-2 c = record { value = c.silent-then-reader-2.ensures.value ∙ in_comment _ _ c.if-reader.false c.if-byte-eq-NEWLINE.false c.if-reader-2.true }
+returns-then-reader-2 c = record {
+  value = c.silent-then-reader-2.ensures.value
+      ∙ in_comment _ _ c.if-reader.false c.if-byte-eq-NEWLINE.false c.if-reader-2.true;
+}
 
 pub returns-then-byte-eq-HASH : goal.returns-then-byte-eq-HASH
 returns-then-byte-eq-HASH c = record {

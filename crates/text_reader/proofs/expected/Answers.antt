@@ -13,7 +13,13 @@ returns-then-reader-ne-KEYS c = record { value = rw (ne_eqb _ _ c.if-reader-eq0.
 
 pub returns-then-reader-lt-KEYS : goal.returns-then-reader-lt-KEYS
 unfolding expected_at
-returns-then-reader-lt-KEYS c = record { value = rw (ne_eqb _ _ c.if-reader-eq0.false, eq-eqb _ _ c.if-reader-ne-KEYS.false, lt-ltb _ _ c.if-reader-lt-KEYS.true) }
+returns-then-reader-lt-KEYS c = record {
+  value = rw (
+    ne_eqb _ _ c.if-reader-eq0.false,
+    eq-eqb _ _ c.if-reader-ne-KEYS.false,
+    lt-ltb _ _ c.if-reader-lt-KEYS.true,
+  );
+}
 
 pub returns : goal.returns
 unfolding expected_at

@@ -1,19 +1,15 @@
-use mathlib.Core.Path.{sym, ◌∙◌}
 use native.Mathlib.Omega.{arith}
 use borrow.Author.Rules.{rules}
-use Rattle.model.proofs.Words.{reads_out}
-use Rattle.bench_session.proofs.Plays.{word_there, end_there, none_played, more_played, all_played}
+use Rattle.bench_session.proofs.Plays.{word_there, none_played, more_played, end_there, all_played}
 use Rattle.bench_session.proofs.play.play_all.Goals as goal
 
 pub loop-word-init : goal.loop-word-init
 loop-word-init c = none_played _ _ _ _ c.requires.ring.0
 
-pub shape_of-words-in_default : goal.shape_of-words-in_default
-shape_of-words-in_default c =
-    (reads_out _ c.loop-word.invariant.reads).long ∙ sym (reads_out _ c.requires.ring.0).long
-
-pub shape_of-out-in_default : goal.shape_of-out-in_default
-shape_of-out-in_default c = c.loop-word.invariant.put.long
+pub returns-in_default : goal.returns-in_default
+returns-in_default c = record {
+  played = all_played c.loop-word.invariant (end_there c.args.script.now _ _ c.read-reading.ensures.value c.in_default.is);
+}
 
 pub overflow_add-count : goal.overflow_add-count
 overflow_add-count c =
@@ -38,8 +34,3 @@ pub loop-word-preserved : goal.loop-word-preserved
 loop-word-preserved c =
     let t = word_there c.args.script.now _ _ c.read-reading.ensures.value _ c.in-Word.is in
     more_played c.loop-word.invariant t (search rules) c.play_word-end.ensures.played
-
-pub returns-in_default : goal.returns-in_default
-returns-in_default c =
-    let ended = end_there c.args.script.now _ _ c.read-reading.ensures.value c.in_default.is in
-    record { played = all_played c.loop-word.invariant ended }

@@ -6,4 +6,5 @@ use Rattle.text_assemble.proofs.Steps.{ReadTo}
 use Rattle.text_assemble.proofs.chunk.read_chunk.Given as goal
 
 abbrev pub invariant-loop-i : goal.invariant-loop-i
-invariant-loop-i l = (l.i-end ≡ length l.bytes) × ReadTo (progress_of l.initial.read.reader l.initial.keys) l.bytes l.initial.read.reader.line l.read.reader l.keys l.initial.out l.out l.read.end l.i
+invariant-loop-i l = (l.i-end ≡ length l.bytes)
+    × ReadTo (progress_of l.initial.read.reader l.initial.keys) l.bytes l.initial.read.reader.line l.read.reader l.keys l.initial.out l.out l.read.end l.i

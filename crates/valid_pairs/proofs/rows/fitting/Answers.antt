@@ -1,5 +1,4 @@
-use Rattle.std.proofs.Common.{◌≡◌, ℕ, ◌+◌, ◌*◌, Bool, ◌&&◌, sym, ap, ◌∙◌, add-zero, add_assoc, arith, rules}
-use Rattle.model.specs.Choice.{if◌then◌else◌}
+use Rattle.std.proofs.Common.{◌≡◌, ℕ, ◌+◌, ◌*◌, Bool, ◌&&◌, sym, ap, ◌∙◌, add-zero, add_assoc, arith, rules, if◌then◌else◌}
 use Rattle.model.specs.Words.{at}
 use Rattle.model.specs.Sets.{Set, count}
 use Rattle.valid_nodes.specs.Nodes.{clock_at}
