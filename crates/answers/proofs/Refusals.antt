@@ -8,7 +8,7 @@ use borrow.Author.Tests.{lt-ltb, le-ltb, eq-eqb, ne_eqb}
 use Rattle.model.specs.Leafset.{size}
 use Rattle.model.specs.Answers.{Refusal, first_of}
 use Rattle.model.specs.Words.{ring_length, decode_table, decode_node, decode, reads_as_ring}
-use Rattle.model.specs.Buffer.{wrong_length, not_aRing}
+use Rattle.model.specs.Buffer.{wrong_length, not_a_ring}
 use Rattle.model.specs.Play.{no_node, no_message, node_off, already_running, clock_spent}
 use Rattle.model.proofs.Answers.{next}
 
@@ -21,10 +21,10 @@ module _ (ws : List ℕ) where
   pub right_length : length ws ≡ ring_length → (wrong_length ws).applies ≡ false
   right_length e = ap not (eq-eqb (length ws) ring_length e)
 
-  pub no_ring : reads_as_ring ws ≡ false → (not_aRing ws).applies ≡ true
+  pub no_ring : reads_as_ring ws ≡ false → (not_a_ring ws).applies ≡ true
   no_ring e = ap not e
 
-  pub a_ring : reads_as_ring ws ≡ true → (not_aRing ws).applies ≡ false
+  pub a_ring : reads_as_ring ws ≡ true → (not_a_ring ws).applies ≡ false
   a_ring e = ap not e
 
 -- ---- those from the state

@@ -12,7 +12,7 @@ use Rattle.model.specs.Answers.{Refusal, first_of, is_accepted, number_of}
 use Rattle.model.specs.Events.{event_of, word_refusals, word_answer, ReadWord, read_event, reading_of}
 use Rattle.model.specs.Words.{ring_length, decode, reads_as_ring}
 use Rattle.model.specs.Play.{state_refusals}
-use Rattle.model.specs.Buffer.{wrong_length, not_aRing, buffer_answer, play_buffer}
+use Rattle.model.specs.Buffer.{wrong_length, not_a_ring, buffer_answer, play_buffer}
 use Rattle.model.specs.declared.answer.Answer.{Answer}
 use Rattle.model.specs.declared.answer.Answer.TheVariants.{WrongLength, NotARing}
 use Rattle.model.specs.declared.event.Event.{Event}
@@ -76,7 +76,7 @@ module _ (ws : List ℕ) (w : ℕ) where
       record { is_refusal = ap is_accepted one; number = sym one }
 
   module _ (h : eqb (length ws) ring_length ≡ true) where
-    by_word : buffer_answer ws w ≡ (if is_accepted (word_answer w) then first_of (not_aRing ws ∷ state_refusals (decode ws) (event_of w)) else word_answer w)
+    by_word : buffer_answer ws w ≡ (if is_accepted (word_answer w) then first_of (not_a_ring ws ∷ state_refusals (decode ws) (event_of w)) else word_answer w)
     unfolding buffer_answer word_answer
     by_word =
         next (wrong_length ws) _ (ap not h)
@@ -90,14 +90,14 @@ module _ (ws : List ℕ) (w : ℕ) where
           record { is_refusal = ap is_accepted refused ∙ p.refused; number = p.answer ∙ sym refused }
 
       module _ {e : Event} (is : r ≡ Read e) where
-        after_word : buffer_answer ws w ≡ first_of (not_aRing ws ∷ state_refusals (decode ws) e)
+        after_word : buffer_answer ws w ≡ first_of (not_a_ring ws ∷ state_refusals (decode ws) e)
         after_word = let p : IsEvent w e = is_event w read e is in by_word ∙ rw (p.accepted, p.event)
 
-        pub not_a_ring : reads_as_ring ws ≡ false → Refuses ws w NotARing
-        not_a_ring n =
+        pub not_a_ring_lem : reads_as_ring ws ≡ false → Refuses ws w NotARing
+        not_a_ring_lem n =
             let six : buffer_answer ws w ≡ 6 = after_word ∙ here _ _ (ap not n) in
             record { is_refusal = ap is_accepted six; number = sym six }
 
         pub an_event : reads_as_ring ws ≡ true → event_on ws e ≡ play_buffer ws w
         unfolding play_buffer
-        an_event t = rw (after_word, (is_event w read e is).event, next (not_aRing ws) (state_refusals (decode ws) e) (ap not t))
+        an_event t = rw (after_word, (is_event w read e is).event, next (not_a_ring ws) (state_refusals (decode ws) e) (ap not t))

@@ -1,6 +1,6 @@
 -- What the audit keeps after each word is what the model says of the words so far: by induction over the words.
 use mathlib.Core.Path.{◌≡◌, refl, sym, ap, ap₂, ◌∙◌, subst}
-use mathlib.Core.Bool.{Bool, true, false, not, ◌&&◌, ◌||◌}
+use mathlib.Core.Bool.{Bool, true, false, cond, not, ◌&&◌, ◌||◌}
 use mathlib.Core.List.{List, [], ◌∷◌, ◌++◌, append-nil, map}
 use Prim.Native.Nat.{ℕ, zero, suc, ◌+◌, ◌≤◌, ◌<◌}
 use native.Mathlib.Nat.{le_refl, not-suc-le-zero, le_of_suc-le-suc}
@@ -45,8 +45,8 @@ or_assoc true b c = refl
 or_assoc false b c = refl
 
 -- x is added, if the test says so
-abbrev also : {A : Type 0} → Bool → A → List A
-also b x = if b then x ∷ [] else []
+abbrev also {ℓ} : {A : Type ℓ} → Bool → A → List A
+also b x = cond b (x ∷ []) []
 
 has_also : (S : Set) (xs : List ℕ) (b : Bool) (x : ℕ) → has S (xs ++ also b x) ≡ (has S xs || b && S x)
 unfolding has

@@ -13,7 +13,7 @@ use Rattle.model.specs.Leafset.{size, key}
 use Rattle.model.specs.Sets.{Set, some}
 use Rattle.model.specs.WellFormed.{nil, cons}
 use Rattle.model.specs.Words.{ring_length, decode_table, decode, reads_as_ring}
-use Rattle.model.specs.Buffer.{not_aRing}
+use Rattle.model.specs.Buffer.{not_a_ring}
 use Rattle.model.specs.Join.{sides_differ, shares_key, tables_clash, too_many_messages, joining_refusals, join_refusals, join_answer}
 use Rattle.model.specs.declared.values.Sides.{Sides}
 use Rattle.model.proofs.Answers.{none_applies}
@@ -41,7 +41,7 @@ all_long false q r qs e = clash e refl
 
 -- 6 and those of two rings, after the lengths
 abbrev after_lengths : List ℕ → List ℕ → List Refusal
-after_lengths fs ss = not_aRing fs ∷ not_aRing ss ∷ joining_refusals (decode fs) (decode ss)
+after_lengths fs ss = not_a_ring fs ∷ not_a_ring ss ∷ joining_refusals (decode fs) (decode ss)
 
 module _ (fs ss ts : List ℕ) {a b c : Bool} (ea : a ≡ eqb (length fs) ring_length) (eb : b ≡ eqb (length ss) ring_length)
     (ec : c ≡ eqb (length ts) ring_length) where

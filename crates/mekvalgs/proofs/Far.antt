@@ -10,7 +10,7 @@ use lib.Dec.{ltb}
 use borrow.Author.Tests.{ltb-false}
 use Rattle.model.specs.Answers.{Refusal, first_of, is_accepted}
 use Rattle.model.specs.Words.{decode, reads_as_ring}
-use Rattle.model.specs.Buffer.{not_aRing, ring_refusals}
+use Rattle.model.specs.Buffer.{not_a_ring, ring_refusals}
 use Rattle.model.specs.Play.{no_node}
 use Rattle.model.specs.Sets.{none_node}
 use Rattle.model.specs.Questions.{leafset_refusals, leafset_answer, leafset_of, connection_answer, connection_of}
@@ -35,7 +35,7 @@ module _ (ws : List ℕ) where
       → first_of (ring_refusals ws ++ qs) ≡ first_of (ring_refusals ws ++ rs)
   same_words qs rs same =
       later _ _ _
-      (decide (reads_as_ring ws) (λ t. later (not_aRing ws) qs rs (same t)) (λ f. here _ qs (no_ring ws f) ∙ sym (here _ rs (no_ring ws f))))
+      (decide (reads_as_ring ws) (λ t. later (not_a_ring ws) qs rs (same t)) (λ f. here _ qs (no_ring ws f) ∙ sym (here _ rs (no_ring ws f))))
 
   same_node_lem : (x : ℕ) → 64 ≤ x → (qs rs : List Refusal) → reads_as_ring ws ≡ true → first_of (no_node (decode ws) 64 ∷ qs) ≡ first_of (no_node (decode ws) x ∷ rs)
   same_node_lem x h qs rs reads =

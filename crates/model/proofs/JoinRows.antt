@@ -11,7 +11,7 @@ use Rattle.model.specs.Steps.{stamped, naming, plain, viewing}
 use Rattle.model.specs.Answers.{first_of}
 use Rattle.model.specs.Words.{head_word, belongs, word_at, decode_table, decode, in_range, keys_differ}
 use Rattle.model.specs.Words.{pair_fits, node_fits, message_fits, senders_fit, ring_fits, format_fits, reads_as_ring}
-use Rattle.model.specs.Buffer.{wrong_length, not_aRing}
+use Rattle.model.specs.Buffer.{wrong_length, not_a_ring}
 use Rattle.model.specs.Connection.{reached, connected, groups}
 use Rattle.model.specs.Join.{raised, raised_set, join, joining_refusals, join_refusals, join_answer, join_buffer}
 use Rattle.model.specs.declared.values.Sides.{Sides}
@@ -142,7 +142,7 @@ pub record JoinRows : Type 0 where
   -- "Refusals 1 and 6 are tried first, over all the buffers and over both sources; the new ones follow in rising order"
   pub in_order : map (λ q. q.number) (join_refusals [] [] []) ≡ 1 ∷ 1 ∷ 1 ∷ 6 ∷ 6 ∷ 14 ∷ 15 ∷ 16 ∷ []
   pub of_all : (a b c : List ℕ) → take 3 (join_refusals a b c) ≡ wrong_length a ∷ wrong_length b ∷ wrong_length c ∷ []
-  pub of_sources : (a b c : List ℕ) → take 2 (drop 3 (join_refusals a b c)) ≡ not_aRing a ∷ not_aRing b ∷ []
+  pub of_sources : (a b c : List ℕ) → take 2 (drop 3 (join_refusals a b c)) ≡ not_a_ring a ∷ not_a_ring b ∷ []
   pub wrong_lengths : join_answer [] zeros zeros ∷ join_answer zeros [] zeros ∷ join_answer zeros zeros [] ∷ [] ≡ 1 ∷ 1 ∷ 1 ∷ []
   pub no_ring : join_answer zeros zeros zeros ≡ 6
   -- "and nothing is written"

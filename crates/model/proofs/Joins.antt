@@ -18,7 +18,7 @@ use Rattle.model.specs.WellFormed.{WellFormedSides, WellFormedTable, Other, Spar
 use Rattle.model.specs.WellFormed.{WellFormedOwn, WellFormedNode, WellFormedMessage, WellFormed, Each, nil, cons}
 use Rattle.model.specs.Answers.{first_of, is_accepted}
 use Rattle.model.specs.Words.{ring_length, encode, decode, keys_differ, reads_as_ring}
-use Rattle.model.specs.Buffer.{wrong_length, not_aRing}
+use Rattle.model.specs.Buffer.{wrong_length, not_a_ring}
 use Rattle.model.specs.Join.{raised, raised_set, raised_own, raised_node, raised_message, join, Joinable}
 use Rattle.model.specs.Join.{shares_key, joining_refusals, join_refusals, join_answer, join_buffer}
 use Rattle.model.specs.declared.values.Sides.{Sides}
@@ -338,7 +338,7 @@ module _ (first-words second-words third : List ℕ) (ok : join_answer first-wor
       none_applies (join_refusals first-words second-words third)
       (cons refl (cons refl (cons refl (cons refl (cons refl (cons refl (cons refl (cons refl nil)))))))) ok
 
-  abbrev sources : Each (λ q. q.applies ≡ false) (not_aRing first-words ∷ not_aRing second-words ∷ joining_refusals r s)
+  abbrev sources : Each (λ q. q.applies ≡ false) (not_a_ring first-words ∷ not_a_ring second-words ∷ joining_refusals r s)
   sources = rest (rest (rest passed))
 
   pub first_reads_lem : reads_as_ring first-words ≡ true
@@ -373,4 +373,4 @@ third_length first-words second-words third other e =
     ap (λ (l : ℕ).
     first_of
     (wrong_length first-words ∷ wrong_length second-words ∷ record { number = 1; applies = not (eqb l ring_length) }
-    ∷ not_aRing first-words ∷ not_aRing second-words ∷ joining_refusals (decode first-words) (decode second-words))) e
+    ∷ not_a_ring first-words ∷ not_a_ring second-words ∷ joining_refusals (decode first-words) (decode second-words))) e

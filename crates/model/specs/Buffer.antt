@@ -13,12 +13,12 @@ abbrev pub wrong_length : List ℕ → Refusal
 wrong_length ws = record { number = 1; applies = not (eqb (length ws) ring_length) }
 
 -- "6. The words don't read as a ring."
-abbrev pub not_aRing : List ℕ → Refusal
-not_aRing ws = record { number = 6; applies = not (reads_as_ring ws) }
+abbrev pub not_a_ring : List ℕ → Refusal
+not_a_ring ws = record { number = 6; applies = not (reads_as_ring ws) }
 
 -- of a lent ring alone: 1; 6
 abbrev pub ring_refusals : List ℕ → List Refusal
-ring_refusals ws = wrong_length ws ∷ not_aRing ws ∷ []
+ring_refusals ws = wrong_length ws ∷ not_a_ring ws ∷ []
 
 unfoldable pub ring_answer : List ℕ → ℕ
 ring_answer ws = first_of (ring_refusals ws)
@@ -56,7 +56,7 @@ open_buffer ws t = writes ws (open_answer ws t) (encode (initial t))
 
 -- playing a word: 1; 4 and 5 of the word; 6; then those of the event
 abbrev pub play_refusals : List ℕ → ℕ → List Refusal
-play_refusals ws w = wrong_length ws ∷ word_refusals w ++ not_aRing ws ∷ state_refusals (decode ws) (event_of w)
+play_refusals ws w = wrong_length ws ∷ word_refusals w ++ not_a_ring ws ∷ state_refusals (decode ws) (event_of w)
 
 unfoldable pub buffer_answer : List ℕ → ℕ → ℕ
 buffer_answer ws w = first_of (play_refusals ws w)

@@ -6,7 +6,7 @@ use Rattle.model.specs.Ring.{Own, Node, Message, Ring, fresh}
 use Rattle.model.specs.Connection.{Connected}
 use Rattle.model.specs.Answers.{Refusal, first_of}
 use Rattle.model.specs.Words.{encode, decode}
-use Rattle.model.specs.Buffer.{wrong_length, not_aRing, Written, writes}
+use Rattle.model.specs.Buffer.{wrong_length, not_a_ring, Written, writes}
 
 -- "The second's numbers rise by the first's n, in pairs, spares, messages and views alike"
 module _ (n : ℕ) where
@@ -84,7 +84,7 @@ module _ (r s : Ring) where
 abbrev pub join_refusals : List ℕ → List ℕ → List ℕ → List Refusal
 join_refusals first second third =
     wrong_length first ∷ wrong_length second ∷ wrong_length third
-    ∷ not_aRing first ∷ not_aRing second
+    ∷ not_a_ring first ∷ not_a_ring second
     ∷ joining_refusals (decode first) (decode second)
 
 unfoldable pub join_answer : List ℕ → List ℕ → List ℕ → ℕ

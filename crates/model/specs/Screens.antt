@@ -1,5 +1,5 @@
 -- The two screens: document 02's note 9.
-use Rattle.std.specs.Prelude.{◌≡◌, ℕ, ◌*◌, ◌/◌, ◌%◌, List, [], length, take, drop, replicate, if◌then◌else◌}
+use Rattle.std.specs.Prelude.{◌≡◌, ℕ, ◌*◌, ◌/◌, ◌%◌, List, [], length, take, drop, replicate, if◌then◌else◌, cond}
 use Rattle.model.specs.Sets.{Set, tabulate, to_bits}
 use Rattle.model.specs.Leafset.{Table, size, key, leafset}
 use Rattle.model.specs.Ring.{Own, Ring, holds, is_running}
@@ -70,8 +70,8 @@ unfoldable pub empty_technician : TechnicianScreen
 empty_technician = record { conductor = empty_conductor; candidates = replicate 64 0 }
 
 -- of a lent ring what is shown of it, of any other words the empty answer
-abbrev pub shown : {A : Type 0} → List ℕ → (Ring → A) → A → A
-shown ws show none = if is_accepted (ring_answer ws) then show (decode ws) else none
+abbrev pub shown {ℓ} : {A : Type ℓ} → List ℕ → (Ring → A) → A → A
+shown ws show none = cond (is_accepted (ring_answer ws)) (show (decode ws)) none
 
 unfoldable pub conductor_of : List ℕ → ConductorScreen
 conductor_of ws = shown ws (λ r. conductor_screen (seen r)) empty_conductor

@@ -1,5 +1,5 @@
 -- Sets of nodes, as tests on node numbers, and functions of nodes. A node is document 01's stand.
-use Rattle.std.specs.Prelude.{ℕ, zero, suc, ◌+◌, ◌/◌, ◌%◌, ◌^◌, Bool, true, false, not, ◌&&◌, ◌||◌, List, [], ◌∷◌, ◌++◌, get_or, eqb, if◌then◌else◌}
+use Rattle.std.specs.Prelude.{ℕ, zero, suc, ◌+◌, ◌/◌, ◌%◌, ◌^◌, Bool, true, false, not, ◌&&◌, ◌||◌, List, [], ◌∷◌, ◌++◌, get_or, eqb, if◌then◌else◌, cond}
 
 -- "a stand or 64 for none"
 abbrev pub none_node : ℕ
@@ -21,8 +21,8 @@ abbrev pub union : Set → Set → Set
 union S R y = S y || R y
 
 -- f, but v at x
-abbrev pub put : {A : Type 0} → (ℕ → A) → ℕ → A → ℕ → A
-put f x v y = if eqb y x then v else f y
+abbrev pub put {ℓ} : {A : Type ℓ} → (ℕ → A) → ℕ → A → ℕ → A
+put f x v y = cond (eqb y x) v (f y)
 
 -- every number below n passes the test
 unfoldable pub all : ℕ → Set → Bool

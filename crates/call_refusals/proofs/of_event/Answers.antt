@@ -1,6 +1,6 @@
 use mathlib.Core.Path.{sym, subst, ◌∙◌}
 use borrow.Author.Tests.{eqb-true, not-true, not-false}
-use Rattle.answers.proofs.Stages.{not_as_long, not_a_ring, not_an_event, an_event}
+use Rattle.answers.proofs.Stages.{not_as_long, not_a_ring_lem, not_an_event, an_event}
 use Rattle.call_refusals.specs.Admitted.{Admitted}
 use Rattle.call_refusals.proofs.of_event.Goals as goal
 
@@ -16,7 +16,7 @@ pub returns-then-not-reads_as_ring : goal.returns-then-not-reads_as_ring
 returns-then-not-reads_as_ring c = record {
   admitted =
       let long = sym c.as_long.ensures.value ∙ c.if-not-as_long.false in
-      not_a_ring _ _ long c.read_event-reading.ensures.value c.in-Read.is
+      not_a_ring_lem _ _ long c.read_event-reading.ensures.value c.in-Read.is
       (sym c.reads_as_ring.ensures.value ∙ c.if-not-reads_as_ring.true);
 }
 
