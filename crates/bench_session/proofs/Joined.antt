@@ -24,7 +24,7 @@ use Rattle.bench_report.specs.Report.{groups_bytes, end_bytes}
 use Rattle.model.specs.declared.answer.Answer.TheVariants.{NotAnEvent}
 use Rattle.model.proofs.Cases.{after_table}
 use Rattle.model.proofs.Laws.{decide, if_law}
-use Rattle.bench_script.specs.Chunks.{chunk_size, chunks, tail_of}
+use Rattle.bench_script.specs.Chunks.{Cut, chunk_size, chunks, tail_of}
 use Rattle.bench_script.proofs.Chunks.{few_words, many_words, every_script_is_cut}
 use Rattle.bench_script.proofs.Sessions.{Session, end_or_more, whole}
 use Rattle.bench_open.proofs.FirstChunk.{events, Opening, opened, every_opening}
@@ -139,9 +139,13 @@ printed r b = decide (is_accepted (script_answer ws)) accepted (λ e. rw e (sym 
     accepted : is_accepted (script_answer ws) ≡ true → opened (opening r) ws (tail_of b) ≡ printed_bytes (bench b)
     accepted e = rw e (whole_is (initial (script_table ws)) (events ws) b (size (script_table ws)) refl)
 
+-- the chunks of a script print what the definition says of the whole
+pub session_prints : {b : List ℕ} {cs : List (List ℕ)} → Cut b cs → (r : Ring) → turns_bytes false 0 r cs ≡ printed_bytes (bench b)
+unfolding opening
+session_prints {b} q r = every_opening (opening r) q ∙ printed r b
+
 -- ---- every script
 
 -- for every list of bytes, what its chunks print one after the other is what the definition says of it
 pub every_script_prints : (script : List ℕ) (r : Ring) → turns_bytes false 0 r (chunks script) ≡ printed_bytes (bench script)
-unfolding opening
-every_script_prints script r = every_opening (opening r) (every_script_is_cut script) ∙ printed r script
+every_script_prints script r = session_prints (every_script_is_cut script) r
