@@ -5,8 +5,8 @@ use Rattle.test_texts.proofs.random.below.Tie as tie
 returns : tie.Need-returns
 returns c = mod-lt _ c.before.requires
 
-pub below-spec : {M : Type 1} → statement M
-below-spec =
+pub below_spec : {M : Type 1} → statement M
+below_spec =
     tie.close
     (tie.spec
     (λ c κs. search rules) (λ c. search rules) returns)

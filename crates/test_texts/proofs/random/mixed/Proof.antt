@@ -8,8 +8,8 @@ invariant-loop script place x₀ counter₀ x counter = counter ≤ 4
 abbrev decreases-loop : tie.decreases-loop
 decreases-loop script place x₀ counter₀ x counter = 4 - counter
 
-pub mixed-spec : {M : Type 1} → statement M
-mixed-spec =
+pub mixed_spec : {M : Type 1} → statement M
+mixed_spec =
     tie.close
     (tie.spec
     invariant-loop decreases-loop (λ c κs. search rules) (λ c. search rules) (λ c κs. search rules) (λ c. search rules)
