@@ -6,18 +6,16 @@ use Prim.Native.Nat.{ℕ}
 use native.Mathlib.Omega.{arith}
 use lib.ListN.{length}
 use lib.Dec.{eqb}
-use Rattle.std.specs.Prelude.{if◌then◌else◌}
+use Rattle.std.specs.Prelude.{Result, Ok, Err, if◌then◌else◌}
 use Rattle.model.specs.WellFormed.{Each, nil, cons}
 use Rattle.model.specs.Answers.{Refusal, first_of, is_accepted, number_of}
 use Rattle.model.specs.Events.{event_of, word_refusals, word_answer, ReadWord, read_event, reading_of}
 use Rattle.model.specs.Words.{ring_length, decode, reads_as_ring}
 use Rattle.model.specs.Play.{state_refusals}
 use Rattle.model.specs.Buffer.{wrong_length, not_a_ring, buffer_answer, play_buffer}
-use Rattle.model.specs.declared.answer.Answer.{Answer}
-use Rattle.model.specs.declared.answer.Answer.TheVariants.{WrongLength, NotARing}
+use Rattle.model.specs.declared.refusal.Refusal.{Refusal as Kind}
+use Rattle.model.specs.declared.refusal.Refusal.TheVariants.{WrongLength, NotARing}
 use Rattle.model.specs.declared.event.Event.{Event}
-use Rattle.model.specs.declared.event.Reading.{Reading}
-use Rattle.model.specs.declared.event.Reading.TheVariants.{Read, Refused}
 use Rattle.answers.specs.Applied.{event_on, Refuses}
 use Rattle.model.proofs.Answers.{here, next}
 
@@ -41,25 +39,25 @@ record IsEvent (w : ℕ) (e : Event) : Type 0 where
   accepted : is_accepted (word_answer w) ≡ true
   event : event_of w ≡ e
 
-record IsNoEvent (w : ℕ) (a : Answer) : Type 0 where
+record IsNoEvent (w : ℕ) (a : Kind) : Type 0 where
   refused : is_accepted (word_answer w) ≡ false
   answer : number_of a ≡ word_answer w
 
-module _ (w : ℕ) {r : Reading} (read : reading_of r ≡ read_event w) where
-  is_event : (e : Event) → r ≡ Read e → IsEvent w e
+module _ (w : ℕ) {r : Result Event Kind} (read : reading_of r ≡ read_event w) where
+  is_event : (e : Event) → r ≡ Ok e → IsEvent w e
   unfolding read_event
   is_event e h =
-      let same : reading_of (Read e) ≡ read_event w = ap reading_of (sym h) ∙ read in
+      let same : reading_of (Ok e) ≡ read_event w = ap reading_of (sym h) ∙ read in
       by_answer (is_accepted (word_answer w)) refl (ap (λ (q : ReadWord). q.event) same)
     where
       by_answer : (b : Bool) → is_accepted (word_answer w) ≡ b → e ∷ [] ≡ (if b then event_of w ∷ [] else []) → IsEvent w e
       by_answer true a q = record { accepted = a; event = cc }
       by_answer false a q = absurd (let z : ◌≡◌ {A = ℕ} 1 0 = ap length q in omega arith)
 
-  is_no_event : (a : Answer) → r ≡ Refused a → IsNoEvent w a
+  is_no_event : (a : Kind) → r ≡ Err a → IsNoEvent w a
   unfolding read_event
   is_no_event a h =
-      let same : reading_of (Refused a) ≡ read_event w = ap reading_of (sym h) ∙ read in
+      let same : reading_of (Err a) ≡ read_event w = ap reading_of (sym h) ∙ read in
       by_answer (is_accepted (word_answer w)) refl (ap (λ (q : ReadWord). q.answer) same) (ap (λ (q : ReadWord). q.event) same)
     where
       by_answer : (b : Bool) → is_accepted (word_answer w) ≡ b → number_of a ≡ word_answer w → [] ≡ (if b then event_of w ∷ [] else []) → IsNoEvent w a
@@ -82,14 +80,14 @@ module _ (ws : List ℕ) (w : ℕ) where
         next (wrong_length ws) _ (ap not h)
         ∙ first_of_both (word_refusals w) _ (cons refl (cons refl nil))
 
-    module _ {r : Reading} (read : reading_of r ≡ read_event w) where
-      pub not_an_event : {a : Answer} → r ≡ Refused a → Refuses ws w a
+    module _ {r : Result Event Kind} (read : reading_of r ≡ read_event w) where
+      pub not_an_event : {a : Kind} → r ≡ Err a → Refuses ws w a
       not_an_event {a} e =
           let p : IsNoEvent w a = is_no_event w read a e in
           let refused : buffer_answer ws w ≡ word_answer w = by_word ∙ rw p.refused in
           record { is_refusal = ap is_accepted refused ∙ p.refused; number = p.answer ∙ sym refused }
 
-      module _ {e : Event} (is : r ≡ Read e) where
+      module _ {e : Event} (is : r ≡ Ok e) where
         after_word : buffer_answer ws w ≡ first_of (not_a_ring ws ∷ state_refusals (decode ws) e)
         after_word = let p : IsEvent w e = is_event w read e is in by_word ∙ rw (p.accepted, p.event)
 

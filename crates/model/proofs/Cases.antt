@@ -3,14 +3,15 @@ use mathlib.Core.Path.{◌≡◌, refl}
 use mathlib.Core.Bool.{false}
 use Prim.Native.Nat.{◌≤◌}
 use lib.Dec.{lit≤}
+use Rattle.std.specs.Prelude.{Result, Ok, Err}
 use Rattle.model.specs.Ring.{Ring, is_running, message_at}
 use Rattle.model.specs.WellFormed.{Each, nil, cons}
-use Rattle.model.specs.Answers.{is_accepted, number_of}
+use Rattle.model.specs.Answers.{is_accepted, number_of, answer_number}
 use Rattle.model.specs.Play.{after, act, receive, remove_message, refusals, left_refusals}
-use Rattle.model.specs.declared.answer.Answer.{Answer}
-use Rattle.model.specs.declared.answer.Answer.TheVariants.{Accepted, WrongLength, OpeningOutOfRange, BadKey, NotAnEvent, SameNode, NotARing}
-use Rattle.model.specs.declared.answer.Answer.TheVariants.{OutOfTable, NodeOff, AlreadyRunning, ClockSpent, PoolFull, KeyOutOfRange, ListTooShort}
-use Rattle.model.specs.declared.answer.Answer.TheVariants.{SidesDiffer, TablesClash, TooManyMessages, SenderFull, NotWatched, NotShort, PlaceTooSmall}
+use Rattle.model.specs.declared.refusal.Refusal.{Refusal}
+use Rattle.model.specs.declared.refusal.Refusal.TheVariants.{WrongLength, OpeningOutOfRange, BadKey, NotAnEvent, SameNode, NotARing}
+use Rattle.model.specs.declared.refusal.Refusal.TheVariants.{OutOfTable, NodeOff, AlreadyRunning, ClockSpent, PoolFull, KeyOutOfRange, ListTooShort}
+use Rattle.model.specs.declared.refusal.Refusal.TheVariants.{SidesDiffer, TablesClash, TooManyMessages, SenderFull, NotWatched, NotShort, PlaceTooSmall}
 use Rattle.model.specs.declared.event.Event.{Event}
 use Rattle.model.specs.declared.event.Event.TheVariants.{On, Off, Notice, Contact, Timer, Deliver, Lose}
 use Rattle.model.proofs.Laws.{if_law}
@@ -44,9 +45,8 @@ after_table r (Lose i) = refl
 
 -- ---- answers
 
--- an answer's number fits a byte
-pub number_low : (a : Answer) → number_of a ≤ 20
-number_low Accepted = lit≤ tt
+-- a refusal's number is none of acceptance's, and fits a byte
+pub number_low : (a : Refusal) → number_of a ≤ 20
 number_low WrongLength = lit≤ tt
 number_low OpeningOutOfRange = lit≤ tt
 number_low BadKey = lit≤ tt
@@ -67,3 +67,30 @@ number_low SenderFull = lit≤ tt
 number_low NotWatched = lit≤ tt
 number_low NotShort = lit≤ tt
 number_low PlaceTooSmall = lit≤ tt
+
+pub number_high : (a : Refusal) → is_accepted (number_of a) ≡ false
+number_high WrongLength = refl
+number_high OpeningOutOfRange = refl
+number_high BadKey = refl
+number_high NotAnEvent = refl
+number_high SameNode = refl
+number_high NotARing = refl
+number_high OutOfTable = refl
+number_high NodeOff = refl
+number_high AlreadyRunning = refl
+number_high ClockSpent = refl
+number_high PoolFull = refl
+number_high KeyOutOfRange = refl
+number_high ListTooShort = refl
+number_high SidesDiffer = refl
+number_high TablesClash = refl
+number_high TooManyMessages = refl
+number_high SenderFull = refl
+number_high NotWatched = refl
+number_high NotShort = refl
+number_high PlaceTooSmall = refl
+
+-- an answer's number too
+pub answer_low : {A : Type 0} (r : Result A Refusal) → answer_number r ≤ 20
+answer_low (Ok _) = lit≤ tt
+answer_low (Err e) = number_low e

@@ -15,7 +15,7 @@ use Rattle.model.specs.Events.{word_of, event_of, parts_fit, same_node, event_re
 use Rattle.model.specs.Events.{is_event_word, word_refusals, word_answer, read_event, reading_of}
 use Rattle.model.specs.declared.event.Event.{Event}
 use Rattle.model.specs.declared.event.Event.TheVariants.{On, Off, Notice, Contact, Timer, Deliver, Lose}
-use Rattle.model.specs.declared.event.Reading.TheVariants.{Read}
+use Rattle.std.specs.Prelude.{Ok}
 use Rattle.model.proofs.Laws.{and_left, and_right, not_out_false}
 use Rattle.model.proofs.Lists.{first, rest}
 use Rattle.model.proofs.Fields.{field}
@@ -107,7 +107,7 @@ writable e a =
     record { parts_fit_lem = not_out_false (parts_fit e) (first p); differ = first (rest p) }
 
 -- an event's word reads as that event
-pub reads : (e : Event) → event_answer e ≡ 0 → read_event (word_of e) ≡ reading_of (Read e)
+pub reads : (e : Event) → event_answer e ≡ 0 → read_event (word_of e) ≡ reading_of (Ok e)
 unfolding read_event word_answer first_of
 reads e a =
     let p : Writable e = writable e a in
@@ -135,7 +135,7 @@ accepted_word : (w : ℕ) → is_accepted (word_answer w) ≡ true → EventWord
 unfolding word_answer
 accepted_word w a = event_word w (none_applies (word_refusals w) (cons refl (cons refl nil)) (accepted_is (first_of (word_refusals w)) a))
 
-pub reads_as : (w : ℕ) (e : Event) → read_event w ≡ reading_of (Read e) → EventWord w e
+pub reads_as : (w : ℕ) (e : Event) → read_event w ≡ reading_of (Ok e) → EventWord w e
 unfolding read_event
 reads_as w e h = by_answer (is_accepted (word_answer w)) refl (ap (λ r. r.event) h)
   where

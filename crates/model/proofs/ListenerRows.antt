@@ -11,7 +11,7 @@ use Rattle.model.specs.Answers.{number_of, first_of}
 use Rattle.model.specs.Listener.{Listener, empty_listener, watch_answer, hear_refusals, hear_answer, Call, Watch, Tick, Hear, answer_of, notices_of, leaves}
 use Rattle.model.specs.Listener.{listener_of, record_of, empty_record, after_record, after, met, tick_at, ticks_between, notice_at, watched_before, hearing_at}
 use Rattle.model.specs.Listener.{Unheard, notices_between, noticed_before}
-use Rattle.model.specs.declared.answer.Answer.TheVariants.{OutOfTable, NotWatched}
+use Rattle.model.specs.declared.refusal.Refusal.TheVariants.{OutOfTable, NotWatched}
 
 -- what a record says of node s: whether it is watched, its silence and its window
 pub said : ℕ → Listener → List ℕ

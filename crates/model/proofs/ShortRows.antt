@@ -10,7 +10,7 @@ use Rattle.model.specs.Words.{node_place, pair_place, message_place, belongs, he
 use Rattle.model.specs.Words.{size_in, count_in}
 use Rattle.model.specs.Short.{short_pair, short_message, long_word, reads_as_short, shorten_refusals, shorten_answer, shorten_buffer}
 use Rattle.model.specs.Short.{lengthen_refusals, lengthen_answer, lengthen_buffer}
-use Rattle.model.specs.declared.answer.Answer.TheVariants.{NotShort, PlaceTooSmall}
+use Rattle.model.specs.declared.refusal.Refusal.TheVariants.{NotShort, PlaceTooSmall}
 
 -- the numbers of the first places that belong, k from place a on
 pub from : ℕ → ℕ → Set → List ℕ

@@ -35,7 +35,7 @@ use Rattle.model.specs.Join.{join, join_buffer, Joinable, FromOneRing, first_par
 use Rattle.model.specs.ConnectivityPreserved.{Reached, opened, joined, Unbroken, ConnectivityPreserved}
 use Rattle.model.specs.declared.event.Event.{Event}
 use Rattle.model.specs.declared.event.Event.TheVariants.{Deliver, Lose}
-use Rattle.model.specs.declared.event.Reading.TheVariants.{Read}
+use Rattle.std.specs.Prelude.{Ok}
 use Rattle.model.proofs.Events as events
 use Rattle.model.proofs.LeafsetSize.{TwoSides}
 use Rattle.model.proofs.LeafsetSize as type_size
@@ -78,12 +78,12 @@ pub use Rattle.model.proofs.Lowest.{lowest_at_script}
 -- ---- event words
 
 -- every event that can be written has a word, which reads as that event
-pub written_reads : (e : Event) → event_answer e ≡ 0 → read_event (write_event e) ≡ reading_of (Read e)
+pub written_reads : (e : Event) → event_answer e ≡ 0 → read_event (write_event e) ≡ reading_of (Ok e)
 unfolding write_event
 written_reads e a = ap (λ (b : Bool). read_event (if b then word_of e else 0)) (ap is_accepted a) ∙ events.reads e a
 
 -- every word that reads as an event is the word of it: so it has one word
-pub one_word : (w : ℕ) (e : Event) → read_event w ≡ reading_of (Read e) → w ≡ word_of e
+pub one_word : (w : ℕ) (e : Event) → read_event w ≡ reading_of (Ok e) → w ≡ word_of e
 one_word w e h = (events.reads_as w e h).word
 
 -- and two events that can be written have different words: a word reads as one event and no other

@@ -1,13 +1,12 @@
 -- The answers: acceptance and the refusals, with the documents' numbers, and the order in which they are tried.
-use Rattle.std.specs.Prelude.{ℕ, Bool, List, [], ◌∷◌, eqb, if◌then◌else◌}
-use Rattle.model.specs.declared.answer.Answer.{Answer}
-use Rattle.model.specs.declared.answer.Answer.TheVariants.{Accepted, WrongLength, OpeningOutOfRange, BadKey, NotAnEvent, SameNode, NotARing}
-use Rattle.model.specs.declared.answer.Answer.TheVariants.{OutOfTable, NodeOff, AlreadyRunning, ClockSpent, PoolFull, KeyOutOfRange, ListTooShort}
-use Rattle.model.specs.declared.answer.Answer.TheVariants.{SidesDiffer, TablesClash, TooManyMessages, SenderFull, NotWatched, NotShort, PlaceTooSmall}
+use Rattle.std.specs.Prelude.{ℕ, Bool, List, [], ◌∷◌, eqb, Result, Ok, Err, if◌then◌else◌}
+use Rattle.model.specs.declared.refusal.Refusal.{Refusal as Kind}
+use Rattle.model.specs.declared.refusal.Refusal.TheVariants.{WrongLength, OpeningOutOfRange, BadKey, NotAnEvent, SameNode, NotARing}
+use Rattle.model.specs.declared.refusal.Refusal.TheVariants.{OutOfTable, NodeOff, AlreadyRunning, ClockSpent, PoolFull, KeyOutOfRange, ListTooShort}
+use Rattle.model.specs.declared.refusal.Refusal.TheVariants.{SidesDiffer, TablesClash, TooManyMessages, SenderFull, NotWatched, NotShort, PlaceTooSmall}
 
--- "answer (0 accepted)"; "Refusals from the input", "Refusals from the state": the numbers 1 to 11; document 02 adds 12 to 20
-abbrev pub number_of : Answer → ℕ
-number_of Accepted = 0
+-- "Refusals from the input", "Refusals from the state": the numbers 1 to 11; document 02 adds 12 to 20
+abbrev pub number_of : Kind → ℕ
 number_of WrongLength = 1
 number_of OpeningOutOfRange = 2
 number_of BadKey = 3
@@ -28,6 +27,16 @@ number_of SenderFull = 17
 number_of NotWatched = 18
 number_of NotShort = 19
 number_of PlaceTooSmall = 20
+
+-- "answer (0 accepted)": what a call gives is acceptance, with a value, or a refusal
+abbrev pub answer_number : {A : Type 0} → Result A Kind → ℕ
+answer_number (Ok _) = 0
+answer_number (Err r) = number_of r
+
+-- what a call gives beside its answer; `empty` where it refuses
+abbrev pub given_or : {A : Type 0} → A → Result A Kind → A
+given_or empty (Ok a) = a
+given_or empty (Err _) = empty
 
 abbrev pub is_accepted : ℕ → Bool
 is_accepted a = eqb a 0

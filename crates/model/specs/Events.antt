@@ -1,11 +1,10 @@
 -- Event words: writing one, and reading one.
-use Rattle.std.specs.Prelude.{ℕ, ◌+◌, ◌-◌, ◌*◌, ◌^◌, Bool, false, not, ◌&&◌, List, [], ◌∷◌, get_or, ltb, leb, eqb, if◌then◌else◌}
+use Rattle.std.specs.Prelude.{ℕ, ◌+◌, ◌-◌, ◌*◌, ◌^◌, Bool, false, not, ◌&&◌, List, [], ◌∷◌, get_or, ltb, leb, eqb, Result, Ok, Err, if◌then◌else◌}
 use Rattle.model.specs.Fields.{bits, bit, flag, kind, of_kind}
 use Rattle.model.specs.Answers.{Refusal, first_of, is_accepted, number_of}
 use Rattle.model.specs.declared.event.Event.{Event}
 use Rattle.model.specs.declared.event.Event.TheVariants.{On, Off, Notice, Contact, Timer, Deliver, Lose}
-use Rattle.model.specs.declared.event.Reading.{Reading}
-use Rattle.model.specs.declared.event.Reading.TheVariants.{Read, Refused}
+use Rattle.model.specs.declared.refusal.Refusal.{Refusal as Kind}
 use Rattle.model.specs.declared.values.NodeNumber.{NodeNumber}
 
 -- "One word each: kind 9 on, 10 off, 11 notice, 12 contact, 13 timer, 14 deliver, 15 lose. For kinds 9-13 stand x is in bits 0-5;
@@ -96,6 +95,6 @@ unfoldable pub read_event : ℕ → ReadWord
 read_event w = record { answer = word_answer w; event = if is_accepted (word_answer w) then event_of w ∷ [] else [] }
 
 -- what the code's answer to reading says
-abbrev pub reading_of : Reading → ReadWord
-reading_of (Read e) = record { answer = 0; event = e ∷ [] }
-reading_of (Refused a) = record { answer = number_of a; event = [] }
+abbrev pub reading_of : Result Event Kind → ReadWord
+reading_of (Ok e) = record { answer = 0; event = e ∷ [] }
+reading_of (Err a) = record { answer = number_of a; event = [] }

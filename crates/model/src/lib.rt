@@ -1,10 +1,10 @@
 // The types that contracts cite.
 #![tactic(auto)]
 
-pub mod answer;
 pub mod event;
 pub mod listener;
 pub mod message;
 pub mod node;
+pub mod refusal;
 pub mod screen;
 pub mod values;

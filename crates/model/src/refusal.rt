@@ -1,9 +1,7 @@
-// The answers of the calls.
-// Acceptance, or one of the refusals of documents 01 and 02.
-#[derive(Clone, Copy)]
-pub enum Answer {
-    Accepted,
-    WrongLength,
+// The refusals of documents 01 and 02, with their numbers.
+#[derive(Clone, Copy, Debug, PartialEq, Eq)]
+pub enum Refusal {
+    WrongLength = 1,
     OpeningOutOfRange,
     BadKey,
     NotAnEvent,
