@@ -1,10 +1,13 @@
 -- Event words: writing one, and reading one.
-use Rattle.std.specs.Prelude.{ℕ, ◌+◌, ◌-◌, ◌*◌, ◌^◌, Bool, false, not, ◌&&◌, List, [], ◌∷◌, get_or, ltb, leb, eqb, Result, Ok, Err, if◌then◌else◌}
+use Rattle.std.specs.Prelude.{ℕ, ◌≡◌, ◌+◌, ◌-◌, ◌*◌, ◌^◌, Bool, false, not, ◌&&◌, List, [], ◌∷◌, get_or, ltb, leb, eqb, Result, Ok, Err, MatchResult, if◌then◌else◌}
 use Rattle.model.specs.Fields.{bits, bit, flag, kind, of_kind}
 use Rattle.model.specs.Answers.{Refusal, first_of, is_accepted, number_of}
 use Rattle.model.specs.declared.event.Event.{Event}
 use Rattle.model.specs.declared.event.Event.TheVariants.{On, Off, Notice, Contact, Timer, Deliver, Lose}
 use Rattle.model.specs.declared.refusal.Refusal.{Refusal as Kind}
+use Rattle.model.specs.declared.timer.TimerKind.{TimerKind}
+use Rattle.model.specs.declared.timer.TimerKind.TheVariants.{Invite, AskReplacement, Replace, Deloopy}
+use Rattle.model.specs.declared.timer.NoTimer.{NoTimer}
 use Rattle.model.specs.declared.values.NodeNumber.{NodeNumber}
 
 -- "One word each: kind 9 on, 10 off, 11 notice, 12 contact, 13 timer, 14 deliver, 15 lose. For kinds 9-13 stand x is in bits 0-5;
@@ -39,6 +42,16 @@ event_of w =
 -- "Timer value 1 is refused with 4": the timers are 0, 2, 3 and 4
 abbrev pub is_timer : ℕ → Bool
 is_timer k = leb k 4 && not (eqb k 1)
+
+abbrev pub timer_number : TimerKind → ℕ
+timer_number Invite = 0
+timer_number AskReplacement = 2
+timer_number Replace = 3
+timer_number Deloopy = 4
+
+-- the timer of a number, or the number, which is no timer's
+abbrev pub IsTimerOf : ℕ → Result TimerKind NoTimer → Type 0
+IsTimerOf k r = MatchResult r (λ timer. timer_number timer ≡ k) (λ none. (none.0 ≡ k) × (is_timer k ≡ false))
 
 -- each part of the event has room in its bits, and the timer is one
 abbrev pub parts_fit : Event → Bool

@@ -1,5 +1,9 @@
 -- The message types: their numbers and names, and what of a message each uses.
-use Rattle.std.specs.Prelude.{ℕ, Bool, true, false, List, [], ◌∷◌, length, get_or}
+use Rattle.std.specs.Prelude.{ℕ, ◌≡◌, ◌<◌, Bool, true, false, List, [], ◌∷◌, length, get_or, Result, MatchResult}
+use Rattle.model.specs.declared.message.MessageType.{MessageType}
+use Rattle.model.specs.declared.message.MessageType.TheVariants.{PingContact, PongContact, PingAskInv, PongAskInv, PingInvite, PongInvite, PingAskRepl}
+use Rattle.model.specs.declared.message.MessageType.TheVariants.{PongAskRepl, PingReplace, PongReplace, PingDeloopy, PongDeloopy, Leave}
+use Rattle.model.specs.declared.message.NoType.{NoType}
 
 -- document 01 numbers them, source 001 names them
 abbrev pub ping_contact : ℕ
@@ -42,6 +46,25 @@ pong_deloopy = 12
 -- "Type 13 joins the types valid in a ring"; no source names it
 abbrev pub leave : ℕ
 leave = 13
+
+abbrev pub type_number : MessageType → ℕ
+type_number PingContact = ping_contact
+type_number PongContact = pong_contact
+type_number PingAskInv = ping_ask_inv
+type_number PongAskInv = pong_ask_inv
+type_number PingInvite = ping_invite
+type_number PongInvite = pong_invite
+type_number PingAskRepl = ping_ask_repl
+type_number PongAskRepl = pong_ask_repl
+type_number PingReplace = ping_replace
+type_number PongReplace = pong_replace
+type_number PingDeloopy = ping_deloopy
+type_number PongDeloopy = pong_deloopy
+type_number Leave = leave
+
+-- the type of a number, or the number, which is no type's
+abbrev pub IsTypeOf : ℕ → Result MessageType NoType → Type 0
+IsTypeOf k r = MatchResult r (λ type. type_number type ≡ k) (λ none. (none.0 ≡ k) × (0 < k → 13 < k))
 
 -- what of a message a type uses; whether its subject is a spare: 64, or a node other than both ends
 pub record Uses : Type 0 where

@@ -7,4 +7,5 @@ pub mod message;
 pub mod node;
 pub mod refusal;
 pub mod screen;
+pub mod timer;
 pub mod values;
