@@ -11,18 +11,7 @@ pub fn move_down(words: &mut [u32], from: usize, to: usize)
     ensures value { Patched words.old words.new from to
         (λ i. get_or words.old (i + 5) 0) }
 {
-    shift(&mut words[from..to + 5]);
-}
-
-// Moves the words down by five; the last five stay. On a slice of its own this is one move of memory.
-fn shift(part: &mut [u32])
-    requires length { 5 ≤ length part.old }
-    ensures value { Patched part.old part.new 0 (length part.old - 5)
-        (λ i. get_or part.old (i + 5) 0) }
-{
-    for i in 0..part.len() - 5 {
-        part[i] = part[i + 5];
-    }
+    words.copy_within(from + 5..to + 5, from);
 }
 
 // Writes 0 from `from` up to `to`.
@@ -30,9 +19,7 @@ pub fn clear(words: &mut [u32], from: usize, to: usize)
     requires words { (length words.old ≡ ring_length) × (from ≤ to) × (to ≤ ring_length) }
     ensures value { Patched words.old words.new from to (λ i. 0) }
 {
-    for i in from..to {
-        words[i] = 0;
-    }
+    words[from..to].fill(0);
 }
 
 // Copies all words.
@@ -40,9 +27,7 @@ pub fn copy(words: &[u32], to: &mut [u32])
     requires lengths { length to.old ≡ length words.now }
     ensures words { to.new ≡ words.now }
 {
-    for i in 0..words.len() {
-        to[i] = words[i];
-    }
+    to.copy_from_slice(words);
 }
 
 // Copies `count` words from place `at` on to place `place` on.
@@ -51,7 +36,5 @@ pub fn copy_span(words: &[u32], at: usize, to: &mut [u32], place: usize, count: 
     ensures value { Patched to.old to.new place (place + count)
         (λ i. get_or words.now (at + (i - place)) 0) }
 {
-    for i in 0..count {
-        to[place + i] = words[at + i];
-    }
+    to[place..place + count].copy_from_slice(&words[at..at + count]);
 }
