@@ -1,5 +1,6 @@
 // The ring's words as types: kinds and message types, constructors and readers. Beside a kind, EMPTY is its word with
-// every named bit 0; a field that does not begin at bit 0 has the value of its lowest bit.
+// every named bit 0; a field that does not begin at bit 0 has the value of its lowest bit. A word type each, though some
+// differ in no more than their kind: an alias of a generic type would be no constructor.
 #![tactic(auto)]
 
 pub mod limit;
@@ -18,7 +19,7 @@ pub fn mark(b: bool) -> u32
     ensures value { result ≡ bit b }
     ensures bound { result ≤ 1 }
 {
-    if b { 1 } else { 0 }
+    u32::from(b)
 }
 
 // The first word: "table size n (1 to 64) in 4-10, message count m (0 to 1,024) in 11-21", "A in bits 0-3 and B in bits
@@ -37,6 +38,7 @@ impl HeadWord {
 
     pub const BEHIND: u32 = 0x40_0000;
 
+    #[tactic(auto, unfolding(model::specs::Words::head_word))]
     pub fn new(sides: Sides, nodes: u32, messages: u32) -> HeadWord
         requires bounds { RoomSides sides × (nodes < 2 ^ 7) × (messages < 2 ^ 11) }
         ensures value { result.0 ≡ head_word sides nodes messages }
@@ -83,11 +85,12 @@ impl KeyWord {
 
     pub const RUNNING: u32 = 0x100_0000;
 
+    #[tactic(auto, unfolding(model::specs::Words::key_word))]
     pub fn new(key: Key, running: bool) -> KeyWord
         requires bounds { key.0 < 2 ^ 24 }
         ensures value { result.0 ≡ key_word key.0 running }
     {
-        KeyWord(KeyWord::EMPTY + (mark(running) * KeyWord::RUNNING + key.0))
+        KeyWord(KeyWord::EMPTY + (u32::from(running) * KeyWord::RUNNING + key.0))
     }
 
     pub fn key(self) -> Key
@@ -112,6 +115,7 @@ impl ClockWord {
 
     pub const EMPTY: u32 = ClockWord::KIND * 0x1000_0000;
 
+    #[tactic(auto, unfolding(model::specs::Words::clock_word))]
     pub fn new(clock: Stamp) -> ClockWord
         requires bounds { clock.0 < 2 ^ 24 }
         ensures value { result.0 ≡ clock_word clock.0 }
@@ -139,13 +143,16 @@ impl PairWord {
 
     pub const CANDIDATE: u32 = 0x200_0000;
 
+    #[tactic(auto, unfolding(model::specs::Words::pair_word))]
     pub fn new(commit: Stamp, held: bool, candidate: bool) -> PairWord
         requires bounds { commit.0 < 2 ^ 24 }
         ensures value { result.0 ≡ pair_word commit.0 held candidate }
     {
         PairWord(
             PairWord::EMPTY
-                + (mark(candidate) * PairWord::CANDIDATE + mark(held) * PairWord::HELD + commit.0),
+                + (u32::from(candidate) * PairWord::CANDIDATE
+                    + u32::from(held) * PairWord::HELD
+                    + commit.0),
         )
     }
 
@@ -179,11 +186,12 @@ impl SpareWord {
 
     pub const NONE: u32 = SpareWord::EMPTY + 64;
 
+    #[tactic(auto, unfolding(model::specs::Words::spare_word))]
     pub fn new(spare: NodeNumber) -> SpareWord
         requires bounds { spare.0 < 2 ^ 7 }
         ensures value { result.0 ≡ spare_word spare.0 }
     {
-        SpareWord(SpareWord::EMPTY + (spare.0 as u32))
+        SpareWord(SpareWord::EMPTY + u32::from(spare.0))
     }
 
     pub fn spare(self) -> NodeNumber
@@ -234,6 +242,7 @@ impl MessageWord {
 
     pub const LEAVE: u8 = 13;
 
+    #[tactic(auto, unfolding(model::specs::Words::message_word))]
     pub fn new(
         tag: u8,
         sender: NodeNumber,
@@ -245,10 +254,10 @@ impl MessageWord {
     {
         MessageWord(
             MessageWord::EMPTY
-                + ((subject.0 as u32) * MessageWord::SUBJECT
-                    + (receiver.0 as u32) * MessageWord::RECEIVER
-                    + (sender.0 as u32) * MessageWord::SENDER
-                    + (tag as u32)),
+                + (u32::from(subject.0) * MessageWord::SUBJECT
+                    + u32::from(receiver.0) * MessageWord::RECEIVER
+                    + u32::from(sender.0) * MessageWord::SENDER
+                    + u32::from(tag)),
         )
     }
 
@@ -286,6 +295,7 @@ impl StampWord {
 
     pub const EMPTY: u32 = StampWord::KIND * 0x1000_0000;
 
+    #[tactic(auto, unfolding(model::specs::Words::stamp_word))]
     pub fn new(stamp: Stamp) -> StampWord
         requires bounds { stamp.0 < 2 ^ 24 }
         ensures value { result.0 ≡ stamp_word stamp.0 }
@@ -309,6 +319,7 @@ impl ViewWord {
 
     pub const EMPTY: u32 = ViewWord::KIND * 0x1000_0000;
 
+    #[tactic(auto, unfolding(model::specs::Words::view_word))]
     pub fn new(part: u32) -> ViewWord
         requires bounds { part < 2 ^ 24 }
         ensures value { result.0 ≡ view_word part }

@@ -22,5 +22,5 @@ pub const CLOCK: u32 = 16_777_215;
 pub fn sides_fit(sides: Sides) -> bool
     ensures value { result ≡ sides_fit sides }
 {
-    ((1 <= sides.ahead) & (sides.ahead <= SIDE)) & ((1 <= sides.behind) & (sides.behind <= SIDE))
+    (1..=SIDE).contains(&sides.ahead) & (1..=SIDE).contains(&sides.behind)
 }

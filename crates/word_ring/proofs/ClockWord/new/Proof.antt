@@ -1,8 +1,0 @@
-use borrow.Author.Rules.{rules}
-use Rattle.model.specs.Words.{clock_word}
-use Rattle.word_ring.proofs.ClockWord.new.Statement.{statement}
-use Rattle.word_ring.proofs.ClockWord.new.Tie as tie
-
-pub new_spec : {M : Type 1} → statement M
-unfolding clock_word
-new_spec = tie.close (tie.spec (λ c. search rules) (λ c. search rules))

@@ -1,8 +1,0 @@
-use borrow.Author.Rules.{rules}
-use Rattle.model.specs.Words.{stamp_word}
-use Rattle.word_ring.proofs.StampWord.new.Statement.{statement}
-use Rattle.word_ring.proofs.StampWord.new.Tie as tie
-
-pub new_spec : {M : Type 1} → statement M
-unfolding stamp_word
-new_spec = tie.close (tie.spec (λ c. search rules) (λ c. search rules))
