@@ -4,18 +4,66 @@
 
 pub mod curve;
 
-ghost use Rattle.std.specs.Prelude.{◌≡◌, ◌<◌, ◌≤◌, slice_index};
+ghost use Rattle.std.specs.Prelude.{◌≡◌, ◌+◌, ◌*◌, ◌^◌, ◌<◌, ◌≤◌, slice_index};
 ghost use Rattle.draw_circle.specs.Circle.{sines, quarter_sine, share_of, point_at, OnSheet};
+ghost use Rattle.draw_circle.specs.Points.{sum, multiple, part};
+
+use std::ops::{Add, Div, Mul};
 
 pub const TURN: u32 = 65_536;
 
 const QUARTER: u32 = TURN / 4;
 
 // A place on the drawing, from its left upper corner.
-#[derive(Clone, Copy)]
+#[derive(Clone, Copy, Debug, PartialEq, Eq)]
 pub struct Point {
     pub x: u32,
     pub y: u32,
+}
+
+impl Add for Point {
+    type Output = Point;
+
+    ghost can_add = { λ p q. (p.x + q.x < 2 ^ 32) × (p.y + q.y < 2 ^ 32) };
+
+    ghost add_gives = { λ p q r. r ≡ sum p q };
+
+    fn add(self, other: Point) -> Point {
+        Point {
+            x: self.x + other.x,
+            y: self.y + other.y,
+        }
+    }
+}
+
+impl Mul<Point> for u32 {
+    type Output = Point;
+
+    ghost can_mul = { λ k p. (k * p.x < 2 ^ 32) × (k * p.y < 2 ^ 32) };
+
+    ghost mul_gives = { λ k p r. r ≡ multiple k p };
+
+    fn mul(self, p: Point) -> Point {
+        Point {
+            x: self * p.x,
+            y: self * p.y,
+        }
+    }
+}
+
+impl Div<u32> for Point {
+    type Output = Point;
+
+    ghost can_div = { λ _ k. 0 < k };
+
+    ghost div_gives = { λ p k r. r ≡ part p k };
+
+    fn div(self, k: u32) -> Point {
+        Point {
+            x: self.x / k,
+            y: self.y / k,
+        }
+    }
 }
 
 // The centre of the circle.

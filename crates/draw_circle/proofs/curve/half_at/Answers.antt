@@ -6,9 +6,18 @@ unfolding half_of first_half
 returns c = record {
   value =
       rw (
-        c.mean_of_four.ensures.value,
-        c.mean_of_three.ensures.value,
-        c.mean_of_two.ensures.value,
+        c.div-3.ensures,
+        c.add-6.ensures,
+        c.add-5.ensures,
+        c.mul-3.ensures,
+        c.add-4.ensures,
+        c.mul-2.ensures,
+        c.div-2.ensures,
+        c.add-3.ensures,
+        c.add-2.ensures,
+        c.mul.ensures,
+        c.div.ensures,
+        c.add.ensures,
         c.point_at-t.ensures.value,
         c.point_at-s.ensures.value,
         c.point_at-q.ensures.value,
