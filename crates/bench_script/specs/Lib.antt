@@ -1,3 +1,2 @@
 pub mod Chunks
 pub mod Loaded
-pub mod Position

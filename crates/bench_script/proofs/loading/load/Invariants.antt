@@ -1,6 +1,5 @@
-use Prim.Native.Nat.{◌≤◌}
 use Rattle.bench_script.proofs.Loads.{Filled}
 use Rattle.bench_script.proofs.loading.load.Given as goal
 
 abbrev pub invariant-loop-i : goal.invariant-loop-i
-invariant-loop-i l = (l.i ≤ l.count) × Filled l.bytes l.initial.words l.words l.i
+invariant-loop-i l = Filled l.bytes l.initial.words l.words l.i
