@@ -12,7 +12,7 @@ use Rattle.model.specs.Sets.{Set, without, lowest, of_bits}
 use Rattle.model.proofs.Laws.{clash, and_left}
 use Rattle.model.proofs.Bits.{bit_below}
 use Rattle.sets.specs.Rest.{IsRest}
-use Rattle.sets.proofs.Members.{without_else}
+use Rattle.sets.proofs.Ascending.{without_else}
 use Rattle.sets.proofs.Bits.{Rising, rising_first, rising_rest, rising_set, none_left}
 use Rattle.audit_parting.specs.Groups.{Filled}
 

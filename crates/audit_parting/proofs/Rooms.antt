@@ -8,7 +8,7 @@ use lib.Bits.{bit_and}
 use lib.ListN.{length}
 use Rattle.model.specs.Sets.{Set, count, of_bits}
 use Rattle.model.proofs.Laws.{and_right, count_le, count_mono}
-use Rattle.sets.proofs.Members.{count_split}
+use Rattle.sets.proofs.Ascending.{count_split}
 use Rattle.sets.proofs.Bits.{and_both}
 
 -- the places before x are looked at

@@ -16,7 +16,7 @@ use Rattle.model.specs.Leafset.{size}
 use Rattle.model.specs.Ring.{Ring, is_running}
 use Rattle.model.specs.Connection.{connected}
 use Rattle.model.proofs.Laws.{clash, and_left, and_right, and_in, decide, same_test, or_right}
-use Rattle.sets.proofs.Members.{members_to}
+use Rattle.sets.proofs.Ascending.{members_to}
 use Rattle.sets.proofs.Bits.{and_both}
 use Rattle.audit_account.specs.Partings.{torn, side, is_first, sides_text}
 use Rattle.audit_parting.specs.Groups.{Around}

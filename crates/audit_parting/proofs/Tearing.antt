@@ -13,7 +13,7 @@ use Rattle.model.specs.Ring.{Ring, is_running}
 use Rattle.model.specs.Connection.{connected}
 use Rattle.model.proofs.Laws.{and_left, and_right, decide, some_out}
 use Rattle.model.proofs.Bits.{bit_below}
-use Rattle.sets.proofs.Members.{some_to}
+use Rattle.sets.proofs.Ascending.{some_to}
 use Rattle.sets.proofs.Bits.{and_both, zero_none}
 use Rattle.audit_account.specs.Partings.{torn, parts}
 use Rattle.audit_parting.specs.Groups.{Around}

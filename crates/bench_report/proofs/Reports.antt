@@ -28,7 +28,7 @@ use Rattle.model.proofs.Laws.{and_left, and_right, count_le}
 use Rattle.model.proofs.Words.{reads_out}
 use Rattle.ring_head.proofs.ReadRing.{read_sizes}
 use Rattle.ring_pairs.specs.Loaded.{LoadedNode}
-use Rattle.sets.proofs.Members.{count_to, members_to}
+use Rattle.sets.proofs.Ascending.{count_to, members_to}
 use Rattle.bench_report.specs.Report.{state_bytes, groups_word, groups_bytes, end_bytes}
 
 -- ---- the held

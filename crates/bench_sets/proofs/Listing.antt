@@ -11,7 +11,7 @@ use Rattle.bench_lines.proofs.Decimals.{spaced_append}
 use Rattle.bench_lines.proofs.Puts.{put_none, put_more, put_as}
 use Rattle.model.specs.Sets.{of_bits, count, members, lowest}
 use Rattle.sets.specs.Rest.{IsRest}
-use Rattle.sets.proofs.Members.{members_next}
+use Rattle.sets.proofs.Ascending.{members_next}
 use Rattle.sets.proofs.Bits.{first_bit, members_end}
 
 -- those before `rest` are put

@@ -14,7 +14,7 @@ use Rattle.model.specs.Sets.{Set, without, lowest, of_bits}
 use Rattle.model.proofs.Laws.{clash, and_left}
 use Rattle.sets.specs.Rest.{IsRest}
 use Rattle.sets.specs.Within.{Within}
-use Rattle.sets.proofs.Members.{without_else}
+use Rattle.sets.proofs.Ascending.{without_else}
 use Rattle.sets.proofs.Bits.{Rising, rising_first, rising_below, rising_rest, rising_set, none_left}
 use Rattle.call_reach.specs.Walks.{Distances, Greatest}
 

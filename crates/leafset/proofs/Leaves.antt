@@ -20,7 +20,7 @@ use Rattle.leafset_nearest.specs.Span.{span_of, span_to}
 use Rattle.leafset.specs.Near.{is_near}
 use Rattle.leafset_nearest.specs.declared.Way.{Way}
 use Rattle.leafset_nearest.specs.declared.Way.TheVariants.{Clockwise, CounterClockwise}
-use Rattle.sets.proofs.Members.{count_to}
+use Rattle.sets.proofs.Ascending.{count_to}
 use Rattle.sets.proofs.Bits.{to_bits_of_bits}
 
 module _ (sides : Sides) {keys : List ℕ} {x set : ℕ} (q : InTable keys x set) where

@@ -11,7 +11,7 @@ use Rattle.model.specs.Sets.{Set, without, count}
 use Rattle.model.proofs.Laws.{clash, is_false, decide, and_in, and_left, and_right, not_in, not_out, count_none, count_mono, count_more}
 use Rattle.leafset_nearest.specs.Span.{Least, Found, nobody, found}
 use Rattle.leafset.specs.Near.{is_near, IsLimit}
-use Rattle.sets.proofs.Members.{without_here, without_else, count_split, count_without}
+use Rattle.sets.proofs.Ascending.{without_here, without_else, count_split, count_without}
 
 -- ---- the nearest, taken out one after another
 

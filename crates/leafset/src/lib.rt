@@ -38,15 +38,10 @@ fn below(keys: &[u32], limit: u32, way: Way, from: Key, set: u64) -> u64
         → of_bits result y ≡ (of_bits set y && ltb (span_to way from.0 keys.now y) limit) }
 {
     let mut out = 0;
-    let mut rest = set;
-    while rest != 0 {
-        let y = sets::lowest(rest);
-        let at = y.0 as usize;
-        let more = sets::with(out, y);
-        if leafset_nearest::span(way, from, Key(keys[at])) < limit {
-            out = more;
+    for y in sets::members(set) {
+        if leafset_nearest::span(way, from, Key(keys[y.index()])) < limit {
+            out = sets::with(out, y);
         }
-        rest = sets::rest(rest);
     }
     out
 }

@@ -18,7 +18,7 @@ use Rattle.model.specs.Structs.{table_of}
 use Rattle.model.specs.declared.values.Sides.{Sides}
 use Rattle.leafset_nearest.specs.Span.{span_to, Least, Found, nobody, found}
 use Rattle.leafset_nearest.specs.declared.Way.TheVariants.{Either}
-use Rattle.sets.proofs.Members.{lowest_first, lowest_none}
+use Rattle.sets.proofs.Ascending.{lowest_first, lowest_none}
 use Rattle.leafset_nearest.proofs.Spans.{rank_nearer}
 use Rattle.leafset_nearest.proofs.Firsts.{nearest_found}
 use Rattle.leafset.proofs.Leaves.{leafset_low, leafset_back}

@@ -4,7 +4,7 @@ use mathlib.Core.Path.{fun_ext}
 use Rattle.model.specs.Sets.{Set, count, some, lowest}
 use Rattle.model.specs.Leafset.{Table, size, first_met, nearest}
 use Rattle.model.proofs.Laws.{clash, is_false, and_in, and_left, and_right, not_in, not_out, some_in, some_out, count_none, count_more}
-use Rattle.sets.proofs.Members.{lowest_is, lowest_none}
+use Rattle.sets.proofs.Ascending.{lowest_is, lowest_none}
 use Rattle.leafset_nearest.specs.Span.{span_of, span_to, Found, nobody, found}
 use Rattle.leafset_nearest.specs.declared.Way.{Way}
 use Rattle.leafset_nearest.specs.declared.Way.TheVariants.{Either}

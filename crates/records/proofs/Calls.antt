@@ -10,7 +10,7 @@ use Rattle.model.specs.Steps.{plain, stamped}
 use Rattle.model.specs.Structs.{spare_at}
 use Rattle.model.specs.declared.node.NodeRecord.{NodeRecord}
 use Rattle.sets.specs.Within.{Within}
-use Rattle.sets.proofs.Members.{members_to}
+use Rattle.sets.proofs.Ascending.{members_to}
 use Rattle.records.specs.Effects.{Sent}
 use Rattle.records.specs.declared.effect.Sends.TheVariants.{Each, ToSpares}
 

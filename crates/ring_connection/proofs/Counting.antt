@@ -13,7 +13,7 @@ use Rattle.model.specs.Connection.{itself, connected, has_lower, first, groups}
 use Rattle.model.proofs.Laws.{clash, and_left, and_right, and_in, not_in, not_out, is_false, same_test, some_out, count_le, count_none, count_cong}
 use Rattle.model.proofs.Connection.{InTable, linked_back, further, decides}
 use Rattle.model.proofs.Groups.{first_alone}
-use Rattle.sets.proofs.Members.{First, count_without}
+use Rattle.sets.proofs.Ascending.{First, count_without}
 use Rattle.ring_connection.specs.Links.{Closed}
 use Rattle.ring_connection.proofs.Linked.{back}
 

@@ -9,7 +9,7 @@ use Rattle.model.specs.Words.{decode}
 use Rattle.model.specs.Connection.{linked}
 use Rattle.model.proofs.Laws.{clash, and_left, decide}
 use Rattle.model.proofs.Bits.{bit_below}
-use Rattle.sets.proofs.Members.{First}
+use Rattle.sets.proofs.Ascending.{First}
 use Rattle.sets.proofs.Bits.{rising_first, of_bits_or}
 use Rattle.ring_connection.specs.Links.{held_at, Closed}
 use Rattle.ring_connection.proofs.Difference.{part_le, of_bits_minus}

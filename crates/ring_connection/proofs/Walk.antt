@@ -11,7 +11,7 @@ use Rattle.model.specs.Ring.{Ring}
 use Rattle.model.specs.Connection.{linked, Connected, itself, onward, connected}
 use Rattle.model.proofs.Laws.{clash, and_left, and_right, and_in, not_in, not_out, or_case, or_right, or_none_left, decide, is_false, same_test}
 use Rattle.model.proofs.Connection.{InTable, further, decides}
-use Rattle.sets.proofs.Members.{without_here, without_else}
+use Rattle.sets.proofs.Ascending.{without_here, without_else}
 use Rattle.ring_connection.specs.Links.{Closed}
 
 pub record Walk (r : Ring) (S : Set) (a : ℕ) (todo unseen : Set) : Type 0 where

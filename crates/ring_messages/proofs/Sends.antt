@@ -12,7 +12,7 @@ use Rattle.model.specs.Play.{set_messages}
 use Rattle.model.proofs.Laws.{and_left, length_members}
 use Rattle.model.proofs.Bits.{bit_below}
 use Rattle.sets.specs.Rest.{IsRest}
-use Rattle.sets.proofs.Members.{members_next}
+use Rattle.sets.proofs.Ascending.{members_next}
 use Rattle.sets.proofs.Bits.{Rising, rising_rest, rising_first, rising_next, members_end}
 use Rattle.ring_head.specs.Parts.{Encodes}
 

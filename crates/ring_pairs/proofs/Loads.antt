@@ -25,7 +25,7 @@ use Rattle.model.specs.declared.node.NodeRecord.{NodeRecord}
 use Rattle.model.proofs.Fields.{bits<}
 use Rattle.model.proofs.Laws.{if_law}
 use Rattle.sets.proofs.Bits.{of_none}
-use Rattle.sets.proofs.Members.{without_here, without_else}
+use Rattle.sets.proofs.Ascending.{without_here, without_else}
 use Rattle.ring_head.proofs.Holds.{pair_yes, pair_high, pair_same}
 use Rattle.ring_head.proofs.Arrays.{fill_none}
 use Rattle.ring_pairs.specs.Loaded.{LoadedNode}

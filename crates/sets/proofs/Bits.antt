@@ -23,7 +23,7 @@ use Rattle.model.proofs.Laws.{clash, is_false, and_left, or_case, decide, some_n
 use Rattle.model.proofs.Bits.{is_bit, to_bits<}
 use Rattle.sets.specs.Rest.{IsRest}
 use Rattle.sets.specs.Within.{Within}
-use Rattle.sets.proofs.Members.{First, members_none, members_next, lowest_is, lowest_none, lowest_first, to_bits_to, some_to}
+use Rattle.sets.proofs.Ascending.{First, members_none, members_next, lowest_is, lowest_none, lowest_first, to_bits_to, some_to}
 
 -- ---- one bit
 

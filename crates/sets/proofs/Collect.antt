@@ -1,5 +1,5 @@
 -- A pass over the members of a set that keeps those that pass a test.
-use mathlib.Core.Path.{◌≡◌, refl, sym, ap, ◌∙◌, subst₂}
+use mathlib.Core.Path.{◌≡◌, refl, sym, ap, ◌∙◌, subst, subst₂}
 use mathlib.Core.Bool.{Bool, true, false, ◌&&◌, ◌||◌, or-false}
 use Prim.Native.Nat.{ℕ, ◌^◌, ◌<◌}
 use native.Mathlib.Decide.{ℕ_discrete}
@@ -8,6 +8,7 @@ use Rattle.model.specs.Sets.{Set, with, without, lowest, of_bits}
 use Rattle.sets.specs.Rest.{IsRest}
 use Rattle.sets.specs.Within.{Within}
 use Rattle.sets.proofs.Bits.{Rising, rising_first, rising_rest, rising_set, of_none, none_left}
+use Rattle.sets.proofs.Turns.{Turn, turn_first, turn_rising, turn_set}
 
 -- what is kept, with what is yet to be kept of the rest, is what is to be kept of S
 pub record Collected (S p out rest : Set) : Type 0 where
@@ -84,3 +85,18 @@ module _ {n set : ℕ} {p : Set} {out rest : ℕ} (i : Collecting n set p out re
 
     pub collect_passed : out' ≡ out → p y ≡ false → Collecting n set p out' r
     collect_passed f t = next (ap of_bits f) (collected_passed i.collected y t)
+
+-- ---- the same, in a loop `for y in sets::members(set) { if .. { out = with(out, y); } }`
+
+pub collect_begins : {n set rest : ℕ} {p : Set} → rest ≡ set → set < 2 ^ 64 → Within n set → Collecting n set p 0 rest
+collect_begins {n} {set} {p = p} e h w = subst (Collecting n set p 0) (sym e) (collect_none h w)
+
+module _ {n set : ℕ} {p : Set} {out rest y r : ℕ} (i : Collecting n set p out rest) (t : Turn rest y r) {out' : ℕ} where
+  follows : {O : Set} → of_bits out' ≡ O → Collected (of_bits set) p O (without (of_bits rest) y) → Collecting n set p out' r
+  follows e c = record { rising = turn_rising i.rising t; collected = subst₂ (Collected (of_bits set) p) (sym e) (sym (turn_set i.rising t)) c }
+
+  pub turn_kept : of_bits out' ≡ with (of_bits out) y → p y ≡ true → Collecting n set p out' r
+  turn_kept e f = follows e (collected_kept i.collected y (turn_first i.rising t).member f)
+
+  pub turn_passed : out' ≡ out → p y ≡ false → Collecting n set p out' r
+  turn_passed e f = follows (ap of_bits e) (collected_passed i.collected y f)

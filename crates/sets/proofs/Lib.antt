@@ -1,5 +1,6 @@
-pub mod Members
+pub mod Ascending
 pub mod Bits
 pub mod Collect
 pub mod Arrays
 pub mod UpTo
+pub mod Turns

@@ -8,6 +8,10 @@ ghost use Rattle.sets.specs.Rest.{IsRest};
 
 use model::values::NodeNumber;
 
+pub mod iter;
+
+pub use iter::members;
+
 // Whether x is a member of the set.
 pub fn has(set: u64, x: NodeNumber) -> bool
     requires bounds { x.0 < 64 }

@@ -10,7 +10,7 @@ use Rattle.model.specs.Fields.{flag}
 use Rattle.model.specs.Words.{pair_word}
 use Rattle.model.specs.WellFormed.{nil, cons}
 use Rattle.model.proofs.Laws.{decide, is_false, same_test, every_in, every_out, all_in, all_out, count_le, count_all, count_cong, count_more}
-use Rattle.sets.proofs.Members.{count_without}
+use Rattle.sets.proofs.Ascending.{count_without}
 use Rattle.model.proofs.Lists.{first, rest}
 use Rattle.valid_nodes.proofs.Formats.{lowest, xor_test}
 use Rattle.valid_pairs.specs.Pairs.{link_reads, spare_reads}

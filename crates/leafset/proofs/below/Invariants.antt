@@ -4,8 +4,5 @@ use Rattle.leafset_nearest.specs.Span.{span_to}
 use Rattle.sets.proofs.Collect.{Collecting}
 use Rattle.leafset.proofs.below.Given as goal
 
-abbrev pub invariant-loop-rest : goal.invariant-loop-rest
-invariant-loop-rest l = Collecting (length l.keys) l.set (λ y. ltb (span_to l.way l.from.0 l.keys y) l.limit) l.out l.rest
-
-abbrev pub decreases-loop-rest : goal.decreases-loop-rest
-decreases-loop-rest l = l.rest
+abbrev pub invariant-loop-y : goal.invariant-loop-y
+invariant-loop-y l = Collecting (length l.keys) l.set (λ y. ltb (span_to l.way l.from.0 l.keys y) l.limit) l.out l.y-iterator.rest
