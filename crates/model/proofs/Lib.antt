@@ -7,6 +7,7 @@ pub mod Answers
 pub mod Lowest
 pub mod Events
 pub mod Cases
+pub mod Given
 pub mod Types
 pub mod Words
 pub mod RoundTrip

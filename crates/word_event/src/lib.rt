@@ -4,11 +4,11 @@
 pub mod word;
 
 ghost use Rattle.std.specs.Prelude.{◌≡◌};
-ghost use Rattle.model.specs.Answers.{number_of};
+ghost use Rattle.model.specs.Answers.{answer_number, given_or};
 ghost use Rattle.model.specs.Events.{parts_fit, same_node, event_answer, write_event, read_event, reading_of};
 
-use model::answer::Answer;
-use model::event::{Event, Reading, Writing};
+use model::event::Event;
+use model::refusal::Refusal;
 use word::EventWord;
 
 const POSITIONS: u16 = EventWord::POSITIONS as u16;
@@ -22,7 +22,7 @@ fn parts_fit(e: Event) -> bool
         Event::Off(x, _) => x.0 < 64,
         Event::Notice(x, z) => (x.0 < 64) & (z.0 < 64),
         Event::Contact(x, y) => (x.0 < 64) & (y.0 < 64),
-        Event::Timer(x, k) => (x.0 < 64) & EventWord::is_timer(k as u32),
+        Event::Timer(x, k) => (x.0 < 64) & EventWord::is_timer(u32::from(k)),
         Event::Deliver(i, _) => i < POSITIONS,
         Event::Lose(i) => i < POSITIONS,
     }
@@ -33,52 +33,42 @@ fn same_node(e: Event) -> bool
     ensures value { result ≡ same_node e }
 {
     match e {
-        Event::On(_) => false,
-        Event::Off(_, _) => false,
-        Event::Notice(x, z) => x.0 == z.0,
-        Event::Contact(x, y) => x.0 == y.0,
-        Event::Timer(_, _) => false,
-        Event::Deliver(_, _) => false,
-        Event::Lose(_) => false,
+        Event::Notice(x, z) => x == z,
+        Event::Contact(x, y) => x == y,
+        _ => false,
     }
+}
+
+// Refusals 4 and 5.
+fn check(e: Event) -> Result<(), Refusal>
+    ensures answer { answer_number result ≡ event_answer e }
+{
+    if !parts_fit(e) {
+        return Err(Refusal::NotAnEvent);
+    }
+    if same_node(e) {
+        return Err(Refusal::SameNode);
+    }
+    Ok(())
 }
 
 // The word of an event, or refusal 4 or 5.
-pub fn write_event(e: Event) -> Writing
-    ensures answer { number_of result.answer ≡ event_answer e }
-    ensures word { result.word ≡ write_event e }
+pub fn write_event(e: Event) -> Result<u32, Refusal>
+    ensures answer { answer_number result ≡ event_answer e }
+    ensures word { given_or 0 result ≡ write_event e }
 {
-    if !parts_fit(e) {
-        return Writing {
-            answer: Answer::NotAnEvent,
-            word: 0,
-        };
-    }
-    if same_node(e) {
-        return Writing {
-            answer: Answer::SameNode,
-            word: 0,
-        };
-    }
-    Writing {
-        answer: Answer::Accepted,
-        word: EventWord::new(e).0,
-    }
+    check(e)?;
+    Ok(EventWord::new(e).0)
 }
 
 // The event of a word, or refusal 4 or 5.
-pub fn read_event(word: u32) -> Reading
+pub fn read_event(word: u32) -> Result<Event, Refusal>
     ensures value { reading_of result ≡ read_event word }
 {
     let e = EventWord(word).event();
     if EventWord::new(e).0 != word {
-        return Reading::Refused(Answer::NotAnEvent);
+        return Err(Refusal::NotAnEvent);
     }
-    if !parts_fit(e) {
-        return Reading::Refused(Answer::NotAnEvent);
-    }
-    if same_node(e) {
-        return Reading::Refused(Answer::SameNode);
-    }
-    Reading::Read(e)
+    check(e)?;
+    Ok(e)
 }

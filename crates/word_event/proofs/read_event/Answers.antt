@@ -1,55 +1,47 @@
 -- The word is tested by writing its event again; then the event is asked whether its parts fit, and whether both its nodes are one.
 use mathlib.Core.Path.{◌≡◌, sym, ap, ◌∙◌}
-use mathlib.Core.Bool.{Bool, true, false}
 use Prim.Native.Nat.{ℕ}
-use lib.Dec.{eqb}
 use borrow.Author.Tests.{eq-eqb, ne_eqb}
-use Rattle.model.specs.Answers.{first_of}
-use Rattle.model.specs.Events.{word_of, event_of, parts_fit, same_node, word_answer, read_event, reading_of}
+use mathlib.Core.List.{[]}
+use Rattle.std.specs.Prelude.{Result, Err}
+use Rattle.model.specs.Answers.{number_of, first_of}
+use Rattle.model.specs.Events.{word_of, event_of, event_answer, word_answer, read_event, reading_of}
 use Rattle.model.specs.declared.event.Event.{Event}
-use Rattle.model.specs.declared.event.Reading.TheVariants.{Read}
+use Rattle.model.specs.declared.refusal.Refusal.{Refusal}
+use Rattle.model.proofs.Given.{refuses_with, passed_on}
 use Rattle.word_event.proofs.read_event.Goals as goal
 
 -- e is the event of the word's bits, and v the word of e: the test whether v is the word
-other_word : {e : Event} {w v : ℕ} → e ≡ event_of w → v ≡ word_of e → (v ≡ w → ⊥) → eqb w (word_of (event_of w)) ≡ false
-other_word event new differ = ne_eqb _ _ (λ is. differ (new ∙ ap word_of event ∙ sym is))
+module _ {e : Event} {w v : ℕ} (event : e ≡ event_of w) (new : v ≡ word_of e) where
+  other_word : (v ≡ w → ⊥) → word_answer w ≡ 4
+  unfolding word_answer first_of
+  other_word differ = rw (ne_eqb w (word_of (event_of w)) (λ is. differ (new ∙ ap word_of event ∙ sym is)))
 
-same_word : {e : Event} {w v : ℕ} → e ≡ event_of w → v ≡ word_of e → v ≡ w → eqb w (word_of (event_of w)) ≡ true
-same_word event new is = eq-eqb _ _ (sym is ∙ new ∙ ap word_of event)
+  -- then the word is refused as the event is
+  same_word : v ≡ w → word_answer w ≡ event_answer e
+  unfolding word_answer event_answer first_of
+  same_word is = rw (eq-eqb w (word_of (event_of w)) (sym is ∙ new ∙ ap word_of event), sym event)
 
--- what a test says of e, it says of that event
-told_of : (test : Event → Bool) {e f : Event} {r b : Bool} → e ≡ f → r ≡ test e → r ≡ b → test f ≡ b
-told_of test event asked is = ap test (sym event) ∙ sym asked ∙ is
+refused_reading : (w : ℕ) {r : Result Event Refusal} (e : Refusal) → r ≡ Err e → number_of e ≡ word_answer w → reading_of r ≡ read_event w
+unfolding read_event
+refused_reading w e is n =
+    ap reading_of is ∙ ap (λ (k : ℕ). record { answer = k; event = [] }) n ∙ rw (refuses_with e n)
 
 pub returns-then-new-word : goal.returns-then-new-word
-unfolding read_event word_answer first_of
+unfolding read_event
 returns-then-new-word c = record { value = rw (other_word c.event-e.ensures.value c.new.ensures.value c.if-new-word.true) }
 
-pub returns-then-not-parts_fit : goal.returns-then-not-parts_fit
-unfolding read_event word_answer first_of
-returns-then-not-parts_fit c = record {
+pub returns-in_err-check : goal.returns-in_err-check
+returns-in_err-check c = record {
   value =
       let same = same_word c.event-e.ensures.value c.new.ensures.value c.if-new-word.false in
-      let parts = told_of parts_fit c.event-e.ensures.value c.parts_fit.ensures.value c.if-not-parts_fit.true in
-      rw (same, parts);
-}
-
-pub returns-then-same_node : goal.returns-then-same_node
-unfolding read_event word_answer first_of
-returns-then-same_node c = record {
-  value =
-      let same = same_word c.event-e.ensures.value c.new.ensures.value c.if-new-word.false in
-      let parts = told_of parts_fit c.event-e.ensures.value c.parts_fit.ensures.value c.if-not-parts_fit.false in
-      let both = told_of same_node c.event-e.ensures.value c.same_node.ensures.value c.if-same_node.true in
-      rw (same, parts, both);
+      refused_reading _ _ (passed_on c.from_residual.result _ c.from_residual.ensures.1) (c.in_err-check.ensures.answer ∙ sym same);
 }
 
 pub returns : goal.returns
-unfolding read_event word_answer first_of
+unfolding read_event
 returns c = record {
   value =
       let same = same_word c.event-e.ensures.value c.new.ensures.value c.if-new-word.false in
-      let parts = told_of parts_fit c.event-e.ensures.value c.parts_fit.ensures.value c.if-not-parts_fit.false in
-      let both = told_of same_node c.event-e.ensures.value c.same_node.ensures.value c.if-same_node.false in
-      rw (same, parts, both) (ap (λ e. reading_of (Read e)) c.event-e.ensures.value);
+      rw (same, sym c.in_ok-check.ensures.answer, c.event-e.ensures.value);
 }
