@@ -1,5 +1,5 @@
 -- Arrays of 64, filled from below.
-use mathlib.Core.Path.{◌≡◌, refl, sym, ap, ◌∙◌}
+use mathlib.Core.Path.{◌≡◌, refl, ap, ◌∙◌}
 use mathlib.Core.List.{List}
 use Prim.Native.Nat.{ℕ, zero, suc, ◌+◌, ◌<◌, ◌≤◌}
 use native.Mathlib.Omega.{arith}
@@ -22,17 +22,6 @@ fill_none {A} value d f = record { long = refl; low = λ k h. absurd (omega arit
     same (suc n) (suc k) = same n k
 
 module _ {A : Type 0} (value : A → ℕ) (l : List A) (d : A) (f : ℕ → ℕ) (z : ℕ) (e : Filled value l d f z) where
-  pub fill_skip : f z ≡ value d → Filled value l d f (z + 1)
-  fill_skip p =
-      record {
-        long = e.long;
-        low = λ k h. elim (dec_lt k z) [ yes y ↦ e.low k y | no y ↦ here k (omega arith) ];
-        rest = λ k h. e.rest k (omega arith);
-      }
-    where
-      here : (k : ℕ) → k ≡ z → value (get_or l k d) ≡ f k
-      here k q = rw q (ap value (e.rest z (omega arith)) ∙ sym p)
-
   pub fill_more : (v : A) → z < 64 → value v ≡ f z → Filled value (set l z v) d f (z + 1)
   fill_more v h p =
       record {
@@ -43,6 +32,3 @@ module _ {A : Type 0} (value : A → ℕ) (l : List A) (d : A) (f : ℕ → ℕ)
     where
       here : (k : ℕ) → k ≡ z → value (get_or (set l z v) k d) ≡ f k
       here k q = rw q (ap value (get_or-set_same l z v d (omega (arith, e.long))) ∙ p)
-
-  pub fill_all : ((k : ℕ) → z ≤ k → f k ≡ value d) → (k : ℕ) → value (get_or l k d) ≡ f k
-  fill_all p k = elim (dec_lt k z) [ yes y ↦ e.low k y | no y ↦ ap value (e.rest k (omega arith)) ∙ sym (p k (omega arith)) ]

@@ -11,6 +11,7 @@ use model::values::{Key, NodeNumber, Sides};
 use word_ring::{HeadWord, KeyWord, place};
 
 // A and B.
+#[tactic(auto, unfolding(model::specs::Words::decode_table))]
 pub fn sides(words: &[u32]) -> Sides
     requires length { length words.now ≡ ring_length }
     ensures value { result ≡ (decode_table words.now).sides }
@@ -19,6 +20,7 @@ pub fn sides(words: &[u32]) -> Sides
 }
 
 // The number of nodes.
+#[tactic(auto, using(crate::proofs::Decoded::size_read))]
 pub fn nodes(words: &[u32]) -> usize
     requires length { length words.now ≡ ring_length }
     ensures value { result ≡ size (decode_table words.now) }
@@ -28,6 +30,7 @@ pub fn nodes(words: &[u32]) -> usize
 }
 
 // The number of messages in flight.
+#[tactic(auto, using(crate::proofs::Decoded::count_read))]
 pub fn messages(words: &[u32]) -> usize
     requires length { length words.now ≡ ring_length }
     ensures value { result ≡ length (decode words.now).messages }
@@ -37,12 +40,13 @@ pub fn messages(words: &[u32]) -> usize
 }
 
 // The key of node x.
+#[tactic(auto, using(crate::proofs::Decoded::key_read))]
 pub fn key(words: &[u32], x: NodeNumber) -> Key
     requires length { length words.now ≡ ring_length }
     requires bounds { x.0 < size (decode_table words.now) }
     ensures value { result.0 ≡ model.key (decode_table words.now) x.0 }
 {
-    KeyWord(words[place::NODES + 2 * (x.0 as usize)]).key()
+    KeyWord(words[place::NODES + 2 * x.index()]).key()
 }
 
 // The keys of the n nodes, node 0's first, then zeros.
@@ -53,8 +57,8 @@ pub fn keys(words: &[u32], n: usize) -> [u32; 64]
         × (result ≡ tabulate 64 (model.key (decode_table words.now))) }
 {
     let mut keys = [0; 64];
-    for x in 0..n {
-        keys[x] = KeyWord(words[place::NODES + 2 * x]).key().0;
+    for (x, key) in keys[..n].iter_mut().enumerate() {
+        *key = KeyWord(words[place::NODES + 2 * x]).key().0;
     }
     keys
 }
