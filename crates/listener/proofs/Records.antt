@@ -1,23 +1,23 @@
 -- A listener's record, with its 64 places, against the listener that it stands for.
 use mathlib.Core.Path.{◌≡◌, refl, sym, ap, ◌∙◌}
-use mathlib.Core.Bool.{Bool, true, false, not, ◌&&◌}
+use mathlib.Core.Bool.{Bool, true, false, ◌&&◌}
 use mathlib.Core.List.{List}
 use Prim.Native.Nat.{ℕ, suc, ◌+◌, ◌*◌, ◌%◌, ◌^◌, ◌≤◌, ◌<◌}
 use native.Mathlib.Nat.{le_trans, pow-le-pow_right}
 use native.Mathlib.Numerals.{add-one}
 use native.Mathlib.Omega.{arith}
 use native.Mathlib.Decide.{ℕ_discrete}
-use lib.ListN.{length, get_or, set, replicate, length-set, length-replicate}
+use lib.ListN.{length, get_or, set, length-set}
 use lib.Seq.{get_or-set_same, get_or-set_other}
 use lib.Dec.{ltb, eqb, lit<}
 use mir.Val.{bool_byte}
-use borrow.Author.Tests.{ltb-true, lt-ltb, le-ltb}
+use borrow.Author.Tests.{lt-ltb, le-ltb}
 use Rattle.std.specs.Prelude.{if◌then◌else◌}
 use Rattle.model.specs.Sets.{Set, with, put, tabulate, to_bits, of_bits}
-use Rattle.model.specs.Listener.{Listener, Watch, Hear, grown, restarted, ticked, silent, heard, watch_answer, hear_answer, listener_of, record_of, leaves_record}
+use Rattle.model.specs.Listener.{Watch, Tick, Hear, grown, restarted, ticked, silent, notices_of, watch_answer, hear_answer, listener_of, record_of, leaves_record}
 use Rattle.model.specs.Answers.{first_of}
 use Rattle.model.specs.declared.listener.ListenerRecord.{ListenerRecord}
-use Rattle.model.proofs.Laws.{tabulate_cong, tabulate_get_d, put_here, put_else, and_right}
+use Rattle.model.proofs.Laws.{tabulate_cong, tabulate_get_d, put_here, put_else}
 use Rattle.model.proofs.Bits.{to_bits<}
 use Rattle.sets.proofs.Bits.{to_bits_of_bits, shift_one}
 
@@ -66,68 +66,51 @@ restarts q r w x v fits h =
 
 -- ---- one node
 
--- a test added to a number
-pub plus_test : (b : Bool) (n : ℕ) → n + bool_byte b ≡ (if b then suc n else n)
-plus_test true n = add-one n
-plus_test false n = omega arith
-
-plus_fits : (b : Bool) (n m : ℕ) → n < m → (b ≡ true → suc n < m) → n + bool_byte b < m
-plus_fits true n m h f = let l = f refl in omega arith
-plus_fits false n m h f = omega arith
-
-module _ (b : Bool) (n w : ℕ) where
-  pub counted_fits : n < 256 → w < 256 → n + bool_byte (b && ltb n w) < 256
-  counted_fits h k = plus_fits (b && ltb n w) n 256 h (λ t. let l : n < w = ltb-true n w (and_right b (ltb n w) t) in omega arith)
-
 -- the bit of a test
-test_bit : (b : Bool) (s : ℕ) → s < 64 → (bool_byte b * 2 ^ s) % 2 ^ 64 ≡ (if b then 2 ^ s else 0)
-test_bit true s h = shift_one s h
-test_bit false s h = omega arith
-
-pub notice_bit : (b : Bool) (n w s : ℕ) → s < 64 → (bool_byte (b && eqb (n + bool_byte b) w) * 2 ^ s) % 2 ^ 64 ≡ (if b && eqb (suc n) w then 2 ^ s else 0)
-notice_bit true n w s h = rw (add-one n) (test_bit (eqb (suc n) w) s h)
-notice_bit false n w s h = test_bit false s h
-
--- the window of a node that is heard: before its window is over, at 255, or else
-module _ (n w : ℕ) where
-  abbrev heard_window : ℕ
-  heard_window = if not (ltb n w) then grown w else w
-
-  pub in_window : n < w → w ≡ heard_window
-  in_window h = rw (lt-ltb n w h)
-
-  pub full_window : w ≤ n → w ≡ 255 → w ≡ heard_window
-  full_window h e = rw (le-ltb n w h, e)
-
-  pub grown_window : w ≤ n → w < 255 → w + 1 ≡ heard_window
-  grown_window h l = rw (le-ltb n w h, lt-ltb w 255 l) (add-one w)
+pub notice_bit : (b : Bool) (s : ℕ) → s < 64 → {r : ℕ} → r ≡ bool_byte b → (r * 2 ^ s) % 2 ^ 64 ≡ (if b then 2 ^ s else 0)
+notice_bit true s h e = rw e (shift_one s h)
+notice_bit false s h e = rw e (omega arith)
 
 -- ---- a tick, node after node
 
--- the silences below s are counted
-pub record Counting (l : Listener) (silences : List ℕ) (s : ℕ) : Type 0 where
+-- the silences below s are counted, the others as they were
+pub record Counting (q : ListenerRecord) (silences : List ℕ) (s : ℕ) : Type 0 where
   pub long : length silences ≡ 64
-  pub counted : (y : ℕ) → y < s → get_or silences y 0 ≡ (ticked l).silence y
+  pub counted : (y : ℕ) → y < s → get_or silences y 0 ≡ (ticked (listener_of q)).silence y
+  pub still : (y : ℕ) → s ≤ y → get_or silences y 0 ≡ get_or q.silences y 0
 
-module _ (l : Listener) where
-  pub counting_none : Counting l (replicate 64 0) 0
-  counting_none = record { long = length-replicate {A = ℕ} 64 0; counted = λ y h. absurd (omega arith) }
+module _ (q : ListenerRecord) where
+  pub counting_none : length q.silences ≡ 64 → Counting q q.silences 0
+  counting_none long = record { long = long; counted = λ y h. absurd (omega arith); still = λ y h. refl }
 
-  pub counting_more : {silences : List ℕ} {s v : ℕ} → Counting l silences s → s < 64 → v ≡ (ticked l).silence s → Counting l (set silences s v) (s + 1)
+  -- the count of node s, from what stands there
+  module _ {silences : List ℕ} {s : ℕ} (c : Counting q silences s) {w : Bool} (watched : w ≡ of_bits q.watched s) where
+    abbrev awaited : Bool
+    awaited = w && ltb (get_or silences s 0) (get_or q.windows s 0)
+
+    pub counted_silence : {v : ℕ} → v ≡ (if awaited then suc (get_or silences s 0) else get_or silences s 0) → v ≡ (ticked (listener_of q)).silence s
+    counted_silence e = rw (watched, c.still s (omega arith)) at e
+
+    pub counted_notice : {r : Bool} → r ≡ (awaited && eqb (suc (get_or silences s 0)) (get_or q.windows s 0)) → r ≡ notices_of (listener_of q) Tick s
+    counted_notice e = rw (watched, c.still s (omega arith)) at e
+
+  pub counting_more : {silences : List ℕ} {s v : ℕ} → Counting q silences s → s < 64 → v ≡ (ticked (listener_of q)).silence s
+      → Counting q (set silences s v) (s + 1)
   counting_more {silences} {s} {v} c h e = record {
     long = length-set silences s v ∙ c.long;
     counted = at;
+    still = λ y b. get_or-set_other silences s y v 0 (omega arith) ∙ c.still y (omega arith);
   }
     where
-      at : (y : ℕ) → y < s + 1 → get_or (set silences s v) y 0 ≡ (ticked l).silence y
+      at : (y : ℕ) → y < s + 1 → get_or (set silences s v) y 0 ≡ (ticked (listener_of q)).silence y
       at y b =
           elim (ℕ_discrete y s) [
-            | yes q ↦ rw q (get_or-set_same silences s v 0 (omega (arith, c.long)) ∙ e)
+            | yes p ↦ rw p (get_or-set_same silences s v 0 (omega (arith, c.long)) ∙ e)
             | no d ↦ get_or-set_other silences s y v 0 d ∙ c.counted y (omega arith)
           ]
 
 -- what a tick leaves
-pub ticks : (q : ListenerRecord) → Room q → {silences : List ℕ} → Counting (listener_of q) silences 64
+pub ticks : (q : ListenerRecord) → Room q → {silences : List ℕ} → Counting q silences 64
     → record { watched = q.watched; silences = silences; windows = q.windows } ≡ record_of (ticked (listener_of q))
 ticks q r {silences} c =
     whole (sym (to_bits_of_bits 64 q.watched r.watched_fits))
@@ -148,40 +131,36 @@ module _ (S : Set) (s : ℕ) {n m : ℕ} (so_far : n ≡ to_bits s S) (one : m �
 
 -- ---- the calls
 
-module _ (q : ListenerRecord) (x : ℕ) {r : ListenerRecord} where
-  pub hears_window : {v : ℕ}
-      → r ≡ record_of (restarted (listener_of q) (of_bits q.watched) x v)
-      → v ≡ (if silent (listener_of q) x then grown ((listener_of q).window x) else (listener_of q).window x) → r ≡ record_of (heard (listener_of q) x)
-  hears_window d e =
-      d
-      ∙ ap (λ (v : ℕ). record_of (restarted (listener_of q) (of_bits q.watched) x v)) e
-
-  module _ (low : x ≤ 63) where
-    pub watches_new : (w : ℕ) → of_bits q.watched x ≡ false → of_bits w ≡ with (of_bits q.watched) x
-        → r ≡ record_of (restarted (listener_of q) (of_bits w) x 4)
-        → (0 ≡ watch_answer x) × (r ≡ leaves_record q (Watch x))
-    unfolding watch_answer first_of
-    watches_new w f e d =
-        rw (le-ltb 63 x low, f)
-        (refl, d ∙ ap (λ (S : Set). record_of (restarted (listener_of q) S x 4)) e)
-
-    pub hears : of_bits q.watched x ≡ true → r ≡ record_of (heard (listener_of q) x) → (0 ≡ hear_answer (listener_of q) x) × (r ≡ leaves_record q (Hear x))
-    unfolding hear_answer first_of
-    hears t e = rw (le-ltb 63 x low, t) (refl, e)
-
 module _ (q : ListenerRecord) (room : Room q) (x : ℕ) where
   pub watch_refused : 63 < x → (7 ≡ watch_answer x) × (q ≡ leaves_record q (Watch x))
   unfolding watch_answer first_of
   watch_refused h = rw (lt-ltb 63 x h) (refl, kept q room)
 
-  pub watches_again : x ≤ 63 → of_bits q.watched x ≡ true → (0 ≡ watch_answer x) × (q ≡ leaves_record q (Watch x))
-  unfolding watch_answer first_of
-  watches_again h t = rw (le-ltb 63 x h, t) (refl, kept q room)
-
   pub hear_refused : 63 < x → (7 ≡ hear_answer (listener_of q) x) × (q ≡ leaves_record q (Hear x))
   unfolding hear_answer first_of
   hear_refused h = rw (lt-ltb 63 x h) (refl, kept q room)
 
-  pub not_watched : x ≤ 63 → of_bits q.watched x ≡ false → (18 ≡ hear_answer (listener_of q) x) × (q ≡ leaves_record q (Hear x))
-  unfolding hear_answer first_of
-  not_watched h f = rw (le-ltb 63 x h, f) (refl, kept q room)
+  module _ (low : x ≤ 63) where
+    pub watches_again : of_bits q.watched x ≡ true → (0 ≡ watch_answer x) × (q ≡ leaves_record q (Watch x))
+    unfolding watch_answer first_of
+    watches_again t = rw (le-ltb 63 x low, t) (refl, kept q room)
+
+    pub watches_new : (w : ℕ) → w < 2 ^ 64 → of_bits q.watched x ≡ false → of_bits w ≡ with (of_bits q.watched) x
+        → (0 ≡ watch_answer x) × (record { watched = w; silences = set q.silences x 0; windows = set q.windows x 4 } ≡ leaves_record q (Watch x))
+    unfolding watch_answer first_of
+    watches_new w fits f e =
+        rw (le-ltb 63 x low, f)
+        (refl, restarts q room w x 4 fits (omega arith) ∙ ap (λ (S : Set). record_of (restarted (listener_of q) S x 4)) e)
+
+    pub not_watched : of_bits q.watched x ≡ false → (18 ≡ hear_answer (listener_of q) x) × (q ≡ leaves_record q (Hear x))
+    unfolding hear_answer first_of
+    not_watched f = rw (le-ltb 63 x low, f) (refl, kept q room)
+
+    pub hears : {v : ℕ} → of_bits q.watched x ≡ true
+        → v ≡ (if silent (listener_of q) x then grown ((listener_of q).window x) else (listener_of q).window x)
+        → (0 ≡ hear_answer (listener_of q) x)
+        × (record { watched = q.watched; silences = set q.silences x 0; windows = set q.windows x v } ≡ leaves_record q (Hear x))
+    unfolding hear_answer first_of
+    hears {v} t e =
+        rw (le-ltb 63 x low, t)
+        (refl, restarts q room q.watched x v room.watched_fits (omega arith) ∙ ap (λ (v : ℕ). record_of (restarted (listener_of q) (of_bits q.watched) x v)) e)

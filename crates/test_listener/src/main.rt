@@ -4,8 +4,8 @@
 
 mod command;
 
-use listener::Called;
 use model::listener::ListenerRecord;
+use model::refusal::Refusal;
 use model::values::NodeNumber;
 use std::io;
 use std::io::Write;
@@ -26,18 +26,14 @@ fn empty() -> ListenerRecord {
     }
 }
 
-fn with_watched(record: ListenerRecord, low: u32, high: u32) -> ListenerRecord {
-    let mut next = record;
-    next.watched = (high as u64) * 0x1_0000_0000 + low as u64;
-    next
+fn set_watched(record: &mut ListenerRecord, low: u32, high: u32) {
+    record.watched = u64::from(high) * 0x1_0000_0000 + u64::from(low);
 }
 
-fn with_values(record: ListenerRecord, command: Command) -> ListenerRecord {
+fn set_values(record: &mut ListenerRecord, command: Command) {
     let at = (command.a % 64) as usize;
-    let mut next = record;
-    next.silences[at] = (command.b % 256) as u8;
-    next.windows[at] = (command.c % 256) as u8;
-    next
+    record.silences[at] = (command.b % 256) as u8;
+    record.windows[at] = (command.c % 256) as u8;
 }
 
 // The line has the command's number, the answer, the notices, and the digest of the record after the call.
@@ -46,45 +42,51 @@ fn print<W: Write>(
     number: u32,
     answer: u32,
     notices: u64,
-    record: ListenerRecord,
+    record: &ListenerRecord,
 ) -> io::Result<()> {
     let watched = digests::digest_set(0, record.watched);
     let silences = digests::digest_bytes_on(watched, &record.silences);
     let digest = digests::digest_bytes_on(silences, &record.windows);
-    test_lines::print(output, &[number as u64, answer as u64, notices, digest])
+    test_lines::print(
+        output,
+        &[u64::from(number), u64::from(answer), notices, digest],
+    )
 }
 
-fn called<W: Write>(output: &mut W, number: u32, reply: Called) -> io::Result<ListenerRecord> {
-    let answer = reply.answer;
-    print(output, number, answers::number(answer), 0, reply.listener)?;
-    Ok(reply.listener)
+fn called<W: Write>(
+    output: &mut W,
+    number: u32,
+    answer: Result<(), Refusal>,
+    record: &ListenerRecord,
+) -> io::Result<()> {
+    print(output, number, answers::number(answer), 0, record)
 }
 
 // A tick has no answer: 0 stands for it.
-fn ticked<W: Write>(
-    output: &mut W,
-    number: u32,
-    record: ListenerRecord,
-) -> io::Result<ListenerRecord> {
-    let reply = listener::tick(record);
-    print(output, number, 0, reply.notices, reply.listener)?;
-    Ok(reply.listener)
+fn ticked<W: Write>(output: &mut W, number: u32, record: &mut ListenerRecord) -> io::Result<()> {
+    let notices = listener::tick(record);
+    print(output, number, 0, notices, record)
 }
 
-fn run<W: Write>(
-    output: &mut W,
-    command: Command,
-    record: ListenerRecord,
-) -> io::Result<ListenerRecord> {
+fn run<W: Write>(output: &mut W, command: Command, record: &mut ListenerRecord) -> io::Result<()> {
     let number = command.number;
     match number {
-        command::EMPTY => Ok(empty()),
-        command::WATCHED => Ok(with_watched(record, command.a, command.b)),
-        command::VALUES => Ok(with_values(record, command)),
-        command::WATCH => called(output, number, listener::watch(record, node(command.a))),
-        command::TICK => ticked(output, number, record),
-        _ => called(output, number, listener::hear(record, node(command.a))),
+        command::EMPTY => {
+            *record = empty();
+        }
+        command::WATCHED => set_watched(record, command.a, command.b),
+        command::VALUES => set_values(record, command),
+        command::WATCH => {
+            let answer = listener::watch(record, node(command.a));
+            called(output, number, answer, record)?;
+        }
+        command::TICK => ticked(output, number, record)?,
+        _ => {
+            let answer = listener::hear(record, node(command.a));
+            called(output, number, answer, record)?;
+        }
     }
+    Ok(())
 }
 
 fn main(rt: HostRuntime) -> io::Result<()> {
@@ -96,7 +98,7 @@ fn main(rt: HostRuntime) -> io::Result<()> {
         let Next::Command(command) = next else {
             return Ok(());
         };
-        record = run(&mut output, command, record)?;
+        run(&mut output, command, &mut record)?;
     }
     Ok(())
 }
