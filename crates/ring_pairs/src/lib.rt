@@ -23,10 +23,8 @@ pub fn load(words: &[u32], n: usize, x: NodeNumber) -> NodeRecord
     let mut candidates = 0;
     let mut spare = [NodeNumber::NONE; 64];
     let mut commit = [Stamp(0); 64];
-    let me = x.0 as usize;
-    let mut z = n;
-    while 0 < z {
-        z -= 1;
+    let me = x.index();
+    for z in (0..n).rev() {
         let at = place::PAIRS + 2 * (64 * me + z);
         let first = PairWord(words[at]);
         held = raised(held, first.held());
@@ -49,10 +47,11 @@ fn raised(set: u64, b: bool) -> u64
     requires bounds { set < 2 ^ 63 }
     ensures value { result ≡ 2 * set + (if b then 1 else 0) }
 {
-    if b { 2 * set + 1 } else { 2 * set }
+    2 * set + u64::from(b)
 }
 
-// Writes the pairs of x and each z from a up to b. Bit 0 of the two sets is z's.
+// Writes the pairs of x and each z from a up to b. Bit 0 of the two sets is z's. z counts, since it has a place in each of
+// three arrays.
 pub fn store(words: &mut [u32], x: usize, a: usize, b: usize, own: NodeRecord)
     requires words { (length words.old ≡ ring_length) × (x < 64) × (a ≤ b) × (b ≤ 64) × RoomNode own }
     ensures value { Stored words.old words.new x a b (own_of own) }
@@ -71,7 +70,8 @@ pub fn store(words: &mut [u32], x: usize, a: usize, b: usize, own: NodeRecord)
     }
 }
 
-// Clears the pairs of x and each z from a up to b.
+// Clears the pairs of x and each z from a up to b: `store` of an empty record, with no record to read. z counts, since a
+// proof knows nothing of what is written through `chunks_exact_mut`.
 pub fn clear(words: &mut [u32], x: usize, a: usize, b: usize)
     requires words { (length words.old ≡ ring_length) × (x < 64) × (a ≤ b) × (b ≤ 64) }
     ensures value { Stored words.old words.new x a b cleared }

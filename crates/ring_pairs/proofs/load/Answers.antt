@@ -38,5 +38,8 @@ returns c = record {
   loaded =
       let l = c.loop-z in
       let e : l.z ≡ 0 = omega arith in
-      load_all _ _ _ c.requires.words.1 c.requires.words.2 c.requires.words.3 _ _ _ _ _ _ (rw e at l.invariant) c.without.ensures.members c.without-2.ensures.members (search rules);
+      let me = c.index-me.ensures.value in
+      rw (← me)
+      (load_all _ _ _ c.requires.words.1 c.requires.words.2 (omega arith) _ _ _ _ _ _ (rw e at l.invariant)
+      (rw (← me) at c.without.ensures.members) (rw (← me) at c.without-2.ensures.members) (search rules));
 }
