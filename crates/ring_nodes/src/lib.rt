@@ -15,36 +15,37 @@ use model::values::{NodeNumber, Stamp};
 use word_ring::{ClockWord, KeyWord, place};
 
 // Whether node x runs.
+#[tactic(auto, using(ring_head::proofs::Decoded::running_read))]
 pub fn is_running(words: &[u32], x: NodeNumber) -> bool
     requires length { length words.now ≡ ring_length }
     requires bounds { x.0 < size (decode_table words.now) }
     ensures value { result ≡ (decode_node words.now x.0).running }
 {
-    KeyWord(words[place::NODES + 2 * (x.0 as usize)]).running()
+    KeyWord(words[place::NODES + 2 * x.index()]).running()
 }
 
-// The nodes that run.
+// The nodes that run. x is the number of a node, and has its place.
 pub fn running(words: &[u32], n: usize) -> u64
     requires words { (length words.now ≡ ring_length) × (n ≡ size (decode_table words.now)) × (n ≤ 64) }
     ensures members { (x : ℕ) → of_bits result x ≡ is_running (decode words.now) x }
 {
     let mut set = 0;
     for x in 0..n {
-        let more = sets::with(set, NodeNumber(x as u8));
         if KeyWord(words[place::NODES + 2 * x]).running() {
-            set = more;
+            set = sets::with(set, NodeNumber(x as u8));
         }
     }
     set
 }
 
 // The clock of node x.
+#[tactic(auto, using(ring_head::proofs::Decoded::clock_read))]
 pub fn clock(words: &[u32], x: NodeNumber) -> Stamp
     requires length { length words.now ≡ ring_length }
     requires bounds { x.0 < size (decode_table words.now) }
     ensures value { result.0 ≡ (decode_node words.now x.0).clock }
 {
-    let at = place::NODES + 2 * (x.0 as usize);
+    let at = place::NODES + 2 * x.index();
     ClockWord(words[at + 1]).clock()
 }
 
@@ -55,7 +56,7 @@ pub fn set_running(words: &mut [u32], x: NodeNumber, running: bool)
     ensures ring { (ρ : Ring) (n m : ℕ) → Encodes words.old n m ρ → x.0 < n
         → Encodes words.new n m (update x.0 (set_running running) ρ) }
 {
-    let at = place::NODES + 2 * (x.0 as usize);
+    let at = place::NODES + 2 * x.index();
     let key = KeyWord(words[at]).key();
     words[at] = KeyWord::new(key, running).0;
 }
@@ -66,7 +67,7 @@ pub fn set_clock(words: &mut [u32], x: NodeNumber, clock: Stamp)
     ensures ring { (ρ : Ring) (n m : ℕ) → Encodes words.old n m ρ → x.0 < n
         → Encodes words.new n m (update x.0 (set_clock clock.0) ρ) }
 {
-    let at = place::NODES + 2 * (x.0 as usize);
+    let at = place::NODES + 2 * x.index();
     words[at + 1] = ClockWord::new(clock).0;
 }
 
@@ -87,7 +88,7 @@ pub fn stop(words: &mut [u32], n: usize, x: NodeNumber)
         → Encodes words.new n m (update x.0 stopped ρ) }
 {
     set_running(words, x, false);
-    let me = x.0 as usize;
+    let me = x.index();
     ring_pairs::clear(words, me, 0, me);
     ring_pairs::clear(words, me, me + 1, n);
 }
@@ -99,7 +100,7 @@ pub fn store(words: &mut [u32], n: usize, x: NodeNumber, time: Stamp, own: NodeR
         → Encodes words.new n m (update x.0 (stepped time.0 (own_of own)) ρ) }
 {
     set_clock(words, x, time);
-    let me = x.0 as usize;
+    let me = x.index();
     ring_pairs::store(words, me, 0, me, own);
     ring_pairs::store(words, me, me + 1, n, own);
 }

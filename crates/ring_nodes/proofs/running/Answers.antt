@@ -23,7 +23,7 @@ loop-x-preserved c =
       elim c.if-running.branch [
         | then-running w ↦
             ap of_bits w.set-is
-            ∙ c.with-more.ensures.members
+            ∙ w.with-set.ensures.members
             ∙ ap (λ (S : Set). with S l.x) l.invariant.1
             ∙ up_to_kept _ l.x (sym c.running.ensures.value ∙ w.if-running.true)
         | else-running w ↦

@@ -7,6 +7,8 @@ use Rattle.ring_nodes.proofs.set_running.Goals as goal
 pub returns : goal.returns
 returns c = record {
   ring =
+      let i = c.index.ensures.value in
       λ ρ n m is hx.
-      running_set ρ _ n m _ is hx _ _ (c.new.ensures.value ∙ ap (λ (k : ℕ). key_word k c.args.running) c.key-key.ensures.value);
+      rw i
+      (running_set ρ _ n m _ is hx _ _ (c.new.ensures.value ∙ ap (λ (k : ℕ). key_word k c.args.running) (rw i at c.key-key.ensures.value)));
 }

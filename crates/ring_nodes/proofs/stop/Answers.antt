@@ -12,5 +12,6 @@ returns c = record {
       let f = set_running false in
       let running = c.set_running.ensures.ring ρ _ m is c.requires.words.2 in
       is_twice x f (set_own cleared) ρ
-      (own_set (update x f ρ) _ _ m _ running c.requires.words.2 cleared _ _ c.clear.ensures.value c.clear-2.ensures.value);
+      (own_set (update x f ρ) _ _ m _ running c.requires.words.2 cleared _ _ (rw c.index-me.ensures.value at c.clear.ensures.value)
+      (rw c.index-me.ensures.value at c.clear-2.ensures.value));
 }

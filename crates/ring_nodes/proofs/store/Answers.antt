@@ -12,5 +12,6 @@ returns c = record {
       let o = own_of c.args.own in
       let clock = c.set_clock.ensures.ring ρ _ m is c.requires.words.2 in
       is_twice x f (set_own o) ρ
-      (own_set (update x f ρ) _ _ m _ clock c.requires.words.2 o _ _ c.store.ensures.value c.store-2.ensures.value);
+      (own_set (update x f ρ) _ _ m _ clock c.requires.words.2 o _ _ (rw c.index-me.ensures.value at c.store.ensures.value)
+      (rw c.index-me.ensures.value at c.store-2.ensures.value));
 }
