@@ -1,36 +1,60 @@
--- One node more, in each of the loops.
-use mathlib.Core.Path.{◌≡◌, sym, ◌∙◌}
-use mathlib.Core.Bool.{true, false}
-use mathlib.Core.List.{List, map}
-use Prim.Native.Nat.{ℕ, ◌+◌, ◌≤◌, min, max}
-use native.Mathlib.Numerals.{add-one}
-use native.Mathlib.Omega.{arith}
-use lib.ListN.{length, get_or, take, length-take, length-map}
+-- What is said place by place of a list of keys is a fold over it.
+use Rattle.std.proofs.Common.{inl, inr, subst, ◌+◌, ◌≡◌, ℕ, zero, suc, ◌≤◌, ◌<◌, List, map, length, get_or, take, ap, ◌∙◌, add-one, arith, refl, sym, min, max, ltb}
+use Rattle.std.specs.List.{fold, count_by}
+use Rattle.std.proofs.lemmas.List.Sums.{fold_more}
+use Rattle.std.proofs.Math.Seq.{take-length}
+use denote.Param.Members.{Mut}
+use Rattle.std.specs.Fn.{Called}
+use Rattle.std.specs.Array.{IsFromFnResult, IsFromFnResultFrom}
+use Rattle.std.proofs.lemmas.Bool.{cases_lt}
+use lib.ListN.{length-take, length-map}
 use lib.Seq.{ext_get_or, get_or-take}
+use Rattle.model.specs.Sets.{count}
 use Rattle.model.proofs.Laws.{map_at}
-use Rattle.model.specs.Sets.{Set, count}
-use Rattle.ring_head.proofs.Arrays.{Filled}
-use Rattle.draw_places.specs.Places.{lowest_of, greatest, behind}
+use Rattle.draw_places.specs.Places.{rank_of, lowest_of, greatest, pushed_by, pushed_most}
 
-pub count_one_more : (S : Set) (y : ℕ) → S y ≡ true → count (y + 1) S ≡ count y S + 1
-unfolding count
-count_one_more S y e = rw (add-one y, e)
+module _ {B : Type 0} (h : B → ℕ → B) (a : B) (xs : List ℕ) (F : ℕ → B) (none : F 0 ≡ a) (more : (n : ℕ) → F (suc n) ≡ h (F n) (get_or xs n 0)) where
+  part_folded : (n : ℕ) → n ≤ length xs → F n ≡ fold h a (take n xs)
+  part_folded zero l = none
+  part_folded (suc n) l =
+      let step = fold_more h a xs n 0 (omega arith) in
+      more n ∙ ap (λ (b : B). h b (get_or xs n 0)) (part_folded n (omega arith)) ∙ sym (rw add-one at step)
 
-pub count_no_more : (S : Set) (y : ℕ) → S y ≡ false → count (y + 1) S ≡ count y S
-unfolding count
-count_no_more S y e = rw (add-one y, e) (omega arith)
+  folded : F (length xs) ≡ fold h a xs
+  folded = rw take-length at (part_folded (length xs) (omega arith))
 
-pub greatest_more : (f : ℕ → ℕ) (y : ℕ) → greatest (y + 1) f ≡ max (greatest y f) (f y)
-unfolding greatest
-greatest_more f y = rw (add-one y)
+pub rank_counted : (keys : List ℕ) (key : ℕ) → rank_of keys key ≡ count_by (λ x. ltb x key) keys
+unfolding rank_of count
+rank_counted keys key = folded _ 0 keys (λ n. count n (λ y. ltb (get_or keys y 0) key)) refl (λ n. refl)
 
-pub lowest_more : (keys : List ℕ) (y : ℕ) → lowest_of (y + 1) keys ≡ min (lowest_of y keys) (get_or keys y 0)
+pub lowest_folded : (keys : List ℕ) → lowest_of (length keys) keys ≡ fold min 4294967295 keys
 unfolding lowest_of
-lowest_more keys y = rw (add-one y)
+lowest_folded keys = folded min 4294967295 keys (λ n. lowest_of n keys) refl (λ n. refl)
 
-pub behind_filled : (keys out : List ℕ) → length keys ≤ 64 → Filled (λ k. k) out 0 (λ y. behind (get_or keys y 0)) (length keys)
-    → take (length keys) out ≡ map behind keys
-behind_filled keys out few f =
-    let t : length (take (length keys) out) ≡ length keys = simp length-take (omega (arith, f.long)) in
-    ext_get_or 0 (take (length keys) out) (map behind keys) (t ∙ sym (length-map keys behind))
-    (λ i h. get_or-take (length keys) out i 0 (omega arith) ∙ f.low i (omega arith) ∙ sym (map_at behind keys i (omega arith)))
+pub most_folded : (keys : List ℕ) (rank : ℕ) → pushed_most keys rank ≡ fold (λ m by. max m (pushed_by keys rank by)) 0 keys
+unfolding pushed_most greatest
+most_folded keys rank = folded _ 0 keys (λ n. greatest n (λ y. pushed_by keys rank (get_or keys y 0))) refl (λ n. refl)
+
+pub mapped : (f : ℕ → ℕ) (keys out : List ℕ) → length keys ≤ length out → ((x : ℕ) → x < length keys → get_or out x 0 ≡ f (get_or keys x 0))
+    → take (length keys) out ≡ map f keys
+mapped f keys out few each =
+    let t : length (take (length keys) out) ≡ length keys = simp length-take (omega arith) in
+    ext_get_or 0 (take (length keys) out) (map f keys) (t ∙ sym (length-map keys f))
+    (λ i h. get_or-take (length keys) out i 0 (omega arith) ∙ each i (omega arith) ∙ sym (map_at f keys i (omega arith)))
+
+-- each call of a closure that stays as it is
+module _ {F : Type 0} (g : Mut F (ℕ × Unit {0}) ℕ) (f : F) (P : ℕ → ℕ → Type 0) (call : (x y : ℕ) (q : F) → Called g f (x, tt) y q → P x y × (q ≡ f)) where
+  each_from : (ys : List ℕ) (i n : ℕ) → IsFromFnResultFrom g f ys i n → (x : ℕ) → i ≤ x → x < i + n → P x (get_or ys x 0)
+  each_from ys i zero r x low high = absurd (omega arith)
+  each_from ys i (suc n) r x low high =
+      let k = call i r.1 r.0 r.3 in
+      let rest = subst (λ (s : F). IsFromFnResultFrom g s ys (i + 1) n) k.1 r.4 in
+      elim (cases_lt i x) [
+        | inl l ↦ each_from ys (i + 1) n rest x (omega arith) (omega arith)
+        | inr l ↦
+            let e : i ≡ x = omega arith in
+            subst (λ (z : ℕ). P z (get_or ys z 0)) e (subst (λ (y : ℕ). P i y) (sym (r.2.1 0)) k.0)
+      ]
+
+  pub each_made : (ys : List ℕ) (n : ℕ) → IsFromFnResult g f ys n → (x : ℕ) → x < n → P x (get_or ys x 0)
+  each_made ys n r x h = each_from ys 0 n r.each x (omega arith) (omega arith)

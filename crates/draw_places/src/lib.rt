@@ -7,6 +7,7 @@ ghost use Rattle.draw_places.specs.Places.{angle_of, distances_of, rank_of, lowe
 ghost use Rattle.draw_places.specs.Places.{ahead_of, behind, between_of, disc_of};
 
 use draw_circle::TURN;
+use std::array;
 
 // The angle of a key.
 pub fn angle(key: u32) -> u32
@@ -14,18 +15,6 @@ pub fn angle(key: u32) -> u32
     ensures bound { result < 65536 }
 {
     key / 256 % TURN
-}
-
-fn larger(a: u32, b: u32) -> u32
-    ensures value { result ≡ max a b }
-{
-    if a <= b { b } else { a }
-}
-
-fn smaller(a: u32, b: u32) -> u32
-    ensures value { result ≡ min a b }
-{
-    if a <= b { a } else { b }
 }
 
 // The distance between so many neighbours, of n nodes.
@@ -38,29 +27,21 @@ fn distances(n: u32, many: u32) -> u32
 }
 
 // How many of the keys are lower.
+#[tactic(auto, using(crate::proofs::Laws::rank_counted))]
 fn rank(keys: &[u32], key: u32) -> u32
     requires few { length keys.now ≤ 64 }
     ensures value { result ≡ rank_of keys.now key }
     ensures bound { result ≤ length keys.now }
 {
-    let mut rank = 0;
-    for y in 0..keys.len() {
-        if keys[y] < key {
-            rank += 1;
-        }
-    }
-    rank
+    keys.iter().filter(|other| **other < key).count() as u32
 }
 
 // The lowest of the keys.
+#[tactic(auto, using(crate::proofs::Laws::lowest_folded))]
 fn lowest(keys: &[u32]) -> u32
     ensures value { result ≡ lowest_of (length keys.now) keys.now }
 {
-    let mut lowest = u32::MAX;
-    for y in 0..keys.len() {
-        lowest = smaller(lowest, keys[y]);
-    }
-    lowest
+    keys.iter().copied().fold(u32::MAX, |low, key| low.min(key))
 }
 
 // How far on the node of a rank is pushed by the one with the key `by`, if that is not after it.
@@ -82,11 +63,10 @@ fn pushed_most(keys: &[u32], rank: u32) -> u32
     ensures value { result ≡ pushed_most keys.now rank }
     ensures bound { result < 98304 }
 {
-    let mut most = 0;
-    for y in 0..keys.len() {
-        most = larger(most, pushed(keys, rank, keys[y]));
-    }
-    most
+    keys.iter()
+        .map(|by| pushed(keys, rank, *by))
+        .max()
+        .unwrap_or(0)
 }
 
 // The angle of node x's disc when the discs are pushed ahead: those after it have room before the first, a turn on.
@@ -98,20 +78,27 @@ fn ahead(keys: &[u32], x: usize) -> u32
     let n = keys.len() as u32;
     let rank = rank(keys, keys[x]);
     let end = angle(lowest(keys)) + TURN - distances(n, n - rank);
-    smaller(pushed_most(keys, rank), end)
+    pushed_most(keys, rank).min(end)
+}
+
+// A key on the ring seen from behind.
+fn from_behind(key: u32) -> u32
+    ensures value { result ≡ behind key }
+{
+    16_777_215 - key % 16_777_216
 }
 
 // The keys as they are on the ring seen from behind.
-fn from_behind(keys: &[u32]) -> [u32; 64]
+fn all_from_behind(keys: &[u32]) -> [u32; 64]
     requires few { length keys.now ≤ 64 }
     ensures places { length result ≡ 64 }
     ensures keys { take (length keys.now) result ≡ map behind keys.now }
 {
-    let mut behind = [0; 64];
-    for x in 0..keys.len() {
-        behind[x] = 16_777_215 - keys[x] % 16_777_216;
-    }
-    behind
+    array::from_fn(|x| if x < keys.len() {
+        from_behind(keys[x])
+    } else {
+        0
+    })
 }
 
 // Half way between the angle ahead and the one back, which counts from the end of a turn; two turns keep it above 0.
@@ -130,10 +117,12 @@ pub fn discs(keys: &[u32]) -> [u32; 64]
     ensures angles { (x : ℕ) → x < length keys.now → get_or result x 0 ≡ disc_of keys.now x }
 {
     let n = keys.len();
-    let behind = from_behind(keys);
-    let mut discs = [0; 64];
-    for x in 0..n {
-        discs[x] = between(ahead(keys, x), ahead(&behind[..n], x));
-    }
-    discs
+    let behind = all_from_behind(keys);
+    array::from_fn(|x| {
+        if x < n {
+            between(ahead(keys, x), ahead(&behind[..n], x))
+        } else {
+            0
+        }
+    })
 }

@@ -7,7 +7,7 @@ unfolding ahead_of end_of
 returns c =
     record {
       value = rw (
-        c.smaller.ensures.value,
+        c.min.ensures,
         c.pushed_most.ensures.value,
         c.distances.ensures.value,
         c.angle.ensures.value,

@@ -1,32 +1,18 @@
-use mathlib.Core.Path.{◌≡◌, refl, sym, ap₂, ◌∙◌}
-use Prim.Native.Nat.{ℕ, max}
-use native.Mathlib.Omega.{arith}
-use lib.ListN.{length, get_or}
-use Rattle.draw_places.specs.Places.{greatest, pushed_by, pushed_most}
-use Rattle.draw_places.proofs.Laws.{greatest_more}
-use borrow.Author.Rules.{rules}
+use Rattle.std.proofs.Common.{unwrap_or, ap, sym, ◌∙◌, rules}
+use Rattle.std.proofs.lemmas.Iterator.{YieldsList-from_slice, YieldsList-from_map}
+use Rattle.std.proofs.lemmas.Iterator.Consumers.{reduce_from_yields_List}
+use Rattle.std.proofs.lemmas.List.Folds.{max_of_map}
+use Rattle.draw_places.specs.Places.{pushed_by}
+use Rattle.draw_places.proofs.Laws.{most_folded}
 use Rattle.draw_places.proofs.pushed_most.Goals as goal
 
-pub loop-y-init : goal.loop-y-init
-unfolding greatest
-loop-y-init c = (search rules, search rules, refl)
-
-pub loop-y-preserved : goal.loop-y-preserved
-loop-y-preserved c =
-    let l = c.loop-y in
-    let q = c.args in
-    let f : ℕ → ℕ = λ z. pushed_by q.keys.now q.rank (get_or q.keys.now z 0) in (
-      omega arith,
-      omega (arith, c.larger-most.ensures.value, c.pushed.ensures.bound),
-      c.larger-most.ensures.value ∙ ap₂ max l.invariant.2 c.pushed.ensures.value ∙ sym (greatest_more f l.y),
-    )
-
-pub returns : goal.returns
-unfolding pushed_most
-returns c =
-    let l = c.loop-y in
-    let e : l.y ≡ length c.args.keys.now = omega arith in
-    record {
-      value = rw e at l.invariant.2;
-      bound = search rules;
-    }
+pub returns-clause-value : goal.returns-clause-value
+returns-clause-value c =
+    let keys = c.args.keys.now in
+    let rank = c.args.rank in
+    c.unwrap_or.ensures
+    ∙ ap (λ o. unwrap_or o 0)
+    (reduce_from_yields_List _ c.map.result _ c.max.ensures.ran
+    (YieldsList-from_map _ (pushed_by keys rank) (YieldsList-from_slice keys cc) c.map.ensures.closure (λ x b q k. search rules)))
+    ∙ max_of_map (pushed_by keys rank) keys
+    ∙ sym (most_folded keys rank)
