@@ -79,14 +79,14 @@ pub fn put_end(out: &mut [u8], at: usize) -> usize
     put_bytes(out, at, b"</svg>\n")
 }
 
-// Puts a whole drawing that says why there is no ring.
+// Puts a whole drawing that says why there is no ring. The refusal comes as the number that is printed.
 pub fn put_refusal(out: &mut [u8], refusal: u32) -> usize
     requires room { 900 ≤ length out.old }
     ensures room { Room out.old out.new 0 result 900 }
 {
     let head = put_head(out, 0);
     let label = b"<text class='t' x='40' y='66'>no ring, refusal %";
-    let number = put_filled(out, head, label, &[refusal as u64]);
+    let number = put_filled(out, head, label, &[u64::from(refusal)]);
     let words = put_reason(out, number, refusal);
     put_end(out, words)
 }
@@ -96,15 +96,13 @@ fn put_reason(out: &mut [u8], at: usize, refusal: u32) -> usize
     requires room { at + 60 ≤ length out.old }
     ensures room { Room out.old out.new at result 60 }
 {
-    if refusal == 2 {
-        return put_bytes(
+    match refusal {
+        2 => put_bytes(
             out,
             at,
             b": the first word is at fault, or a key is missing</text>\n",
-        );
+        ),
+        19 => put_bytes(out, at, b": the words are no short ring</text>\n"),
+        _ => put_bytes(out, at, b": a key is at fault, or two are equal</text>\n"),
     }
-    if refusal == 19 {
-        return put_bytes(out, at, b": the words are no short ring</text>\n");
-    }
-    put_bytes(out, at, b": a key is at fault, or two are equal</text>\n")
 }

@@ -21,18 +21,13 @@ pub fn put_filled(out: &mut [u8], at: usize, text: &[u8], numbers: &[u64]) -> us
         (length text.now + 19 * length numbers.now) }
 {
     let mut end = at;
-    let mut next = 0;
-    for i in 0..text.len() {
-        let byte = text[i];
-        if byte != MARK {
-            end = put_byte(out, end, byte);
-            continue;
+    let mut numbers = numbers.iter();
+    for byte in text {
+        if *byte != MARK {
+            end = put_byte(out, end, *byte);
+        } else if let Some(number) = numbers.next() {
+            end = put_number(out, end, *number);
         }
-        if numbers.len() <= next {
-            continue;
-        }
-        end = put_number(out, end, numbers[next]);
-        next += 1;
     }
     end
 }
@@ -42,26 +37,22 @@ fn put_curve(out: &mut [u8], at: usize, half: Half) -> usize
     requires room { at + 180 ≤ length out.old }
     ensures room { Room out.old out.new at result 180 }
 {
-    let begin = half.begin;
-    let first = half.first;
-    let second = half.second;
-    let end = half.end;
+    let Half {
+        begin,
+        first,
+        second,
+        end,
+    } = half;
     let numbers = [
-        begin.x as u64,
-        begin.y as u64,
-        first.x as u64,
-        first.y as u64,
-        second.x as u64,
-        second.y as u64,
-        end.x as u64,
-        end.y as u64,
-    ];
+        begin.x, begin.y, first.x, first.y, second.x, second.y, end.x, end.y,
+    ]
+    .map(u64::from);
     put_filled(out, at, b"' d='M% %C% % % % % %'/>\n", &numbers)
 }
 
 // The class of a group's colour. Colours repeat after eight.
 fn colour(group: u8) -> u64 {
-    group as u64 % 8
+    u64::from(group % 8)
 }
 
 // Puts the half of a link at the node that holds the other, dashed if that lies outside its leafset.

@@ -17,21 +17,21 @@ pub fn put_lead(out: &mut [u8], at: usize, disc: u32, key: u32) -> usize
     requires room { at + 225 ≤ length out.old }
     ensures room { Room out.old out.new at result 225 }
 {
-    let onward = std::num::wrapping_sub_u32(key, disc) % TURN < TURN / 2;
+    let onward = key.wrapping_sub(disc) % TURN < TURN / 2;
     let begin = point_at(disc, DISCS);
     let first = point_at(disc, ROUND);
     let second = point_at(key, ROUND);
     let end = point_at(key, KEYS);
     let numbers = [
-        begin.x as u64,
-        begin.y as u64,
-        first.x as u64,
-        first.y as u64,
-        onward as u64,
-        second.x as u64,
-        second.y as u64,
-        end.x as u64,
-        end.y as u64,
+        u64::from(begin.x),
+        u64::from(begin.y),
+        u64::from(first.x),
+        u64::from(first.y),
+        u64::from(onward),
+        u64::from(second.x),
+        u64::from(second.y),
+        u64::from(end.x),
+        u64::from(end.y),
     ];
     put_filled(
         out,
@@ -43,7 +43,7 @@ pub fn put_lead(out: &mut [u8], at: usize, disc: u32, key: u32) -> usize
 
 // Where the number of a disc stands: in its middle, its foot below.
 fn foot(p: Point, radius: u32) -> u64 {
-    p.y as u64 + radius as u64 * 7 / 16
+    u64::from(p.y) + u64::from(radius) * 7 / 16
 }
 
 // Puts the disc of a running node, with its number.
@@ -58,15 +58,15 @@ pub fn put_running(
     requires room { at + 300 ≤ length out.old }
     ensures room { Room out.old out.new at result 300 }
 {
-    let across = p.x as u64;
+    let across = u64::from(p.x);
     let numbers = [
         colour(group),
         across,
-        p.y as u64,
-        radius as u64,
+        u64::from(p.y),
+        u64::from(radius),
         across,
         foot(p, radius),
-        x.0 as u64,
+        u64::from(x.0),
     ];
     put_filled(
         out,
@@ -81,14 +81,14 @@ pub fn put_off(out: &mut [u8], at: usize, x: NodeNumber, p: Point, radius: u32) 
     requires room { at + 300 ≤ length out.old }
     ensures room { Room out.old out.new at result 300 }
 {
-    let across = p.x as u64;
+    let across = u64::from(p.x);
     let numbers = [
         across,
-        p.y as u64,
-        radius as u64,
+        u64::from(p.y),
+        u64::from(radius),
         across,
         foot(p, radius),
-        x.0 as u64,
+        u64::from(x.0),
     ];
     put_filled(
         out,
@@ -100,7 +100,7 @@ pub fn put_off(out: &mut [u8], at: usize, x: NodeNumber, p: Point, radius: u32) 
 
 // The foot of node x's line of text.
 fn line_of(x: NodeNumber) -> u64 {
-    150 + 30 * x.0 as u64
+    150 + 30 * u64::from(x.0)
 }
 
 // Puts the line of text of a running node.
@@ -118,10 +118,10 @@ pub fn put_running_line(
     let numbers = [
         colour(group),
         line_of(x),
-        x.0 as u64,
-        key as u64,
-        group as u64,
-        held as u64,
+        u64::from(x.0),
+        u64::from(key),
+        u64::from(group),
+        u64::from(held),
     ];
     put_filled(
         out,
@@ -136,7 +136,7 @@ pub fn put_off_line(out: &mut [u8], at: usize, x: NodeNumber, key: u32) -> usize
     requires room { at + 200 ≤ length out.old }
     ensures room { Room out.old out.new at result 200 }
 {
-    let numbers = [line_of(x), x.0 as u64, key as u64];
+    let numbers = [line_of(x), u64::from(x.0), u64::from(key)];
     put_filled(
         out,
         at,
