@@ -6,6 +6,7 @@ use Prim.Native.Nat.{ℕ, ◌+◌, ◌≤◌, ◌<◌}
 use native.Mathlib.Numerals.{add-one}
 use native.Mathlib.Omega.{arith}
 use lib.Dec.{eqb}
+use mir.Val.{bool_byte}
 use lib.ListN.{length, take}
 use lib.Seq.{length-take-le, take_all}
 use Rattle.std.specs.Prelude.{if◌then◌else◌}
@@ -14,6 +15,15 @@ use Rattle.model.specs.Ring.{Message, message_at, sent_by}
 use Rattle.model.specs.Words.{at, message_place, decode_message_at, decode}
 use Rattle.model.proofs.Senders.{one_of, sent_next, sent_le}
 use Rattle.ring_head.proofs.ReadRing.{read_message}
+
+-- a truth as a number, by `usize::from`
+pub byte_is : (b : Bool) → bool_byte b ≡ bit b
+byte_is true = refl
+byte_is false = refl
+
+pub byte_small : (b : Bool) → bool_byte b ≤ 1
+byte_small true = omega arith
+byte_small false = omega arith
 
 one_is : (b : Bool) → bit b ≡ (if b then 1 else 0)
 one_is true = refl

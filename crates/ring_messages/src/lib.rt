@@ -14,12 +14,12 @@ ghost use Rattle.ring_messages.specs.Loaded.{LoadedMessage};
 ghost use Rattle.ring_head.specs.Parts.{Encodes};
 ghost use Rattle.records.specs.Effects.{sends_of, SendsFit};
 
-use model::message::MessageRecord;
+use model::message::{MessageRecord, MessageType};
 use model::node::NodeRecord;
 use model::values::{NodeNumber, Stamp};
 use records::effect::Sends;
 use records::message::{plain, stamped};
-use word_ring::{HeadWord, MessageWord, StampWord, ViewWord, mark, place};
+use word_ring::{HeadWord, MessageWord, StampWord, ViewWord, place};
 
 // Message m - 1 stands at this and 5 times m.
 const BEFORE_MESSAGES: usize = place::MESSAGES - 5;
@@ -48,12 +48,12 @@ pub fn load(words: &[u32], k: usize) -> MessageRecord
 fn view_of(low: u32, middle: u32, high: u32) -> u64
     ensures value { result ≡ bits 0 24 low + 2 ^ 24 * bits 0 24 middle + 2 ^ 48 * bits 0 16 high }
 {
-    (ViewWord(low).part() as u64)
-        + 0x100_0000 * (ViewWord(middle).part() as u64)
-        + 0x1_0000_0000_0000 * ((ViewWord(high).part() % 0x1_0000) as u64)
+    u64::from(ViewWord(low).part())
+        + 0x100_0000 * u64::from(ViewWord(middle).part())
+        + 0x1_0000_0000_0000 * u64::from(ViewWord(high).part() % 0x1_0000)
 }
 
-// How many of the m messages x has sent.
+// How many of the m messages x has sent. k counts, since a message begins at every fifth word.
 pub fn sent_by(words: &[u32], m: usize, x: NodeNumber) -> usize
     requires words { (length words.now ≡ ring_length) × (m ≤ 1024) × (m ≡ length (decode words.now).messages) }
     ensures value { result ≡ sent_by x.0 (decode words.now).messages }
@@ -62,7 +62,7 @@ pub fn sent_by(words: &[u32], m: usize, x: NodeNumber) -> usize
     let mut sent = 0;
     for k in 0..m {
         let sender = MessageWord(words[place::MESSAGES + 5 * k]).sender();
-        sent += mark(sender.0 == x.0) as usize;
+        sent += usize::from(sender == x);
     }
     sent
 }
@@ -127,11 +127,8 @@ fn send_each(words: &mut [u32], m: usize, tag: u8, me: NodeNumber, to: u64) -> u
         (set_messages (ρ.messages ++ map (steps.plain tag me.0) (members 64 (of_bits to))) ρ) }
 {
     let mut sent = m;
-    let mut rest = to;
-    while rest != 0 {
-        let y = sets::lowest(rest);
+    for y in sets::members(to) {
         append(words, sent, plain(tag, me, y));
-        rest = sets::rest(rest);
         sent += 1;
     }
     sent
@@ -157,16 +154,18 @@ fn send_requests(
         (members 64 (of_bits to))) ρ) }
 {
     let mut sent = m;
-    let mut rest = to;
-    while rest != 0 {
-        let z = sets::lowest(rest);
-        let at = z.0 as usize;
+    for z in sets::members(to) {
         append(
             words,
             sent,
-            stamped(MessageWord::PING_REPLACE, me, own.spare[at], z, time),
+            stamped(
+                MessageType::PingReplace as u8,
+                me,
+                own.spare[z.index()],
+                z,
+                time,
+            ),
         );
-        rest = sets::rest(rest);
         sent += 1;
     }
     sent

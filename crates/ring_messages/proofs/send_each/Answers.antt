@@ -1,42 +1,30 @@
-use mathlib.Core.Path.{sym, ◌∙◌}
 use borrow.Author.Rules.{rules}
-use Rattle.ring_messages.proofs.Sends.{sent_room, send_none, send_more, send_all, sent_below}
+use Rattle.sets.proofs.Turns.{begins, turn, turn_below, no_more}
+use Rattle.ring_messages.proofs.Sends.{sent_room, send_none, send_more, send_all}
 use Rattle.ring_messages.proofs.send_each.Goals as goal
 
-pub loop-rest-init : goal.loop-rest-init
-loop-rest-init c = send_none _ _ _ _ c.requires.words.0 (search rules) c.requires.words.3
+pub loop-y-init : goal.loop-y-init
+loop-y-init c =
+    send_none (begins c.members-y-items.ensures.all c.into_iter-y-iterator.ensures.into_iter_gives) c.requires.words.0 (search rules) c.requires.words.3
 
 pub plain-requires : goal.plain-requires
 plain-requires c = record {
   bounds =
-      let h = sent_below _ _ _ _ _ _ _ c.loop-rest.invariant c.loop-rest-test.true _ c.lowest-y.ensures.value in
+      let h = turn_below c.loop-y.invariant.rising (turn c.loop-y.y-iterator c.next.new.self c.in-Some.ensures.steps) in
       search rules;
 }
 
 pub append-requires : goal.append-requires
 append-requires c = record {
   words =
-      let s = c.loop-rest.invariant in
-      (s.long, sent_room _ _ _ _ _ _ _ s c.loop-rest-test.true _ c.lowest-y.ensures.value, c.plain.ensures.message.room);
+      let s = c.loop-y.invariant in
+      (s.long, sent_room s (turn c.loop-y.y-iterator c.next.new.self c.in-Some.ensures.steps), c.plain.ensures.message.room);
 }
 
-pub overflow_add-sent : goal.overflow_add-sent
-overflow_add-sent c =
-    let s = c.loop-rest.invariant in
-    let h = sent_room _ _ _ _ _ _ _ s c.loop-rest-test.true _ c.lowest-y.ensures.value in
-    search rules
-
-pub loop-rest-smaller : goal.loop-rest-smaller
-loop-rest-smaller c = c.rest-rest.ensures.rest.less
-
-pub loop-rest-preserved : goal.loop-rest-preserved
-loop-rest-preserved c =
-    let s = c.loop-rest.invariant in
-    send_more _ _ _ _ _ _ _ s c.loop-rest-test.true _ c.lowest-y.ensures.value _ c.rest-rest.ensures.rest _ _
+pub loop-y-preserved : goal.loop-y-preserved
+loop-y-preserved c =
+    send_more c.loop-y.invariant (turn c.loop-y.y-iterator c.next.new.self c.in-Some.ensures.steps) _ _
     (search rules) c.plain.ensures.message.message c.append.ensures.ring
 
-pub shape_of-words : goal.shape_of-words
-shape_of-words c = c.loop-rest.invariant.long ∙ sym c.requires.words.0
-
 pub returns : goal.returns
-returns c = record { ring = send_all _ _ _ _ _ _ _ c.loop-rest.invariant c.loop-rest-test.false }
+returns c = record { ring = send_all c.loop-y.invariant (no_more c.loop-y.y-iterator c.in-None.ensures.steps) }

@@ -1,4 +1,4 @@
-use mathlib.Core.Path.{sym, ap, ◌∙◌}
+use mathlib.Core.Path.{ap, ◌∙◌}
 use Prim.Native.Nat.{ℕ, ◌<◌}
 use native.Mathlib.Omega.{arith}
 use lib.Dec.{lit<}
@@ -6,56 +6,48 @@ use borrow.Author.Rules.{rules}
 use Rattle.model.specs.Types.{ping_replace}
 use Rattle.model.specs.Steps.{stamped}
 use Rattle.sets.proofs.Arrays.{spare_read}
-use Rattle.ring_messages.proofs.Sends.{send_none, send_more, send_all, sent_below, sent_member, sent_room}
+use Rattle.sets.proofs.Turns.{begins, turn, turn_below, no_more}
+use Rattle.ring_messages.proofs.Sends.{send_none, send_more, send_all, sent_member, sent_room}
 use Rattle.ring_messages.proofs.send_requests.Goals as goal
 
-pub loop-rest-init : goal.loop-rest-init
-loop-rest-init c = send_none _ _ _ _ c.requires.words.0 (search rules) c.requires.words.3
+pub loop-z-init : goal.loop-z-init
+loop-z-init c =
+    send_none (begins c.members-z-items.ensures.all c.into_iter-z-iterator.ensures.into_iter_gives) c.requires.words.0 (search rules) c.requires.words.3
 
-pub bounds-own-at : goal.bounds-own-at
-bounds-own-at c =
-    sent_below _ _ _ _ _ _ _ c.loop-rest.invariant c.loop-rest-test.true _ c.lowest-z.ensures.value
+pub bounds-own-index : goal.bounds-own-index
+bounds-own-index c =
+    rw c.index.ensures.value (turn_below c.loop-z.invariant.rising (turn c.loop-z.z-iterator c.next.new.self c.in-Some.ensures.steps))
 
 pub stamped-requires : goal.stamped-requires
 stamped-requires c = record {
   bounds =
-      let s = c.loop-rest.invariant in
-      let y = c.lowest-z.result.0 in
-      let b : y < 64 = sent_below _ _ _ _ _ _ _ s c.loop-rest-test.true _ c.lowest-z.ensures.value in
-      let t = s.part y (sent_member _ _ _ _ _ _ _ s c.loop-rest-test.true _ c.lowest-z.ensures.value) in
-      (lit< tt, c.requires.words.1, rw (spare_read c.args.own y c.requires.record.0 b) (c.requires.record.1 y t), omega arith, c.requires.words.2);
+      let s = c.loop-z.invariant in
+      let t = turn c.loop-z.z-iterator c.next.new.self c.in-Some.ensures.steps in
+      let z = c.in-Some.z.0 in
+      let b : z < 64 = turn_below s.rising t in
+      let asked = c.requires.record.1 z (s.part z (sent_member s t)) in
+      rw c.index.ensures.value (lit< tt, c.requires.words.1, rw (spare_read c.args.own z c.requires.record.0 b) asked, omega arith, c.requires.words.2);
 }
 
 pub append-requires : goal.append-requires
 append-requires c = record {
   words =
-      let s = c.loop-rest.invariant in
-      (s.long, sent_room _ _ _ _ _ _ _ s c.loop-rest-test.true _ c.lowest-z.ensures.value, c.stamped.ensures.message.room);
+      let s = c.loop-z.invariant in
+      (s.long, sent_room s (turn c.loop-z.z-iterator c.next.new.self c.in-Some.ensures.steps), c.stamped.ensures.message.room);
 }
 
-pub overflow_add-sent : goal.overflow_add-sent
-overflow_add-sent c =
-    let s = c.loop-rest.invariant in
-    let h = sent_room _ _ _ _ _ _ _ s c.loop-rest-test.true _ c.lowest-z.ensures.value in
-    search rules
-
-pub loop-rest-smaller : goal.loop-rest-smaller
-loop-rest-smaller c = c.rest-rest.ensures.rest.less
-
-pub loop-rest-preserved : goal.loop-rest-preserved
-loop-rest-preserved c =
+pub loop-z-preserved : goal.loop-z-preserved
+loop-z-preserved c =
     let a = c.args in
-    let s = c.loop-rest.invariant in
-    let y = c.lowest-z.result.0 in
-    let b : y < 64 = sent_below _ _ _ _ _ _ _ s c.loop-rest-test.true _ c.lowest-z.ensures.value in
-    send_more _ _ _ _ _ _ _ s c.loop-rest-test.true _ c.lowest-z.ensures.value _ c.rest-rest.ensures.rest _ _
+    let s = c.loop-z.invariant in
+    let t = turn c.loop-z.z-iterator c.next.new.self c.in-Some.ensures.steps in
+    let z = c.in-Some.z.0 in
+    let b : z < 64 = turn_below s.rising t in
+    send_more s t _ _
     (search rules)
-    (c.stamped.ensures.message.message
-    ∙ ap (λ (z : ℕ). stamped ping_replace a.me.0 z y a.time.0) (spare_read a.own y c.requires.record.0 b))
+    ((rw c.index.ensures.value at c.stamped.ensures.message.message)
+    ∙ ap (λ (y : ℕ). stamped ping_replace a.me.0 y z a.time.0) (spare_read a.own z c.requires.record.0 b))
     c.append.ensures.ring
 
-pub shape_of-words : goal.shape_of-words
-shape_of-words c = c.loop-rest.invariant.long ∙ sym c.requires.words.0
-
 pub returns : goal.returns
-returns c = record { ring = send_all _ _ _ _ _ _ _ c.loop-rest.invariant c.loop-rest-test.false }
+returns c = record { ring = send_all c.loop-z.invariant (no_more c.loop-z.z-iterator c.in-None.ensures.steps) }

@@ -1,5 +1,7 @@
+use mathlib.Core.Path.{ap, ◌∙◌}
 use native.Mathlib.Omega.{arith}
-use Rattle.ring_messages.proofs.Sent.{sent_before_first, sent_before_next, sent_before_few, sent_before_last}
+use Rattle.model.specs.Fields.{bit}
+use Rattle.ring_messages.proofs.Sent.{byte_is, byte_small, sent_before_first, sent_before_next, sent_before_few, sent_before_last}
 use Rattle.ring_messages.proofs.sent_by.Goals as goal
 
 pub loop-k-init : goal.loop-k-init
@@ -10,11 +12,12 @@ bounds-words-k c = omega (arith, c.requires.words.0, c.requires.words.1)
 
 pub overflow_add-sent : goal.overflow_add-sent
 overflow_add-sent c =
-    omega (arith, c.mark.ensures.bound, sent_before_few _ _ c.loop-k.invariant, c.requires.words.1)
+    omega (arith, byte_small c.eq.result, sent_before_few _ _ c.loop-k.invariant, c.requires.words.1)
 
 pub loop-k-preserved : goal.loop-k-preserved
 loop-k-preserved c =
-    sent_before_next _ _ c.loop-k.invariant (omega (arith, c.requires.words.2)) c.sender-sender.ensures.value c.mark.ensures.value
+    sent_before_next _ _ c.loop-k.invariant (omega (arith, c.requires.words.2)) c.sender-sender.ensures.value
+    (c.from-sent.ensures ∙ byte_is c.eq.result ∙ ap bit c.eq.ensures)
 
 pub returns : goal.returns
 returns c =
