@@ -34,9 +34,9 @@ fn write_nodes(words: &mut [u32], keys: &[u32])
         (word_at (initial (table_of sides keys.now))) }
 {
     let clock = ClockWord::new(Stamp(0)).0;
-    for s in 0..keys.len() {
+    for (s, key) in keys.iter().enumerate() {
         let at = place::NODES + 2 * s;
-        words[at] = KeyWord::new(Key(keys[s]), false).0;
+        words[at] = KeyWord::new(Key(*key), false).0;
         words[at + 1] = clock;
     }
 }

@@ -77,7 +77,7 @@ pub fn write(first: &[u32], second: &[u32], joined: &mut [u32])
 {
     let n = ring_head::nodes(first);
     let k = ring_head::nodes(second);
-    ring_ranges::copy(first, joined);
+    joined.copy_from_slice(first);
     append_messages(joined, ring_head::messages(first), second, n);
     add_nodes(joined, second, n, k);
 }

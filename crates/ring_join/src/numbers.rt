@@ -15,7 +15,7 @@ fn raised(y: NodeNumber, n: usize) -> NodeNumber
     requires bounds { (n ≤ 64) × (y.0 ≤ 64) }
     ensures value { result.0 ≡ model.raised n y.0 }
 {
-    if y.0 == 64 {
+    if y == NodeNumber::NONE {
         return NodeNumber::NONE;
     }
     NodeNumber(y.0 + n as u8)
@@ -40,16 +40,11 @@ pub fn raised_message(message: MessageRecord, n: usize) -> MessageRecord
     ensures message { message_of result ≡ model.raised_message n (message_of message) }
     ensures room { RoomMessage result }
 {
-    let sender = message.sender;
-    let receiver = message.receiver;
-    let subject = message.subject;
-    let stamp = message.stamp;
     MessageRecord {
-        tag: message.tag,
-        sender: raised(sender, n),
-        receiver: raised(receiver, n),
-        subject: raised(subject, n),
-        stamp,
+        sender: raised(message.sender, n),
+        receiver: raised(message.receiver, n),
+        subject: raised(message.subject, n),
         view: message.view << n,
+        ..message
     }
 }

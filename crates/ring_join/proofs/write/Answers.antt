@@ -13,8 +13,8 @@ nodes-n-requires c = record { length = (reads_out _ c.requires.rings.0).long }
 pub nodes-k-requires : goal.nodes-k-requires
 nodes-k-requires c = record { length = (reads_out _ c.requires.rings.1).long }
 
-pub copy-requires : goal.copy-requires
-copy-requires c = record { lengths = c.requires.rings.2 ∙ sym (reads_out _ c.requires.rings.0).long }
+pub copy_from_slice-requires : goal.copy_from_slice-requires
+copy_from_slice-requires c = c.requires.rings.2 ∙ sym (reads_out _ c.requires.rings.0).long
 
 pub messages-requires : goal.messages-requires
 messages-requires c = record { length = (reads_out _ c.requires.rings.0).long }
@@ -32,5 +32,5 @@ returns c = record {
   words =
       c.add_nodes.ensures.words c.args.first.now _ c.nodes-n.ensures.value (omega (arith, c.messages.ensures.value, c.requires.room.1))
       (c.append_messages.ensures.ring (decode c.args.first.now) _
-      (rw c.copy.ensures.words (read_is c.args.first.now c.requires.rings.0 _ _ c.nodes-n.ensures.value c.messages.ensures.value)));
+      (rw c.copy_from_slice.ensures.after (read_is c.args.first.now c.requires.rings.0 _ _ c.nodes-n.ensures.value c.messages.ensures.value)));
 }

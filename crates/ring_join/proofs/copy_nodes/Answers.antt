@@ -7,9 +7,7 @@ use mathlib.Core.List.{List}
 use Rattle.model.specs.Words.{node_place}
 use Rattle.ring_ranges.specs.Spans.{Patched}
 use Rattle.ring_ranges.proofs.Patches.{patched_as}
-use borrow.Author.Rules.{rules}
-use Rattle.ring_join.proofs.copy_nodes.Statement.{statement}
-use Rattle.ring_join.proofs.copy_nodes.Tie as tie
+use Rattle.ring_join.proofs.copy_nodes.Goals as goal
 
 copied : {ws ws' : List ℕ} (second : List ℕ) (n k : ℕ)
     → Patched ws ws' (1 + 2 * n) (1 + 2 * n + 2 * k) (λ i. get_or second (1 + (i - (1 + 2 * n))) 0)
@@ -19,14 +17,5 @@ copied {ws} {ws'} second n k p =
     subst (λ (to : ℕ). Patched ws ws' (node_place n) to (λ i. get_or second (i - 2 * n) 0)) end
     (patched_as p (λ i h l. let e : 1 + (i - (1 + 2 * n)) ≡ i - 2 * n = omega arith in ap (λ (j : ℕ). get_or second j 0) e))
 
-returns : tie.Need-returns
-returns c =
-    let span = c.before.before in
-    let a = span.before.before.before.before.args in
-    copied a.second.now a.n a.k span.copy_span.ensures
-
-pub copy_nodes_spec : {M : Type 1} → statement M
-copy_nodes_spec =
-    tie.close
-    (tie.spec
-    (λ c. search rules) (λ c. search rules) (λ c. search rules) (λ c κs. search rules) (λ c. search rules) returns)
+pub returns : goal.returns
+returns c = record { value = copied c.args.second.now c.args.n c.args.k c.copy_span.ensures.value }
