@@ -6,17 +6,13 @@ ghost use Rattle.model.specs.Leafset.{size};
 ghost use Rattle.model.specs.Words.{ring_length, decode_table, decode};
 ghost use Rattle.model.specs.Connection as model;
 
-use model::values::NodeNumber;
-
 // Writes the number to the place of each member of the group.
 fn number_members(numbers: &mut [u8], group: u64, number: u8)
     requires places { length numbers.old ≡ 64 }
     ensures places { length numbers.new ≡ 64 }
 {
-    for x in 0..64 {
-        if sets::has(group, NodeNumber(x as u8)) {
-            numbers[x] = number;
-        }
+    for x in sets::members(group) {
+        numbers[x.index()] = number;
     }
 }
 
@@ -29,6 +25,7 @@ pub fn number_groups(words: &[u32], n: usize, numbers: &mut [u8]) -> u32
     ensures places { length numbers.new ≡ 64 }
 {
     let mut count = 0;
+    // A turn takes out a whole group, so the loop is not one over the members.
     let mut left = ring_nodes::running(words, n);
     while left != 0 {
         let group = ring_connection::group(words, left, sets::lowest(left));
