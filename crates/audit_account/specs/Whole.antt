@@ -7,7 +7,7 @@ use Rattle.model.specs.Leafset.{Table, size}
 use Rattle.model.specs.Ring.{initial}
 use Rattle.model.specs.Answers.{is_accepted, number_of}
 use Rattle.model.specs.Bench.{little_endian, script_table, script_answer}
-use Rattle.model.specs.declared.answer.Answer.TheVariants.{NotAnEvent}
+use Rattle.model.specs.declared.refusal.Refusal.TheVariants.{NotAnEvent}
 use Rattle.audit_account.specs.Accounts.{opened, Standing, played, no_ring_text, event_text, word_lines, end_text}
 
 abbrev pub begins : Table → Standing
