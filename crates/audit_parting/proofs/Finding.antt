@@ -4,11 +4,10 @@ use mathlib.Core.Bool.{Bool, true, false, not, ◌&&◌}
 use mathlib.Core.List.{List}
 use Prim.Native.Nat.{ℕ, ◌<◌}
 use lib.ListN.{length, get_or}
-use Rattle.model.specs.Sets.{Set, of_bits, to_bits}
+use Rattle.model.specs.Sets.{Set, of_bits}
 use Rattle.model.specs.Ring.{Ring, is_running}
 use Rattle.model.specs.Connection.{connected}
 use Rattle.model.proofs.Laws.{and_right, and_in, decide, same_test}
-use Rattle.model.proofs.Bits.{bits_below}
 use Rattle.model.proofs.Connection.{InTable, decides}
 use Rattle.sets.proofs.Bits.{of_none}
 use Rattle.ring_connection.specs.Links.{Closed}
@@ -16,23 +15,18 @@ use Rattle.ring_connection.proofs.Linked.{back, off_connected}
 use Rattle.audit_parting.specs.Groups.{AreGroups, Filled}
 use Rattle.audit_parting.proofs.Alike.{alike, way_back}
 
--- every node, as a set
-every_node : (x : ℕ) → x < 64 → of_bits 0xFFFFFFFFFFFFFFFF x ≡ true
-unfolding to_bits
-every_node x h = bits_below 64 (λ y. true) x h
-
 module _ (r : Ring) where
   pub record Found (S : Set) (gs : List ℕ) : Type 0 where
     pub long : length gs ≡ 64
     pub done : (x b : ℕ) → x < 64 → S x ≡ false → of_bits (get_or gs x 0) b ≡ connected r x b
 
   -- the nodes that run are left, and nobody stands in the places
-  pub found_none : {S : Set} {entry gs : List ℕ} → length entry ≡ 64 → Filled entry gs 0xFFFFFFFFFFFFFFFF 0
+  pub found_none : {S : Set} {gs : List ℕ} → length gs ≡ 64 → ((x : ℕ) → x < 64 → get_or gs x 0 ≡ 0)
       → ((x : ℕ) → S x ≡ is_running r x) → Found S gs
-  found_none {gs = gs} room f is =
+  found_none {gs = gs} long none is =
       record {
-        long = f.long ∙ room;
-        done = λ x b h o. ap (λ (w : ℕ). of_bits w b) (f.here x (every_node x h)) ∙ of_none b ∙ sym (off_connected r x b (sym (is x) ∙ o));
+        long = long;
+        done = λ x b h o. ap (λ (w : ℕ). of_bits w b) (none x h) ∙ of_none b ∙ sym (off_connected r x b (sym (is x) ∙ o));
       }
 
   pub found_all : {S : Set} {gs : List ℕ} → Found S gs → ((x : ℕ) → S x ≡ false) → AreGroups r gs

@@ -15,8 +15,6 @@ ghost use Rattle.audit_parting.specs.Sides.{bar_text};
 
 use model::values::NodeNumber;
 
-const EVERY_NODE: u64 = 0xFFFF_FFFF_FFFF_FFFF;
-
 // The group of each node, by its number; how many groups there are.
 pub fn find(words: &[u32], n: usize, groups: &mut [u64]) -> u32
     requires words { (length words.now ≡ ring_length) × (n ≡ size (decode_table words.now)) × (n ≤ 64) }
@@ -24,8 +22,9 @@ pub fn find(words: &[u32], n: usize, groups: &mut [u64]) -> u32
     ensures groups { AreGroups (decode words.now) groups.new }
     ensures count { result ≡ model.groups (decode words.now) }
 {
-    fill(groups, EVERY_NODE, 0);
+    groups.fill(0);
     let mut count = 0;
+    // A turn takes out a whole group, so the loop is not one over the members.
     let mut left = ring_nodes::running(words, n);
     while left != 0 {
         let group = ring_connection::group(words, left, sets::lowest(left));
@@ -41,11 +40,8 @@ fn fill(groups: &mut [u64], set: u64, value: u64)
     requires room { length groups.old ≡ 64 }
     ensures groups { Filled groups.old groups.new set value }
 {
-    let mut rest = set;
-    while rest != 0 {
-        let x = sets::lowest(rest);
-        groups[x.0 as usize] = value;
-        rest = sets::rest(rest);
+    for x in sets::members(set) {
+        groups[x.index()] = value;
     }
 }
 
@@ -56,14 +52,10 @@ pub fn torn(old: &[u64], new: &[u64], running: u64) -> u64
         → ((x : ℕ) → of_bits running x ≡ is_running r' x) → (x : ℕ) → of_bits result x ≡ partings.torn r r' x }
 {
     let mut torn = 0;
-    let mut rest = running;
-    while rest != 0 {
-        let x = sets::lowest(rest);
-        let more = sets::with(torn, x);
-        if is_torn(old[x.0 as usize], new[x.0 as usize], running) {
-            torn = more;
+    for x in sets::members(running) {
+        if is_torn(old[x.index()], new[x.index()], running) {
+            torn = sets::with(torn, x);
         }
-        rest = sets::rest(rest);
     }
     torn
 }
@@ -86,6 +78,7 @@ pub fn put_sides(torn: u64, old: &[u64], new: &[u64], n: usize, out: &mut [u8], 
 {
     let mut end = at;
     let mut left = torn;
+    // x is a node's number and its place in both arrays, and who is left shrinks by a side.
     for x in 0..n {
         if !sets::has(left, NodeNumber(x as u8)) {
             continue;

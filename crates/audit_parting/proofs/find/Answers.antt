@@ -1,4 +1,4 @@
-use mathlib.Core.Path.{◌≡◌, sym, ap, ◌∙◌}
+use mathlib.Core.Path.{◌≡◌, refl, sym, ap, ◌∙◌}
 use mathlib.Core.Bool.{not, ◌&&◌}
 use Prim.Native.Nat.{ℕ}
 use native.Mathlib.Omega.{arith}
@@ -21,7 +21,7 @@ pub loop-left-init : goal.loop-left-init
 loop-left-init c = (
   search rules,
   counted_none _ (running_closed _ c.running-left.ensures.members) c.running-left.ensures.members,
-  found_none _ c.requires.room c.fill.ensures.groups c.running-left.ensures.members,
+  found_none _ (c.fill.ensures.len ∙ c.requires.room) (λ x h. c.fill.ensures.clones x 0 (omega arith) refl) c.running-left.ensures.members,
 )
 
 pub group-group-requires : goal.group-group-requires

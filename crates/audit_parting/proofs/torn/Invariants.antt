@@ -5,8 +5,6 @@ use Rattle.sets.proofs.Collect.{Collecting}
 use Rattle.audit_parting.proofs.Tearing.{lost}
 use Rattle.audit_parting.proofs.torn.Given as goal
 
-abbrev pub invariant-loop-rest : goal.invariant-loop-rest
-invariant-loop-rest l = Collecting 64 l.running (λ (x : ℕ). some 64 (lost (get_or l.old x 0) (get_or l.new x 0) l.running)) l.torn l.rest
-
-abbrev pub decreases-loop-rest : goal.decreases-loop-rest
-decreases-loop-rest l = l.rest
+abbrev pub invariant-loop-x : goal.invariant-loop-x
+invariant-loop-x l =
+    Collecting 64 l.running (λ (x : ℕ). some 64 (lost (get_or l.old x 0) (get_or l.new x 0) l.running)) l.torn l.x-iterator.rest
