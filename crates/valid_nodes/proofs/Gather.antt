@@ -1,12 +1,14 @@
 -- A test of many words at once: what is or-ed is 0 exactly where each part is.
 use mathlib.Core.Path.{◌≡◌, refl, sym, ap, ◌∙◌}
-use Prim.Native.Nat.{ℕ, ◌+◌, ◌/◌, ◌%◌, ◌^◌, ◌≤◌, ◌<◌}
+use Prim.Native.Nat.{ℕ, ◌+◌, ◌-◌, ◌/◌, ◌%◌, ◌^◌, ◌≤◌, ◌<◌}
 use native.Mathlib.Numerals.{add-one}
 use native.Mathlib.Omega.{arith}
 use mathlib.Core.Bool.{Bool, true, false, ◌&&◌, ◌||◌}
 use mathlib.Core.List.{List, [], ◌∷◌}
 use lib.Bits.{bit_or, or_add_and, and_le_l, and_le_r, or_shr, or_mod}
 use lib.Dec.{ltb, eqb}
+use lib.ListN.{get_or, take, drop}
+use lib.Seq.{get_or-take, get_or-drop}
 use borrow.Author.Tests.{eqb-true, eq-eqb, le-ltb, ltb-false}
 use Rattle.model.specs.Choice.{every}
 use Rattle.model.specs.Sets.{Set, all}
@@ -73,10 +75,15 @@ unfolding clear
 clear_out ws a e t i h l =
     eqb-true (at ws i) 0 (or_case (ltb i a) (eqb (at ws i) 0) (all_out e (λ j. ltb j a || eqb (at ws j) 0) t i l) (λ p. clash p (le-ltb i a h)) (λ p. p))
 
-pub clear_none : (ws : List ℕ) (a : ℕ) → clear ws a a ≡ true
-clear_none ws a = clear_in ws a a (λ i h l. absurd (omega arith))
+pub clear_none : (ws : List ℕ) (a : ℕ) → clear ws a (a + 0) ≡ true
+clear_none ws a = clear_in ws a (a + 0) (λ i h l. absurd (omega arith))
 
-pub clear_more : (ws : List ℕ) (a i met : ℕ) → a ≤ i → eqb met 0 ≡ clear ws a i → eqb (bit_or met (at ws i)) 0 ≡ clear ws a (i + 1)
+-- the words from a up to e as a part, of which i were 0
+pub clear_more : (ws : List ℕ) (a e i met : ℕ) → i < e - a → eqb met 0 ≡ clear ws a (a + i)
+    → eqb (bit_or met (get_or (take (e - a) (drop a ws)) i 0)) 0 ≡ clear ws a (a + (i + 1))
 unfolding clear
-clear_more ws a i met h e =
-    or_more (λ w. w) (λ v w. refl) (λ i. ltb i a || eqb (at ws i) 0) i met (at ws i) e (rw (le-ltb i a h))
+clear_more ws a e i met h c =
+    let next : a + (i + 1) ≡ a + i + 1 = omega arith in
+    let below : ltb (a + i) a ≡ false = le-ltb (a + i) a (omega arith) in
+    rw (get_or-take (e - a) (drop a ws) i 0 h, get_or-drop a ws i 0, next)
+    (or_more (λ w. w) (λ v w. refl) (λ i. ltb i a || eqb (at ws i) 0) (a + i) met (at ws (a + i)) c (rw below))

@@ -9,8 +9,8 @@ pub fn clear(words: &[u32], from: usize, to: usize) -> bool
     ensures value { result ≡ isClear words.now from to }
 {
     let mut met = 0;
-    for i in from..to {
-        met = met | words[i];
+    for word in &words[from..to] {
+        met |= *word;
     }
     met == 0
 }
