@@ -1,18 +1,24 @@
 -- Laws of the refusals of the questions: 1 and 6 come first, then 7 and 8 of two nodes.
-use mathlib.Core.Path.{◌≡◌, refl, sym, ◌∙◌}
+use mathlib.Core.Path.{◌≡◌, refl, sym, ap, ◌∙◌}
 use mathlib.Core.Bool.{Bool, true, false, not, ◌&&◌}
 use mathlib.Core.List.{List, [], ◌∷◌}
 use Prim.Native.Nat.{ℕ}
-use Rattle.std.specs.Prelude.{if◌then◌else◌}
-use Rattle.model.specs.Answers.{first_of, is_accepted}
+use Rattle.std.specs.Prelude.{Result, IsErrAnd, if◌then◌else◌}
+use Rattle.model.specs.Answers.{number_of, answer_number, first_of, is_accepted}
+use Rattle.model.specs.declared.refusal.Refusal.{Refusal as Kind}
 use Rattle.model.specs.Words.{decode_node, decode, reads_as_ring}
 use Rattle.model.specs.WellFormed.{Each, nil, cons}
 use Rattle.model.specs.Play.{node_off}
 use Rattle.model.specs.Buffer.{ring_refusals, ring_answer}
 use Rattle.model.specs.Questions.{nodes_refusals, connection_answer}
+use Rattle.model.proofs.Given.{passed_on}
 use Rattle.model.proofs.Laws.{not_out_false}
 use Rattle.model.proofs.Lists.{first, rest}
 use Rattle.model.proofs.Answers.{none_applies, stays, passes}
+
+-- the answer of a call that `?` ends
+pub passed_answer : {A : Type 0} (r : Result A Kind) (e : Kind) → IsErrAnd r (λ d. d ≡ e) → {k : ℕ} → number_of e ≡ k → answer_number r ≡ k
+passed_answer r e i n = ap answer_number (passed_on r e i) ∙ n
 
 module _ (ws : List ℕ) where
   -- ---- refusals 1 and 6 come first

@@ -3,7 +3,6 @@ use mathlib.Core.Bool.{◌&&◌}
 use mathlib.Core.List.{List}
 use Prim.Native.Nat.{ℕ}
 use native.Mathlib.Omega.{arith}
-use borrow.Author.Tests.{not-true, not-false}
 use Rattle.answers.proofs.Valid.{long}
 use Rattle.model.proofs.Answers.{here, next}
 use Rattle.answers.proofs.Refusals.{in_table, out_of_table}
@@ -13,41 +12,39 @@ use Rattle.call_refusals.proofs.of_ring.Goals as goal
 pub nodes-n-requires : goal.nodes-n-requires
 nodes-n-requires c = record { length = long _ c.requires.ring }
 
-pub returns-then-n-a : goal.returns-then-n-a
-returns-then-n-a c = record { answer = sym (here _ _ (out_of_table c.args.words.now c.args.a.0 (omega (arith, c.nodes-n.ensures.value)))) }
+pub returns-then-n-index : goal.returns-then-n-index
+returns-then-n-index c = record { answer = sym (here _ _ (out_of_table c.args.words.now c.args.a.0 (omega arith))) }
 
-pub returns-then-n-b : goal.returns-then-n-b
-returns-then-n-b c = record {
+pub returns-then-n-index-2 : goal.returns-then-n-index-2
+returns-then-n-index-2 c = record {
   answer =
       let ws : List ℕ = c.args.words.now in
-      let n = c.nodes-n.ensures.value in
       sym
-      (next _ _ (in_table ws c.args.a.0 (omega (arith, n)))
-      ∙ here _ _ (out_of_table ws c.args.b.0 (omega (arith, n))));
+      (next _ _ (in_table ws c.args.a.0 (omega arith))
+      ∙ here _ _ (out_of_table ws c.args.b.0 (omega arith)));
 }
 
 pub is_running-requires : goal.is_running-requires
 is_running-requires c =
     record {
       length = long _ c.requires.ring;
-      bounds = omega (arith, c.nodes-n.ensures.value);
+      bounds = omega arith;
     }
 
 pub is_running-requires-2 : goal.is_running-requires-2
 is_running-requires-2 c =
     record {
       length = long _ c.requires.ring;
-      bounds = omega (arith, c.nodes-n.ensures.value);
+      bounds = omega arith;
     }
 
 pub returns-then-not-is_running : goal.returns-then-not-is_running
 returns-then-not-is_running c = record {
   answer =
-      let n = c.nodes-n.ensures.value in
       let ws : List ℕ = c.args.words.now in
       sym
-      (next _ _ (in_table ws c.args.a.0 (omega (arith, n)))
-      ∙ next _ _ (in_table ws c.args.b.0 (omega (arith, n)))
+      (next _ _ (in_table ws c.args.a.0 (omega arith))
+      ∙ next _ _ (in_table ws c.args.b.0 (omega arith))
       ∙ one_off ws c.args.a.0 c.args.b.0
       (sym (ap₂ ◌&&◌ c.is_running.ensures.value c.is_running-2.ensures.value) ∙ c.if-not-is_running.true));
 }
@@ -55,11 +52,10 @@ returns-then-not-is_running c = record {
 pub returns : goal.returns
 returns c = record {
   answer =
-      let n = c.nodes-n.ensures.value in
       let ws : List ℕ = c.args.words.now in
       sym
-      (next _ _ (in_table ws c.args.a.0 (omega (arith, n)))
-      ∙ next _ _ (in_table ws c.args.b.0 (omega (arith, n)))
+      (next _ _ (in_table ws c.args.a.0 (omega arith))
+      ∙ next _ _ (in_table ws c.args.b.0 (omega arith))
       ∙ both_on ws c.args.a.0 c.args.b.0
       (sym (ap₂ ◌&&◌ c.is_running.ensures.value c.is_running-2.ensures.value) ∙ c.if-not-is_running.false));
 }
