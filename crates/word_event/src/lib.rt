@@ -58,7 +58,8 @@ pub fn write_event(e: Event) -> Result<u32, Refusal>
     ensures word { given_or 0 result ≡ write_event e }
 {
     check(e)?;
-    Ok(EventWord::new(e).0)
+    let word = EventWord::new(e);
+    Ok(word.0)
 }
 
 // The event of a word, or refusal 4 or 5.

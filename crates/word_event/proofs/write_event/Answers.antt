@@ -8,4 +8,4 @@ returns-in_err-check-clause-word c = none_given 0 _ _ _ c.from_residual.ensures.
 
 pub returns-clause-word : goal.returns-clause-word
 unfolding write_event
-returns-clause-word c = all_given 0 _ c.in_ok-check.ensures.answer c.new.ensures.value
+returns-clause-word c = all_given 0 _ c.in_ok-check.ensures.answer c.new-word.ensures.value
