@@ -20,8 +20,8 @@ use Rattle.model.proofs.Senders.{one_of, sent_append, sent_without, sent_none, s
 use Rattle.model.proofs.Decoded.{reads_well}
 use Rattle.records.specs.Effects.{sends_of}
 use Rattle.event_act.specs.Changes.{TakenLow, TakenOther, taken_out, sent_of, changed, Counts, Full}
-use Rattle.event_act.specs.declared.decision.Taken.{Taken}
-use Rattle.event_act.specs.declared.decision.Taken.TheVariants.{Nothing, Message as Taking}
+use Rattle.std.specs.Prelude.{Option, None, Some, Result, Ok, Err}
+use Rattle.model.specs.declared.refusal.Refusal.{Refusal}
 use Rattle.event_act.specs.declared.decision.Change.{Change}
 use Rattle.event_act.proofs.Written.{changed_table}
 
@@ -42,16 +42,16 @@ module _ (c : Change) {first second : ℕ}
 -- ---- of each sender
 
 -- taking one out leaves no more, and as many of a node that did not send it
-taken_fewer : (t : Taken) (ρ : Ring) → TakenLow (length ρ.messages) t → (y : ℕ) → sent_by y (taken_out t ρ).messages ≤ sent_by y ρ.messages
+taken_fewer : (t : Option ℕ) (ρ : Ring) → TakenLow (length ρ.messages) t → (y : ℕ) → sent_by y (taken_out t ρ).messages ≤ sent_by y ρ.messages
 unfolding remove_message
-taken_fewer Nothing ρ low y = le_refl _
-taken_fewer (Taking k) ρ low y = omega (arith, sent_without y ρ.messages k low)
+taken_fewer None ρ low y = le_refl _
+taken_fewer (Some k) ρ low y = omega (arith, sent_without y ρ.messages k low)
 
-taken_same : (t : Taken) (ρ : Ring) → TakenLow (length ρ.messages) t → (x : ℕ) → TakenOther ρ t x
+taken_same : (t : Option ℕ) (ρ : Ring) → TakenLow (length ρ.messages) t → (x : ℕ) → TakenOther ρ t x
     → sent_by x ρ.messages ≤ sent_by x (taken_out t ρ).messages
 unfolding remove_message
-taken_same Nothing ρ low x other = le_refl _
-taken_same (Taking k) ρ low x other =
+taken_same None ρ low x other = le_refl _
+taken_same (Some k) ρ low x other =
     let not-its : one_of x (message_at ρ k) ≡ 0 = rw (ne_eqb (message_at ρ k).sender x other) in
     omega (arith, not-its, sent_without x ρ.messages k low)
 

@@ -22,12 +22,11 @@ use Rattle.records.specs.declared.effect.EffectRecord.{EffectRecord}
 use Rattle.event_act.specs.Acting.{IsActor}
 use Rattle.event_act.specs.Changes.{TakenLow, TakenOther, taken_out, node_changed, changed, Counts, Changes, Decided, Silent, Decides}
 use Rattle.event_act.specs.declared.Actor.{Actor}
-use Rattle.event_act.specs.declared.decision.Taken.{Taken}
-use Rattle.event_act.specs.declared.decision.Taken.TheVariants.{Nothing}
+use Rattle.std.specs.Prelude.{Option, None, Some, Result, Ok, Err}
+use Rattle.model.specs.declared.refusal.Refusal.{Refusal}
 use Rattle.event_act.specs.declared.decision.Becomes.{Becomes}
 use Rattle.event_act.specs.declared.decision.Becomes.TheVariants.{Stays, Starts, Stops, Acts}
 use Rattle.event_act.specs.declared.decision.Change.{Change}
-use Rattle.event_act.specs.declared.decision.Decision.{Decision}
 use Rattle.event_act.proofs.Decides.{acted_by, decides}
 use Rattle.event_act.proofs.Written.{taken_nodes, node_messages}
 
@@ -70,11 +69,11 @@ change_counts c left by reads count low other member =
     }
 
 -- a node that acts with the effect r
-abbrev pub acts : Taken → NodeNumber → Actor → EffectRecord → Change
+abbrev pub acts : Option ℕ → NodeNumber → Actor → EffectRecord → Change
 acts t x a r = record { taken = t; node = x; becomes = Acts; time = a.time; effect = r }
 
 module _ {ws : List ℕ} (reads : reads_as_ring ws ≡ true) {x : NodeNumber} {a : Actor} (is : IsActor ws x.0 a) (r : EffectRecord)
-    (step : ℕ → Own → Effect) (left : Leaves a.n x.0 a.time.0 r (step a.time.0 (own_of a.own))) (t : Taken) where
+    (step : ℕ → Own → Effect) (left : Leaves a.n x.0 a.time.0 r (step a.time.0 (own_of a.own))) (t : Option ℕ) where
   abbrev acting : Change
   acting = acts t x a r
 
@@ -95,18 +94,18 @@ module _ {ws : List ℕ} (reads : reads_as_ring ws ≡ true) {x : NodeNumber} {a
   -- an event that is this act, where none of its refusals applies
   pub acting_decides : (e : Event) → first_of (refusals (decode ws) e) ≡ 0 → TakenLow (length (decode ws).messages) t
       → act x.0 step (taken_out t (decode ws)) ≡ after (decode ws) e
-      → (d : Decision) → Decided (decode ws) acting d → Decides ws e d
+      → (d : Result Change Refusal) → Decided (decode ws) acting d → Decides ws e d
   acting_decides e passed low same d decided = decides ws e passed acting (acting_fits low) (acting_leaves ∙ same) d decided
 
 -- an event that is one act and takes nothing out
 module _ {ws : List ℕ} (reads : reads_as_ring ws ≡ true) {x : NodeNumber} {a : Actor} (is : IsActor ws x.0 a)
     (step : ℕ → Own → Effect) {r : EffectRecord} (left : Leaves a.n x.0 a.time.0 r (step a.time.0 (own_of a.own))) where
-  pub act_counts : Each (λ s. s.sender ≡ x.0) (step a.time.0 (own_of a.own)).sent → Counts ws a.m (acts Nothing x a r)
-  act_counts by = acting_counts reads is r step left Nothing by is.count tt tt
+  pub act_counts : Each (λ s. s.sender ≡ x.0) (step a.time.0 (own_of a.own)).sent → Counts ws a.m (acts None x a r)
+  act_counts by = acting_counts reads is r step left None by is.count tt tt
 
   pub act_decides : (e : Event) → first_of (refusals (decode ws) e) ≡ 0 → act x.0 step (decode ws) ≡ after (decode ws) e
-      → {d : Decision} → Decided (decode ws) (acts Nothing x a r) d → Decides ws e d
-  act_decides e passed same {d} decided = acting_decides reads is r step left Nothing e passed tt same d decided
+      → {d : Result Change Refusal} → Decided (decode ws) (acts None x a r) d → Decides ws e d
+  act_decides e passed same {d} decided = acting_decides reads is r step left None e passed tt same d decided
 
 -- a change that sends nothing
 module _ (c : Change) {n : ℕ} {o : Own} (left : Leaves n c.node.0 c.time.0 c.effect (record { own = o; sent = [] })) where
@@ -118,7 +117,7 @@ module _ (c : Change) {n : ℕ} {o : Own} (left : Leaves n c.node.0 c.time.0 c.e
       ∙ sym (node_messages c.becomes c.node.0 c.time.0 (own_of c.effect.own) (taken_out c.taken ρ)))
 
 -- an event that sends nothing, where none of its refusals applies
-module _ (ws : List ℕ) (reads : reads_as_ring ws ≡ true) {t : Taken} {x : NodeNumber} {b : Becomes} {time : Stamp} {d : Decision}
+module _ (ws : List ℕ) (reads : reads_as_ring ws ≡ true) {t : Option ℕ} {x : NodeNumber} {b : Becomes} {time : Stamp} {d : Result Change Refusal}
     (done : Silent (decode ws) t x b time d) where
   abbrev silently : Change
   silently = record { taken = t; node = x; becomes = b; time = time; effect = done.effect }

@@ -12,8 +12,8 @@ use Rattle.model.specs.Structs.{own_of}
 use Rattle.ring_head.specs.Parts.{Encodes}
 use Rattle.records.specs.Effects.{sends_of}
 use Rattle.event_act.specs.Changes.{TakenLow, taken_out, node_changed, changed, Writable}
-use Rattle.event_act.specs.declared.decision.Taken.{Taken}
-use Rattle.event_act.specs.declared.decision.Taken.TheVariants.{Nothing, Message as Taking}
+use Rattle.std.specs.Prelude.{Option, None, Some, Result, Ok, Err}
+use Rattle.model.specs.declared.refusal.Refusal.{Refusal}
 use Rattle.event_act.specs.declared.decision.Becomes.{Becomes}
 use Rattle.event_act.specs.declared.decision.Becomes.TheVariants.{Stays, Starts, Stops, Acts}
 use Rattle.event_act.specs.declared.decision.Change.{Change}
@@ -24,7 +24,7 @@ unfolding remove_message
 removed_count k ρ h = simp (length-append, length-take, length-drop) (omega arith)
 
 -- where a message is taken out: it is one of the m, and one less is left
-module _ {t : Taken} {k : ℕ} (e : t ≡ Taking k) {m : ℕ} (low : TakenLow m t) where
+module _ {t : Option ℕ} {k : ℕ} (e : t ≡ Some k) {m : ℕ} (low : TakenLow m t) where
   pub taking_low : k < m
   taking_low = rw e at low
 
@@ -34,10 +34,10 @@ module _ {t : Taken} {k : ℕ} (e : t ≡ Taking k) {m : ℕ} (low : TakenLow m 
       (let h : length (remove_message k ρ).messages ≡ length ρ.messages - 1 = removed_count k ρ (omega (arith, taking_low)) in omega arith)
 
 -- what is taken out leaves the nodes, and what becomes of a node leaves the messages
-pub taken_nodes : (t : Taken) (ρ : Ring) → (taken_out t ρ).node ≡ ρ.node
+pub taken_nodes : (t : Option ℕ) (ρ : Ring) → (taken_out t ρ).node ≡ ρ.node
 unfolding remove_message
-taken_nodes Nothing ρ = refl
-taken_nodes (Taking k) ρ = refl
+taken_nodes None ρ = refl
+taken_nodes (Some k) ρ = refl
 
 pub node_messages : (b : Becomes) (x time : ℕ) (o : Own) (ρ : Ring) → (node_changed b x time o ρ).messages ≡ ρ.messages
 node_messages Stays x time o ρ = refl
@@ -46,10 +46,10 @@ node_messages Stops x time o ρ = refl
 node_messages Acts x time o ρ = refl
 
 -- neither touches the table
-taken_table : (t : Taken) (ρ : Ring) → (taken_out t ρ).table ≡ ρ.table
+taken_table : (t : Option ℕ) (ρ : Ring) → (taken_out t ρ).table ≡ ρ.table
 unfolding remove_message
-taken_table Nothing ρ = refl
-taken_table (Taking k) ρ = refl
+taken_table None ρ = refl
+taken_table (Some k) ρ = refl
 
 node_table : (b : Becomes) (x time : ℕ) (o : Own) (ρ : Ring) → (node_changed b x time o ρ).table ≡ ρ.table
 node_table Stays x time o ρ = refl

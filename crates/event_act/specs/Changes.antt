@@ -1,9 +1,9 @@
 -- What a change does to a ring, and what a decision is.
-use Rattle.std.specs.Prelude.{◌≡◌, Bool, true, false, List, [], ◌++◌, ℕ, ◌+◌, ◌^◌, ◌<◌, ◌≤◌, length}
+use Rattle.std.specs.Prelude.{◌≡◌, Bool, true, false, List, [], ◌++◌, ℕ, ◌+◌, ◌^◌, ◌<◌, ◌≤◌, length, Option, None, Some, Result, IfOk}
 use Rattle.model.specs.Leafset.{size}
 use Rattle.model.specs.Ring.{Own, Message as InFlight, Ring, message_at, sent_by}
 use Rattle.model.specs.WellFormed.{Each}
-use Rattle.model.specs.Answers.{first_of, number_of}
+use Rattle.model.specs.Answers.{first_of, answer_number}
 use Rattle.model.specs.Words.{decode_table, decode, reads_as_ring}
 use Rattle.model.specs.Play.{set_messages, remove_message, started, stopped, after, left_refusals, state_refusals}
 use Rattle.model.specs.Structs.{own_of, RoomNode}
@@ -13,25 +13,23 @@ use Rattle.model.specs.declared.values.NodeNumber.{NodeNumber}
 use Rattle.model.specs.declared.values.Stamp.{Stamp}
 use Rattle.records.specs.Effects.{effect_of, SendsFit, Leaves}
 use Rattle.records.specs.declared.effect.EffectRecord.{EffectRecord}
-use Rattle.event_act.specs.declared.decision.Taken.{Taken}
-use Rattle.event_act.specs.declared.decision.Taken.TheVariants.{Nothing, Message}
 use Rattle.event_act.specs.declared.decision.Becomes.{Becomes}
 use Rattle.event_act.specs.declared.decision.Becomes.TheVariants.{Stays, Starts, Stops, Acts}
 use Rattle.event_act.specs.declared.decision.Change.{Change}
-use Rattle.event_act.specs.declared.decision.Decision.{Decision}
+use Rattle.model.specs.declared.refusal.Refusal.{Refusal}
 
-abbrev pub TakenLow : ℕ → Taken → Type 0
-TakenLow m Nothing = Unit
-TakenLow m (Message k) = k < m
+abbrev pub TakenLow : ℕ → Option ℕ → Type 0
+TakenLow m None = Unit
+TakenLow m (Some k) = k < m
 
-abbrev pub taken_out : Taken → Ring → Ring
-taken_out Nothing ρ = ρ
-taken_out (Message k) ρ = remove_message k ρ
+abbrev pub taken_out : Option ℕ → Ring → Ring
+taken_out None ρ = ρ
+taken_out (Some k) ρ = remove_message k ρ
 
 -- the message that is taken out is none of x's
-abbrev pub TakenOther : Ring → Taken → ℕ → Type 0
-TakenOther ρ Nothing x = Unit
-TakenOther ρ (Message k) x = (message_at ρ k).sender ≡ x → ⊥
+abbrev pub TakenOther : Ring → Option ℕ → ℕ → Type 0
+TakenOther ρ None x = Unit
+TakenOther ρ (Some k) x = (message_at ρ k).sender ≡ x → ⊥
 
 abbrev pub node_changed : Becomes → ℕ → ℕ → Own → Ring → Ring
 node_changed Stays x time o ρ = ρ
@@ -80,19 +78,19 @@ pub record Writable (ws : List ℕ) (c : Change) : Type 0 where
   pub few : length (changed c (decode ws)).messages ≤ 1024
 
 -- d is the change c of the ring ρ, unless too many messages would be left, of all or of a sender
-pub record Decided (ρ : Ring) (c : Change) (d : Decision) : Type 0 where
-  pub answer : number_of d.answer ≡ first_of (left_refusals (changed c ρ))
-  pub change : number_of d.answer ≡ 0 → d.change ≡ c
+pub record Decided (ρ : Ring) (c : Change) (d : Result Change Refusal) : Type 0 where
+  pub answer : answer_number d ≡ first_of (left_refusals (changed c ρ))
+  pub change : IfOk d (λ x. x ≡ c)
 
 -- the same of a node that sends nothing
-pub record Silent (ρ : Ring) (taken : Taken) (x : NodeNumber) (becomes : Becomes) (time : Stamp) (d : Decision) : Type 0 where
+pub record Silent (ρ : Ring) (taken : Option ℕ) (x : NodeNumber) (becomes : Becomes) (time : Stamp) (d : Result Change Refusal) : Type 0 where
   pub effect : EffectRecord
   pub own : Own
   pub quiet : (n : ℕ) → Leaves n x.0 time.0 effect (record { own = own; sent = [] })
   pub decided : Decided ρ (record { taken = taken; node = x; becomes = becomes; time = time; effect = effect }) d
 
 -- d is the answer of the event e on the words, and where it is accepted a change that leaves what e does
-pub record Decides (ws : List ℕ) (e : Event) (d : Decision) : Type 0 where
-  pub answer : number_of d.answer ≡ first_of (state_refusals (decode ws) e)
-  pub writable : number_of d.answer ≡ 0 → Writable ws d.change
-  pub leaves : number_of d.answer ≡ 0 → changed d.change (decode ws) ≡ after (decode ws) e
+pub record Decides (ws : List ℕ) (e : Event) (d : Result Change Refusal) : Type 0 where
+  pub answer : answer_number d ≡ first_of (state_refusals (decode ws) e)
+  pub writable : IfOk d (Writable ws)
+  pub leaves : IfOk d (λ c. changed c (decode ws) ≡ after (decode ws) e)

@@ -6,21 +6,14 @@ ghost use Rattle.model.specs.Words.{decode_table, decode, reads_as_ring};
 ghost use Rattle.event_act.specs.declared.decision.Becomes.TheVariants.{Acts};
 ghost use Rattle.event_act.specs.Changes.{TakenLow, taken_out, Counts, Full, Decided, Silent};
 
-use model::answer::Answer;
+use model::refusal::Refusal;
 use model::values::{NodeNumber, Stamp};
-use records::effect::EffectRecord;
+use records::effect::{EffectRecord, count};
 use records::own;
 use word_ring::limit;
 
-// The message that is taken out first.
-#[derive(Clone, Copy)]
-pub enum Taken {
-    Nothing,
-    Message(usize),
-}
-
 // What becomes of the node.
-#[derive(Clone, Copy)]
+#[derive(Clone, Copy, Debug, PartialEq, Eq)]
 pub enum Becomes {
     Stays,
     Starts,
@@ -28,49 +21,25 @@ pub enum Becomes {
     Acts,
 }
 
-// A message taken out; then the node changed, its clock `time` where it rises; then messages sent by it.
+// A message taken out, by its position, or none; then the node changed, its clock `time` where it rises; then messages sent by it.
 #[derive(Clone, Copy)]
 pub struct Change {
-    pub taken: Taken,
+    pub taken: Option<usize>,
     pub node: NodeNumber,
     pub becomes: Becomes,
     pub time: Stamp,
     pub effect: EffectRecord,
 }
 
-// An event's answer, and where it is accepted what is to be written.
-#[derive(Clone, Copy)]
-pub struct Decision {
-    pub answer: Answer,
-    pub change: Change,
-}
-
-impl Decision {
-    pub fn refused(answer: Answer) -> Decision
-        ensures answer { result.answer ≡ answer }
-    {
-        Decision {
-            answer,
-            change: Change {
-                taken: Taken::Nothing,
-                node: NodeNumber(0),
-                becomes: Becomes::Stays,
-                time: Stamp(0),
-                effect: EffectRecord::quiet(own::empty()),
-            },
-        }
-    }
-}
-
 // How many of m messages are left.
-fn left(m: usize, taken: Taken) -> usize
+fn left(m: usize, taken: Option<usize>) -> usize
     requires taken { TakenLow m taken }
     ensures value { (ρ : Ring) → length ρ.messages ≡ m → result ≡ length (taken_out taken ρ).messages }
     ensures bound { result ≤ m }
 {
     match taken {
-        Taken::Nothing => m,
-        Taken::Message(_) => m - 1,
+        None => m,
+        Some(_) => m - 1,
     }
 }
 
@@ -91,43 +60,31 @@ fn sender_full(words: &[u32], m: usize, x: NodeNumber, sent: usize, all: usize) 
 }
 
 // The change, on words of m messages, unless too many would be left, of all or of the node: 11 and 17.
-pub fn decided(words: &[u32], m: usize, change: Change) -> Decision
+pub fn decided(words: &[u32], m: usize, change: Change) -> Result<Change, Refusal>
     requires counts { Counts words.now m change }
     ensures decided { Decided (decode words.now) change result }
 {
     let effect = change.effect;
-    let first = effect.first;
-    let second = effect.second;
-    let taken = change.taken;
-    let sent = records::effect::count(first) + records::effect::count(second);
-    let all = left(m, taken) + sent;
+    let sent = count(effect.first) + count(effect.second);
+    let all = left(m, change.taken) + sent;
     if limit::MESSAGES < all {
-        return Decision {
-            answer: Answer::PoolFull,
-            change,
-        };
+        return Err(Refusal::PoolFull);
     }
     if sender_full(words, m, change.node, sent, all) {
-        return Decision {
-            answer: Answer::SenderFull,
-            change,
-        };
+        return Err(Refusal::SenderFull);
     }
-    Decision {
-        answer: Answer::Accepted,
-        change,
-    }
+    Ok(change)
 }
 
 // Node x acts at `time` with the effect of its step.
 pub fn acting(
     words: &[u32],
     m: usize,
-    taken: Taken,
+    taken: Option<usize>,
     x: NodeNumber,
     time: Stamp,
     effect: EffectRecord,
-) -> Decision
+) -> Result<Change, Refusal>
     requires counts { Counts words.now m
         (record { taken = taken; node = x; becomes = Acts; time = time; effect = effect }) }
     ensures decided { Decided (decode words.now)
@@ -150,11 +107,11 @@ pub fn acting(
 pub fn silent(
     words: &[u32],
     m: usize,
-    taken: Taken,
+    taken: Option<usize>,
     x: NodeNumber,
     becomes: Becomes,
     time: Stamp,
-) -> Decision
+) -> Result<Change, Refusal>
     requires ring { (reads_as_ring words.now ≡ true) × (m ≡ length (decode words.now).messages) }
     requires change { TakenLow m taken × (x.0 < size (decode_table words.now)) }
     ensures decided { Silent (decode words.now) taken x becomes time result }

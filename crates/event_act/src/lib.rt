@@ -6,12 +6,12 @@ pub mod decision;
 pub mod write;
 
 ghost use Rattle.std.specs.Prelude.{◌≡◌, true};
-ghost use Rattle.model.specs.Answers.{number_of, first_of};
+ghost use Rattle.model.specs.Answers.{answer_number, first_of};
 ghost use Rattle.model.specs.Words.{decode, reads_as_ring};
 ghost use Rattle.event_act.specs.Acting.{may_act, IsActor};
 
-use model::answer::Answer;
 use model::node::NodeRecord;
+use model::refusal::Refusal;
 use model::values::{NodeNumber, Stamp};
 use word_ring::limit;
 
@@ -25,20 +25,20 @@ pub struct Actor {
 }
 
 // Whether node x is in the table, runs, and has a clock that can rise: 7, 8 and 10.
-pub fn may_act(words: &[u32], x: NodeNumber) -> Answer
+pub fn may_act(words: &[u32], x: NodeNumber) -> Result<(), Refusal>
     requires ring { reads_as_ring words.now ≡ true }
-    ensures answer { number_of result ≡ first_of (may_act (decode words.now) x.0) }
+    ensures answer { answer_number result ≡ first_of (may_act (decode words.now) x.0) }
 {
-    if ring_head::nodes(words) <= x.0 as usize {
-        return Answer::OutOfTable;
+    if ring_head::nodes(words) <= x.index() {
+        return Err(Refusal::OutOfTable);
     }
     if !ring_nodes::is_running(words, x) {
-        return Answer::NodeOff;
+        return Err(Refusal::NodeOff);
     }
     if ring_nodes::clock(words, x).0 == limit::CLOCK {
-        return Answer::ClockSpent;
+        return Err(Refusal::ClockSpent);
     }
-    Answer::Accepted
+    Ok(())
 }
 
 // Node x, which may act.

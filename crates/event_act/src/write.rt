@@ -7,19 +7,19 @@ ghost use Rattle.ring_head.specs.Parts.{Encodes};
 ghost use Rattle.event_act.specs.declared.decision.Becomes.TheVariants.{Starts};
 ghost use Rattle.event_act.specs.Changes.{TakenLow, taken_out, node_changed, changed, Writable};
 
-use super::decision::{Becomes, Change, Taken};
+use super::decision::{Becomes, Change};
 use model::node::NodeRecord;
 use model::values::{NodeNumber, Stamp};
 
 // Takes the message out of m. How many are left.
-fn take_out(words: &mut [u32], m: usize, taken: Taken) -> usize
+fn take_out(words: &mut [u32], m: usize, taken: Option<usize>) -> usize
     requires words { (length words.old ≡ ring_length) × (m ≤ 1024) × TakenLow m taken }
     ensures ring { (ρ : Ring) (n : ℕ) → Encodes words.old n m ρ
         → Encodes words.new n result (taken_out taken ρ) }
 {
     match taken {
-        Taken::Nothing => m,
-        Taken::Message(k) => {
+        None => m,
+        Some(k) => {
             ring_messages::remove(words, m, k);
             m - 1
         }
@@ -54,16 +54,13 @@ pub fn write(words: &mut [u32], change: Change)
 {
     let n = ring_head::nodes(words);
     let m = ring_head::messages(words);
-    let taken = change.taken;
     let x = change.node;
-    let becomes = change.becomes;
     let time = change.time;
+    let becomes = change.becomes;
     let effect = change.effect;
     let own = effect.own;
-    let first = effect.first;
-    let second = effect.second;
-    let left = take_out(words, m, taken);
+    let left = take_out(words, m, change.taken);
     write_node(words, n, x, becomes, time, own);
-    let sent = ring_messages::send(words, left, x, time, own, first);
-    ring_messages::send(words, sent, x, time, own, second);
+    let sent = ring_messages::send(words, left, x, time, own, effect.first);
+    ring_messages::send(words, sent, x, time, own, effect.second);
 }

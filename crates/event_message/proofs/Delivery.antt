@@ -6,6 +6,7 @@ use Prim.Native.Nat.{ℕ, ◌<◌}
 use native.Mathlib.Omega.{arith}
 use lib.Dec.{lit<}
 use lib.ListN.{length}
+use Rattle.std.specs.Prelude.{Option, Result}
 use Rattle.model.specs.Leafset.{size}
 use Rattle.model.specs.Ring.{Own, Node, Message, Ring, is_running, message_at}
 use Rattle.model.specs.Steps.{Effect, deliver}
@@ -29,9 +30,9 @@ use Rattle.answers.proofs.Refusals.{runs, a_message}
 use Rattle.event_act.specs.Acting.{may_act, IsActor}
 use Rattle.event_act.specs.Changes.{TakenLow, TakenOther, taken_out, Counts, Decided, Silent, Decides}
 use Rattle.event_act.specs.declared.Actor.{Actor}
-use Rattle.event_act.specs.declared.decision.Taken.{Taken}
 use Rattle.event_act.specs.declared.decision.Becomes.TheVariants.{Stays}
-use Rattle.event_act.specs.declared.decision.Decision.{Decision}
+use Rattle.event_act.specs.declared.decision.Change.{Change}
+use Rattle.model.specs.declared.refusal.Refusal.{Refusal as Kind}
 use Rattle.event_act.proofs.Actors.{actor_sends}
 use Rattle.event_act.proofs.Leaving.{never_starts, acts, acting_counts, acting_decides, silent_decides}
 use Rattle.event_message.specs.Arrivals.{taken_by}
@@ -82,7 +83,7 @@ receive_on : (m : Message) (s : Ring) → is_running s m.receiver ≡ true
 receive_on m s on = rw on
 
 -- what is taken out, by whether it is an echo
-module _ (k : ℕ) (echo : Bool) {t : Taken} (e : t ≡ taken_by k echo) where
+module _ (k : ℕ) (echo : Bool) {t : Option ℕ} (e : t ≡ taken_by k echo) where
   pub taken_low : {m : ℕ} → k < m → TakenLow m t
   taken_low {m} h = subst (TakenLow m) (sym e) (by_echo echo)
     where
@@ -91,14 +92,14 @@ module _ (k : ℕ) (echo : Bool) {t : Taken} (e : t ≡ taken_by k echo) where
       by_echo false = h
 
   pub taken_other : (ρ : Ring) {x : ℕ} → ((message_at ρ k).sender ≡ x → ⊥) → TakenOther ρ t x
-  taken_other ρ {x} d = subst (λ (q : Taken). TakenOther ρ q x) (sym e) (by_echo echo)
+  taken_other ρ {x} d = subst (λ (q : Option ℕ). TakenOther ρ q x) (sym e) (by_echo echo)
     where
       by_echo : (b : Bool) → TakenOther ρ (taken_by k b) x
       by_echo true = tt
       by_echo false = d
 
   arrives : (ρ : Ring) → taken_out t ρ ≡ arrived k echo ρ
-  arrives ρ = ap (λ (q : Taken). taken_out q ρ) e ∙ by_echo echo
+  arrives ρ = ap (λ (q : Option ℕ). taken_out q ρ) e ∙ by_echo echo
     where
       by_echo : (b : Bool) → taken_out (taken_by k b) ρ ≡ arrived k b ρ
       by_echo true = refl
@@ -132,7 +133,7 @@ module _ (k : ℕ) (echo : Bool) {t : Taken} (e : t ≡ taken_by k echo) where
 -- ---- the decision
 
 module _ {ws : List ℕ} {k : ℕ} {q : MessageRecord} (reads : reads_as_ring ws ≡ true) (loaded : LoadedMessage ws k q) (low : k < length (decode ws).messages)
-    (echo : Bool) {t : Taken} (e : t ≡ taken_by k echo) where
+    (echo : Bool) {t : Option ℕ} (e : t ≡ taken_by k echo) where
   abbrev y : ℕ
   y = q.receiver.0
 
@@ -140,7 +141,7 @@ module _ {ws : List ℕ} {k : ℕ} {q : MessageRecord} (reads : reads_as_ring ws
   running is = ap (λ (s : Node). s.running) (read_node ws y) ∙ is
 
   -- to a node that is off: what is taken out, and nothing else
-  pub off_decides : (decode_node ws y).running ≡ false → {d : Decision} → Silent (decode ws) t q.receiver Stays (record { 0 = 0 }) d
+  pub off_decides : (decode_node ws y).running ≡ false → {d : Result Change Kind} → Silent (decode ws) t q.receiver Stays (record { 0 = 0 }) d
       → Decides ws (Deliver k echo) d
   off_decides off done =
       silent_decides ws reads done (Deliver k echo) (need_not_rise loaded low off echo) (taken_low k echo e low)
@@ -165,7 +166,7 @@ module _ {ws : List ℕ} {k : ℕ} {q : MessageRecord} (reads : reads_as_ring ws
         (taken_other k echo e (decode ws) (other_sender loaded low reads))
 
     pub on_decides : (decode_node ws y).running ≡ true → first_of (may_act (decode ws) y) ≡ 0
-        → {d : Decision} → Decided (decode ws) (acts t q.receiver a r) d → Decides ws (Deliver k echo) d
+        → {d : Result Change Kind} → Decided (decode ws) (acts t q.receiver a r) d → Decides ws (Deliver k echo) d
     on_decides on passed {d} decided =
         acting_decides reads is r receives left t (Deliver k echo) (sym (must_rise loaded low reads on echo) ∙ passed) (taken_low k echo e low)
         (delivered_on k echo e (decode ws) (message_of q) (is_message loaded low) (running on)) d decided

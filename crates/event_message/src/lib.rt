@@ -11,45 +11,39 @@ ghost use Rattle.event_act.specs.Acting.{IsActor};
 ghost use Rattle.event_act.specs.Changes.{Decides};
 ghost use Rattle.event_message.specs.Arrivals.{taken_by};
 
-use event_act::decision::{Becomes, Decision, Taken};
+use event_act::decision::{Becomes, Change};
 use event_act::{Actor, decision};
-use model::answer::Answer;
 use model::message::MessageRecord;
+use model::refusal::Refusal;
 use model::values::{NodeNumber, Stamp};
 use records::effect::EffectRecord;
 
 // "Delivery takes the message out first; to a stand that is off, nothing else happens." An echo leaves it.
-pub fn deliver(words: &[u32], position: u16, echo: bool) -> Decision
+pub fn deliver(words: &[u32], position: u16, echo: bool) -> Result<Change, Refusal>
     requires ring { reads_as_ring words.now ≡ true }
     ensures decides { Decides words.now (Deliver position echo) result }
 {
     let m = ring_head::messages(words);
     let k = position as usize;
     if m <= k {
-        return Decision::refused(Answer::OutOfTable);
+        return Err(Refusal::OutOfTable);
     }
     let message = ring_messages::load(words, k);
     let y = message.receiver;
     if !ring_nodes::is_running(words, y) {
         return decision::silent(words, m, taken(k, echo), y, Becomes::Stays, Stamp(0));
     }
-    let answer = event_act::may_act(words, y);
-    if answers::is_refusal(answer) {
-        return Decision::refused(answer);
-    }
+    event_act::may_act(words, y)?;
     let actor = event_act::load(words, y);
     let effect = step(words, actor, message);
     decision::acting(words, m, taken(k, echo), y, actor.time, effect)
 }
 
 // The message at k is taken out, unless it is echoed.
-fn taken(k: usize, echo: bool) -> Taken
+fn taken(k: usize, echo: bool) -> Option<usize>
     ensures value { result ≡ taken_by k echo }
 {
-    if echo {
-        return Taken::Nothing;
-    }
-    Taken::Message(k)
+    if echo { None } else { Some(k) }
 }
 
 // The step of the message, by its receiver.
@@ -73,21 +67,14 @@ fn step(words: &[u32], actor: Actor, message: MessageRecord) -> EffectRecord
     )
 }
 
-pub fn lose(words: &[u32], position: u16) -> Decision
+pub fn lose(words: &[u32], position: u16) -> Result<Change, Refusal>
     requires ring { reads_as_ring words.now ≡ true }
     ensures decides { Decides words.now (Lose position) result }
 {
     let m = ring_head::messages(words);
     let k = position as usize;
     if m <= k {
-        return Decision::refused(Answer::OutOfTable);
+        return Err(Refusal::OutOfTable);
     }
-    decision::silent(
-        words,
-        m,
-        Taken::Message(k),
-        NodeNumber(0),
-        Becomes::Stays,
-        Stamp(0),
-    )
+    decision::silent(words, m, Some(k), NodeNumber(0), Becomes::Stays, Stamp(0))
 }

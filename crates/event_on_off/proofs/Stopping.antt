@@ -18,8 +18,8 @@ use Rattle.model.proofs.WellFormedSteps.{leaving_well}
 use Rattle.ring_head.specs.Parts.{update}
 use Rattle.records.specs.declared.effect.EffectRecord.{EffectRecord}
 use Rattle.answers.proofs.Refusals.{runs}
+use Rattle.std.specs.Prelude.{None}
 use Rattle.event_act.specs.declared.decision.Change.{Change}
-use Rattle.event_act.specs.declared.decision.Taken.TheVariants.{Nothing}
 use Rattle.event_act.specs.declared.decision.Becomes.TheVariants.{Stops}
 
 module _ (ρ : Ring) (x : NodeNumber) {polite : Bool} where
@@ -47,4 +47,4 @@ may_stop ws x low running = runs ws x [] low running ∙ no_more
 
 -- the node stops, and sends what the effect says
 abbrev pub stopping : NodeNumber → EffectRecord → Change
-stopping x r = record { taken = Nothing; node = x; becomes = Stops; time = record { 0 = 0 }; effect = r }
+stopping x r = record { taken = None; node = x; becomes = Stops; time = record { 0 = 0 }; effect = r }

@@ -7,51 +7,44 @@ ghost use Rattle.model.specs.declared.event.Event.TheVariants.{On, Off};
 ghost use Rattle.event_act.specs.Changes.{Decides};
 
 use event_act::decision;
-use event_act::decision::{Becomes, Change, Decision, Taken};
-use model::answer::Answer;
+use event_act::decision::{Becomes, Change};
+use model::refusal::Refusal;
 use model::values::{NodeNumber, Stamp};
 use word_ring::limit;
 
-pub fn on(words: &[u32], x: NodeNumber) -> Decision
+pub fn on(words: &[u32], x: NodeNumber) -> Result<Change, Refusal>
     requires ring { reads_as_ring words.now ≡ true }
     ensures decides { Decides words.now (On x) result }
 {
-    if ring_head::nodes(words) <= x.0 as usize {
-        return Decision::refused(Answer::OutOfTable);
+    if ring_head::nodes(words) <= x.index() {
+        return Err(Refusal::OutOfTable);
     }
     if ring_nodes::is_running(words, x) {
-        return Decision::refused(Answer::AlreadyRunning);
+        return Err(Refusal::AlreadyRunning);
     }
     let clock = ring_nodes::clock(words, x).0;
     if clock == limit::CLOCK {
-        return Decision::refused(Answer::ClockSpent);
+        return Err(Refusal::ClockSpent);
     }
     let m = ring_head::messages(words);
-    decision::silent(
-        words,
-        m,
-        Taken::Nothing,
-        x,
-        Becomes::Starts,
-        Stamp(clock + 1),
-    )
+    decision::silent(words, m, None, x, Becomes::Starts, Stamp(clock + 1))
 }
 
 // Polite, it first sends type 13 to each held node.
-pub fn off(words: &[u32], x: NodeNumber, polite: bool) -> Decision
+pub fn off(words: &[u32], x: NodeNumber, polite: bool) -> Result<Change, Refusal>
     requires ring { reads_as_ring words.now ≡ true }
     ensures decides { Decides words.now (Off x polite) result }
 {
     let n = ring_head::nodes(words);
-    if n <= x.0 as usize {
-        return Decision::refused(Answer::OutOfTable);
+    if n <= x.index() {
+        return Err(Refusal::OutOfTable);
     }
     if !ring_nodes::is_running(words, x) {
-        return Decision::refused(Answer::NodeOff);
+        return Err(Refusal::NodeOff);
     }
     let m = ring_head::messages(words);
     if !polite {
-        return decision::silent(words, m, Taken::Nothing, x, Becomes::Stops, Stamp(0));
+        return decision::silent(words, m, None, x, Becomes::Stops, Stamp(0));
     }
     let own = ring_pairs::load(words, n, x);
     let effect = step_leave::leaving(own);
@@ -59,7 +52,7 @@ pub fn off(words: &[u32], x: NodeNumber, polite: bool) -> Decision
         words,
         m,
         Change {
-            taken: Taken::Nothing,
+            taken: None,
             node: x,
             becomes: Becomes::Stops,
             time: Stamp(0),

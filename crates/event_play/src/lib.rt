@@ -7,13 +7,13 @@ ghost use Rattle.model.specs.Buffer.{play_buffer};
 ghost use Rattle.answers.specs.Applied.{written, event_on};
 ghost use Rattle.event_act.specs.Changes.{Decides};
 
-use event_act::decision::Decision;
+use event_act::decision::Change;
 use event_act::write;
-use model::answer::Answer;
-use model::event::{Event, Reading};
+use model::event::Event;
+use model::refusal::Refusal;
 
 // What the event would do: 7 to 11 and 17, or the change that it makes.
-pub fn decide(words: &[u32], e: Event) -> Decision
+pub fn decide(words: &[u32], e: Event) -> Result<Change, Refusal>
     requires ring { reads_as_ring words.now ≡ true }
     ensures decides { Decides words.now e result }
 {
@@ -29,28 +29,21 @@ pub fn decide(words: &[u32], e: Event) -> Decision
 }
 
 // Decides, then writes.
-pub fn play_event(words: &mut [u32], e: Event) -> Answer
+#[tactic(auto, using(crate::proofs::Plays::is_written))]
+pub fn play_event(words: &mut [u32], e: Event) -> Result<(), Refusal>
     requires ring { reads_as_ring words.old ≡ true }
     ensures written { written result words.new ≡ event_on words.old e }
 {
-    let decision = decide(words, e);
-    let answer = decision.answer;
-    if answers::is_refusal(answer) {
-        return answer;
-    }
-    let change = decision.change;
+    let change = decide(words, e)?;
     write::write(words, change);
-    answer
+    Ok(())
 }
 
 // 4 and 5 of the word, then those of the event.
-pub fn play_word(words: &mut [u32], word: u32) -> Answer
+pub fn play_word(words: &mut [u32], word: u32) -> Result<(), Refusal>
     requires ring { reads_as_ring words.old ≡ true }
     ensures written { written result words.new ≡ play_buffer words.old word }
 {
-    let reading = word_event::read_event(word);
-    match reading {
-        Reading::Refused(answer) => answer,
-        Reading::Read(e) => play_event(words, e),
-    }
+    let e = word_event::read_event(word)?;
+    play_event(words, e)
 }

@@ -10,23 +10,21 @@ ghost use Rattle.records.specs.Effects.{Leaves};
 ghost use Rattle.event_act.specs.Acting.{IsActor};
 ghost use Rattle.event_act.specs.Changes.{Decides};
 
-use event_act::decision::{Decision, Taken};
+use event_act::decision::Change;
 use event_act::{Actor, decision};
+use model::refusal::Refusal;
 use model::values::NodeNumber;
 use records::effect::EffectRecord;
 
 // Timer k at node x. 1 and above 4 no timer has a step: only the clock rises.
-pub fn timer(words: &[u32], x: NodeNumber, k: u8) -> Decision
+pub fn timer(words: &[u32], x: NodeNumber, k: u8) -> Result<Change, Refusal>
     requires ring { reads_as_ring words.now ≡ true }
     ensures decides { Decides words.now (Timer x k) result }
 {
-    let answer = event_act::may_act(words, x);
-    if answers::is_refusal(answer) {
-        return Decision::refused(answer);
-    }
+    event_act::may_act(words, x)?;
     let actor = event_act::load(words, x);
     let effect = step(words, x, k, actor);
-    decision::acting(words, actor.m, Taken::Nothing, x, actor.time, effect)
+    decision::acting(words, actor.m, None, x, actor.time, effect)
 }
 
 // The step of timer k, by the node x.

@@ -4,9 +4,8 @@ use mathlib.Core.Path.{refl, sym, ◌∙◌}
 use native.Mathlib.Omega.{arith}
 use Rattle.model.proofs.Answers.{here}
 use Rattle.answers.proofs.Valid.{long, room}
-use Rattle.answers.proofs.Answered.{accepted}
 use Rattle.answers.proofs.Refusals
-use Rattle.event_act.proofs.Decides.{refused_before, asked_refused}
+use Rattle.event_act.proofs.Decides.{refused_before, refused_with}
 use Rattle.event_message.proofs.Delivery
 use borrow.Author.Tests.{not-true, not-false}
 use Rattle.event_message.proofs.deliver.Goals as goal
@@ -15,7 +14,7 @@ pub messages-m-requires : goal.messages-m-requires
 messages-m-requires c = record { length = long _ c.requires.ring }
 
 pub returns-then-m-k : goal.returns-then-m-k
-returns-then-m-k c = record { decides = refused_before c.refused.ensures.answer (here _ _ (Refusals.no_message_lem _ _ (omega (arith, c.messages-m.ensures.value)))) refl }
+returns-then-m-k c = record { decides = refused_before _ refl (here _ _ (Refusals.no_message_lem _ _ (omega (arith, c.messages-m.ensures.value)))) }
 
 pub load-message-requires : goal.load-message-requires
 load-message-requires c =
@@ -48,19 +47,19 @@ returns-then-not-is_running c = record {
       c.taken.ensures.value (sym c.is_running.ensures.value ∙ c.if-not-is_running.true) c.silent.ensures.decided;
 }
 
-pub returns-then-is_refusal : goal.returns-then-is_refusal
-returns-then-is_refusal c = record {
+pub returns-in_err-may_act : goal.returns-in_err-may_act
+returns-in_err-may_act c = record {
   decides =
       let on = sym c.is_running.ensures.value ∙ c.if-not-is_running.false in
       let rise = Delivery.must_rise c.load-message.ensures.loaded (omega (arith, c.messages-m.ensures.value)) c.requires.ring on c.args.echo in
-      asked_refused c.refused-then-is_refusal.ensures.answer (c.may_act-answer.ensures.answer ∙ rise) c.is_refusal.ensures.value c.if-is_refusal.true;
+      refused_with _ c.from_residual.ensures.1 (c.in_err-may_act.ensures.answer ∙ rise);
 }
 
 pub load-actor-requires : goal.load-actor-requires
 load-actor-requires c =
     record {
       ring = c.requires.ring;
-      actor = accepted c.may_act-answer.result _ c.may_act-answer.ensures.answer c.is_refusal.ensures.value c.if-is_refusal.false;
+      actor = sym c.in_ok-may_act.ensures.answer;
     }
 
 pub step-effect-requires : goal.step-effect-requires
@@ -80,5 +79,5 @@ returns c = record {
       Delivery.on_decides c.requires.ring c.load-message.ensures.loaded (omega (arith, c.messages-m.ensures.value, c.if-m-k.false))
       c.args.echo c.taken-2.ensures.value c.load-actor.ensures.actor c.step-effect.ensures.effect
       (sym c.is_running.ensures.value ∙ c.if-not-is_running.false)
-      (accepted c.may_act-answer.result _ c.may_act-answer.ensures.answer c.is_refusal.ensures.value c.if-is_refusal.false) c.acting.ensures.decided;
+      (sym c.in_ok-may_act.ensures.answer) c.acting.ensures.decided;
 }

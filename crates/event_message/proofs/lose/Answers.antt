@@ -18,7 +18,7 @@ pub messages-m-requires : goal.messages-m-requires
 messages-m-requires c = record { length = long _ c.requires.ring }
 
 pub returns-then-m-k : goal.returns-then-m-k
-returns-then-m-k c = record { decides = refused_before c.refused.ensures.answer (here _ _ (Refusals.no_message_lem _ _ (omega (arith, c.messages-m.ensures.value)))) refl }
+returns-then-m-k c = record { decides = refused_before _ refl (here _ _ (Refusals.no_message_lem _ _ (omega (arith, c.messages-m.ensures.value)))) }
 
 pub silent-requires : goal.silent-requires
 silent-requires c =

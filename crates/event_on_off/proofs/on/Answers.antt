@@ -18,38 +18,38 @@ use Rattle.event_on_off.proofs.on.Goals as goal
 pub nodes-requires : goal.nodes-requires
 nodes-requires c = record { length = long _ c.requires.ring }
 
-pub returns-then-nodes-x : goal.returns-then-nodes-x
-returns-then-nodes-x c = record { decides = refused_before c.refused.ensures.answer (here _ _ (Refusals.out_of_table _ _ (omega (arith, c.nodes.ensures.value)))) refl }
+pub returns-then-nodes-index : goal.returns-then-nodes-index
+returns-then-nodes-index c = record { decides = refused_before _ refl (here _ _ (Refusals.out_of_table _ _ (omega (arith, c.nodes.ensures.value, c.index.ensures.value)))) }
 
 pub is_running-requires : goal.is_running-requires
 is_running-requires c =
     record {
       length = long _ c.requires.ring;
-      bounds = omega (arith, c.nodes.ensures.value);
+      bounds = omega (arith, c.nodes.ensures.value, c.index.ensures.value);
     }
 
 pub returns-then-is_running : goal.returns-then-is_running
 returns-then-is_running c = record {
   decides =
-      refused_before c.refused-then-is_running.ensures.answer
-      (next _ _ (Refusals.in_table _ _ (omega (arith, c.nodes.ensures.value)))
-      ∙ here _ _ (Refusals.started _ _ (sym c.is_running.ensures.value ∙ c.if-is_running.true))) refl;
+      refused_before _ refl
+      (next _ _ (Refusals.in_table _ _ (omega (arith, c.nodes.ensures.value, c.index.ensures.value)))
+      ∙ here _ _ (Refusals.started _ _ (sym c.is_running.ensures.value ∙ c.if-is_running.true)));
 }
 
 pub clock-clock-requires : goal.clock-clock-requires
 clock-clock-requires c =
     record {
       length = long _ c.requires.ring;
-      bounds = omega (arith, c.nodes.ensures.value);
+      bounds = omega (arith, c.nodes.ensures.value, c.index.ensures.value);
     }
 
 pub returns-then-clock-eq-CLOCK : goal.returns-then-clock-eq-CLOCK
 returns-then-clock-eq-CLOCK c = record {
   decides =
-      refused_before c.refused-then-clock-eq-CLOCK.ensures.answer
-      (next _ _ (Refusals.in_table _ _ (omega (arith, c.nodes.ensures.value)))
+      refused_before _ refl
+      (next _ _ (Refusals.in_table _ _ (omega (arith, c.nodes.ensures.value, c.index.ensures.value)))
       ∙ next _ _ (Refusals.stopped _ _ (sym c.is_running.ensures.value ∙ c.if-is_running.false))
-      ∙ here _ _ (Refusals.spent _ _ (sym c.clock-clock.ensures.value ∙ c.if-clock-eq-CLOCK.true))) refl;
+      ∙ here _ _ (Refusals.spent _ _ (sym c.clock-clock.ensures.value ∙ c.if-clock-eq-CLOCK.true)));
 }
 
 pub messages-m-requires : goal.messages-m-requires
@@ -63,7 +63,7 @@ pub silent-requires : goal.silent-requires
 silent-requires c =
     record {
       ring = (c.requires.ring, c.messages-m.ensures.value);
-      change = (tt, omega (arith, c.nodes.ensures.value));
+      change = (tt, omega (arith, c.nodes.ensures.value, c.index.ensures.value));
     }
 
 pub returns : goal.returns
@@ -72,7 +72,7 @@ returns c = record {
   decides =
       let ws : List ℕ = c.args.words.now in
       let x : ℕ = c.args.x.0 in
-      let in_table : x < size (decode_table ws) = omega (arith, c.nodes.ensures.value) in
+      let in_table : x < size (decode_table ws) = omega (arith, c.nodes.ensures.value, c.index.ensures.value) in
       let now : c.clock-clock.result.0 + 1 ≡ ((decode ws).node x).clock + 1 =
       ap (λ (k : ℕ). k + 1) (c.clock-clock.ensures.value ∙ ap (λ (s : Node). s.clock) (sym (read_node ws x)))
       in

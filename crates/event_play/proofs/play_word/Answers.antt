@@ -1,16 +1,21 @@
 use mathlib.Core.Path.{◌∙◌}
 use borrow.Author.Tests.{eq-eqb}
+use Rattle.model.proofs.Given.{passed_on}
 use Rattle.answers.proofs.Answered.{refused_word}
 use Rattle.answers.proofs.Valid.{long}
 use Rattle.answers.proofs.Stages.{not_an_event, an_event}
 use Rattle.event_play.proofs.play_word.Goals as goal
 
-pub returns-in-Refused : goal.returns-in-Refused
-returns-in-Refused c = record { written = refused_word _ _ _ (not_an_event _ _ (eq-eqb _ _ (long _ c.requires.ring)) c.read_event-reading.ensures.value c.in-Refused.is) }
+pub returns-in_err-e : goal.returns-in_err-e
+returns-in_err-e c = record {
+  written =
+      refused_word _ _ (passed_on _ _ c.from_residual.ensures.1)
+      (not_an_event _ _ (eq-eqb _ _ (long _ c.requires.ring)) c.read_event.ensures.value c.in_err-e.was);
+}
 
-pub returns-in-Read : goal.returns-in-Read
-returns-in-Read c = record {
+pub returns : goal.returns
+returns c = record {
   written =
       c.play_event.ensures.written
-      ∙ an_event _ _ (eq-eqb _ _ (long _ c.requires.ring)) c.read_event-reading.ensures.value c.in-Read.is c.requires.ring;
+      ∙ an_event _ _ (eq-eqb _ _ (long _ c.requires.ring)) c.read_event.ensures.value c.in_ok-e.was c.requires.ring;
 }

@@ -1,4 +1,4 @@
-use mathlib.Core.Path.{refl}
+use mathlib.Core.Path.{refl, sym}
 use Prim.Native.Nat.{ℕ}
 use Rattle.model.specs.Ring.{Own, Ring}
 use Rattle.model.specs.Steps.{Effect}
@@ -8,8 +8,7 @@ use Rattle.model.specs.Play.{after}
 use Rattle.model.specs.declared.event.Event.TheVariants.{Timer}
 use Rattle.model.proofs.Decoded.{reads_well}
 use Rattle.model.proofs.WellFormedSteps.{timer_well}
-use Rattle.answers.proofs.Answered.{accepted}
-use Rattle.event_act.proofs.Decides.{asked_refused}
+use Rattle.event_act.proofs.Decides.{refused_with}
 use Rattle.event_act.proofs.Actors.{actor_sends}
 use Rattle.event_act.proofs.Leaving.{act_counts, act_decides}
 use Rattle.event_timer.proofs.timer.Goals as goal
@@ -18,14 +17,14 @@ use Rattle.event_timer.proofs.timer.Goals as goal
 abbrev ticks : Ring → ℕ → ℕ → ℕ → Own → Effect
 ticks ρ x k now o = steps.timer ρ.table x now o k
 
-pub returns-then-is_refusal : goal.returns-then-is_refusal
-returns-then-is_refusal c = record { decides = asked_refused c.refused.ensures.answer c.may_act-answer.ensures.answer c.is_refusal.ensures.value c.if-is_refusal.true }
+pub returns-in_err-may_act : goal.returns-in_err-may_act
+returns-in_err-may_act c = record { decides = refused_with _ c.from_residual.ensures.1 c.in_err-may_act.ensures.answer }
 
 pub load-actor-requires : goal.load-actor-requires
 load-actor-requires c =
     record {
       ring = c.requires.ring;
-      actor = accepted c.may_act-answer.result _ c.may_act-answer.ensures.answer c.is_refusal.ensures.value c.if-is_refusal.false;
+      actor = sym c.in_ok-may_act.ensures.answer;
     }
 
 pub step-effect-requires : goal.step-effect-requires
@@ -50,7 +49,7 @@ unfolding after
 returns c = record {
   decides =
       let a = c.args in
-      let may = accepted c.may_act-answer.result _ c.may_act-answer.ensures.answer c.is_refusal.ensures.value c.if-is_refusal.false in
+      let may = sym c.in_ok-may_act.ensures.answer in
       act_decides c.requires.ring c.load-actor.ensures.actor (ticks (decode a.words.now) a.x.0 a.k) c.step-effect.ensures.effect
       (Timer a.x a.k) may refl c.acting.ensures.decided;
 }

@@ -15,7 +15,7 @@ returns-then-all-gt-MESSAGES c = record {
       let counted = counted_eleven c.requires.counts c.count.ensures.value c.count-2.ensures.value
       c.left.ensures.value c.if-all-gt-MESSAGES.true
       in
-      record { answer = sym counted; change = λ z. refl };
+      record { answer = sym counted; change = tt };
 }
 
 pub returns-then-sender_full : goal.returns-then-sender_full
@@ -24,7 +24,7 @@ returns-then-sender_full c = record {
       let counted = counted_seventeen c.requires.counts c.count.ensures.value c.count-2.ensures.value
       c.left.ensures.value c.if-all-gt-MESSAGES.false c.sender_full.ensures.full c.if-sender_full.true
       in
-      record { answer = sym counted; change = λ z. refl };
+      record { answer = sym counted; change = tt };
 }
 
 pub returns : goal.returns
@@ -33,5 +33,5 @@ returns c = record {
       let counted = counted_neither c.requires.counts c.count.ensures.value c.count-2.ensures.value
       c.left.ensures.value c.if-all-gt-MESSAGES.false c.sender_full.ensures.full c.if-sender_full.false
       in
-      record { answer = sym counted; change = λ z. refl };
+      record { answer = sym counted; change = refl };
 }

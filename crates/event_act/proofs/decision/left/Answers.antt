@@ -4,16 +4,16 @@ use Rattle.event_act.proofs.Written.{taking_low, taking_count}
 use Rattle.event_act.proofs.decision.left.Goals as goal
 
 pub overflow_sub-result : goal.overflow_sub-result
-overflow_sub-result c = let low = taking_low c.in-Message.is c.requires.taken in omega arith
+overflow_sub-result c = let low = taking_low c.in-Some.is c.requires.taken in omega arith
 
-pub returns-in-Nothing : goal.returns-in-Nothing
-returns-in-Nothing c = record {
-  value = λ ρ e. rw c.in-Nothing.is (sym e);
+pub returns-in-None : goal.returns-in-None
+returns-in-None c = record {
+  value = λ ρ e. rw c.in-None.is (sym e);
   bound = omega arith;
 }
 
-pub returns-in-Message : goal.returns-in-Message
-returns-in-Message c = record {
-  value = taking_count c.in-Message.is c.requires.taken;
+pub returns-in-Some : goal.returns-in-Some
+returns-in-Some c = record {
+  value = taking_count c.in-Some.is c.requires.taken;
   bound = omega arith;
 }
