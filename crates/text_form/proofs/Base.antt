@@ -28,8 +28,8 @@ unfolding ascii Decimal.decimal_in Decimal.decimal Decimal.spaced Sets.all Words
     Words.keys_differ Answers.first_of Events.event_of Bench.little_endian Bench.script_table Bench.script_answer
     Describe.event_text Describe.raw_text Describe.word_text Describe.word_lines Describe.keys_text Describe.opening_text
     Describe.hex_bytes Describe.tail_text Describe.words_text Describe.describe Assemble.grown Assemble.packed
-    Assemble.digit_of Assemble.is_number Assemble.spelled_by Assemble.spelled Assemble.place_of Assemble.stage_after
-    Assemble.expected_at Assemble.pairs_of Assemble.line_given Assemble.start Assemble.stopped Assemble.begun
+    Assemble.digit_of Assemble.is_number Assemble.spelled_by Assemble.spelled Assemble.named_in Assemble.stage_after
+    Assemble.expected_at Assemble.pairs_of Assemble.line_given Assemble.start Assemble.stopped Assemble.begun_by Assemble.begun
     Assemble.part_read Assemble.continued Assemble.token_ended Assemble.complete Assemble.line_ended Assemble.commented
     Assemble.grown_by Assemble.byte_read Assemble.word_bytes Assemble.key_bytes Assemble.tail_bytes Assemble.given_bytes
     Assemble.given_keys Assemble.advanced Assemble.text_read Assemble.closed Assemble.assemble

@@ -11,9 +11,12 @@ use Rattle.std.specs.Prelude.{if◌then◌else◌}
 use Rattle.model.specs.WellFormed.{Each, nil, cons}
 use Rattle.model.specs.declared.values.Sides.{Sides}
 use Rattle.model.proofs.Laws.{clash, decide, if_law, or_case, or_left, or_right, or_none_left, or_none_right}
+use Rattle.text_form.specs.declared.Command.{Command}
 use Rattle.text_form.specs.declared.Reader.{Reader}
 use Rattle.text_form.specs.declared.Step.{Step}
-use Rattle.text_form.specs.Assemble.{Progress, start, allowed, command_of, expected_at, fits, hash, silent, after}
+use Rattle.std.specs.Prelude.{Option, None, Some}
+use Rattle.std.specs.Option.{option_map_or}
+use Rattle.text_form.specs.Assemble.{begun_by, Progress, start, allowed, command_of, expected_at, fits, hash, silent, after}
 use Rattle.text_form.specs.Assemble.{begun, part_read, continued, stopped, token_ended, complete, line_ended, commented}
 use Rattle.text_form.specs.Assemble.{byte_read, given_bytes, given_keys, advanced, text_read, closed, assemble}
 use Rattle.text_form.proofs.Reading.{read_append, nothing}
@@ -35,13 +38,18 @@ blank_space r b h =
 Settled : Reader → Type 0
 Settled r = (r.fault || eqb r.token 0) ≡ true
 
+settled_line_begun : (r : Reader) → (o : Option Command) → Settled (option_map_or (begun_by r) o (silent (stopped r))).reader
+unfolding Settled begun_by stopped
+settled_line_begun r None = refl
+settled_line_begun r (Some c) = if_law (λ (s : Step). Settled s.reader) (allowed r.stage r.keys c) _ _ (λ _. refl) (λ _. refl)
+
 settled : (r : Reader) → Settled (token_ended r).reader
 unfolding Settled token_ended begun continued part_read stopped
 settled r =
     if_law (λ (s : Step). Settled s.reader) (eqb r.token 0) _ _
     (λ e. or_right r.fault e)
     (λ _. if_law (λ (s : Step). Settled s.reader) (eqb r.place 0) _ _
-    (λ _. if_law (λ (s : Step). Settled s.reader) (allowed r.stage r.keys (command_of r.token)) _ _ (λ _. refl) (λ _. refl))
+    (λ _. settled_line_begun r (command_of r.token))
     (λ _. if_law (λ (s : Step). Settled s.reader) (fits (expected_at r) r.token) _ _ (λ _. refl) (λ _. refl)))
 
 settled_line : (r : Reader) → Settled r → Settled (line_ended r)

@@ -8,11 +8,15 @@ use Rattle.bench_lines.specs.Decimal.{newline}
 use Rattle.std.specs.Prelude.{if◌then◌else◌}
 use Rattle.model.specs.declared.values.Sides.{Sides}
 use Rattle.model.proofs.Laws.{decide, if_law}
+use Rattle.text_form.specs.declared.Command.{Command}
+use Rattle.text_form.specs.declared.Command.TheVariants as command
 use Rattle.text_form.specs.declared.Stage.{Stage}
 use Rattle.text_form.specs.declared.Stage.TheVariants as stage
 use Rattle.text_form.specs.declared.Reader.{Reader}
 use Rattle.text_form.specs.declared.Step.{Step}
-use Rattle.text_form.specs.Assemble.{Progress, start, allowed, command_of, expected_at, fits, hash, silent, after, begun, part_read, continued, stopped}
+use Rattle.std.specs.Prelude.{Option, None, Some}
+use Rattle.std.specs.Option.{option_map_or}
+use Rattle.text_form.specs.Assemble.{Progress, start, allowed, command_of, begun_by, expected_at, fits, hash, silent, after, begun, part_read, continued, stopped}
 use Rattle.text_form.specs.Assemble.{token_ended, complete, line_ended, commented, grown_by, byte_read, advanced, text_read, closed, assemble}
 use Rattle.text_form.proofs.Reading.{reader, read_append, nothing}
 use Rattle.text_form.proofs.Blanks.{newline_stopped, first, closing, ended_read, whole_read}
@@ -57,8 +61,15 @@ unfolding grown_by unlined step_unlined
 grown_alike r b = refl
 
 begun_alike : (r : Reader) (t : ℕ) → step_unlined (begun (unlined r) t) ≡ step_unlined (begun r t)
-unfolding begun stopped unlined step_unlined
-begun_alike r t = decide (allowed r.stage r.keys (command_of t)) (λ e. rw e) (λ e. rw e)
+unfolding begun begun_by stopped unlined step_unlined
+begun_alike r t = go (command_of t)
+  where
+    go :
+        (o : Option Command)
+        → step_unlined (option_map_or (begun_by (unlined r)) o (silent (stopped (unlined r))))
+        ≡ step_unlined (option_map_or (begun_by r) o (silent (stopped r)))
+    go None = refl
+    go (Some c) = decide (allowed r.stage r.keys c) (λ e. rw e) (λ e. rw e)
 
 continued_alike : (r : Reader) (t : ℕ) → step_unlined (continued (unlined r) t) ≡ step_unlined (continued r t)
 unfolding continued stopped part_read unlined step_unlined
@@ -164,7 +175,7 @@ stopped_fresh : (r : Reader) → r.fault ≡ true → Fresh r
 unfolding Fresh byte_read
 stopped_fresh r e = ap step_unlined (newline_stopped r e)
 
-start_fresh : (line : ℕ) (s : Stage) (c f : ℕ) (sides : Sides) (keys : ℕ) → Fresh (reader line 0 s c 0 f sides keys)
+start_fresh : (line : ℕ) (s : Stage) (c : Command) (f : ℕ) (sides : Sides) (keys : ℕ) → Fresh (reader line 0 s c 0 f sides keys)
 unfolding Fresh byte_read token_ended line_ended complete unlined step_unlined
 start_fresh line s c f sides keys = refl
 
@@ -216,7 +227,7 @@ empty_line xs ys =
 
 first_fresh : Fresh start
 unfolding start
-first_fresh = start_fresh 1 stage.Start 0 0 (record { ahead = 0; behind = 0 }) 0
+first_fresh = start_fresh 1 stage.Start command.Sides 0 (record { ahead = 0; behind = 0 }) 0
 
 pub empty_first_line : (ys : List ℕ) → SameButLine (assemble (newline ∷ ys)) (assemble ys)
 empty_first_line ys =

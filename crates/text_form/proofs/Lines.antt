@@ -4,7 +4,7 @@ use mathlib.Core.Bool.{Bool, true, false, ◌&&◌}
 use mathlib.Core.List.{List, [], ◌∷◌, ◌++◌, append-nil, append_assoc}
 use Prim.Native.Nat.{ℕ, ◌+◌, ◌^◌, ◌<◌}
 use native.Mathlib.Omega.{arith}
-use borrow.Author.Tests.{lt-ltb, le-leb, ne_eqb, leb-true, ltb-true}
+use borrow.Author.Tests.{lt-ltb, le-leb, leb-true, ltb-true}
 use lib.Dec.{ltb, leb, eqb, lit≤}
 use lib.ListN.{length}
 use Rattle.io.specs.Digits.{last_digits}
@@ -16,18 +16,21 @@ use Rattle.model.specs.declared.event.Event.{Event}
 use Rattle.model.specs.declared.event.Event.TheVariants.{On, Off, Notice, Contact, Timer, Deliver, Lose}
 use Rattle.model.specs.declared.values.Sides.{Sides}
 use Rattle.model.proofs.Laws.{and_left, and_right, and_in, or_right}
+use Rattle.text_form.specs.declared.Command.{Command}
+use Rattle.text_form.specs.declared.Command.TheVariants as command
 use Rattle.text_form.specs.declared.Stage.{Stage}
 use Rattle.text_form.specs.declared.Stage.TheVariants as stage
 use Rattle.text_form.specs.declared.Expected.TheVariants as expected
 use Rattle.text_form.specs.declared.Given.{Given}
 use Rattle.text_form.specs.declared.Given.TheVariants as given
+use Rattle.std.specs.Prelude.{Some}
 use Rattle.text_form.specs.Names.{sides_name, keys_name, on_name, off_name, leave_name, notice_name, contact_name}
 use Rattle.text_form.specs.Names.{timer_name, at_name, deliver_name, echo_name, lose_name, word_name, tail_name}
-use Rattle.text_form.specs.Assemble.{Progress, grown, packed, parts, place_of, allowed, is_later, stage_after, command_of}
+use Rattle.text_form.specs.Assemble.{Progress, grown, packed, parts, named_in, allowed, is_keys, is_later, stage_after, command_of}
 use Rattle.text_form.specs.Assemble.{no_number, expected_at, line_given, given_bytes, given_keys, word_bytes, text_read}
 use Rattle.text_form.specs.Describe.{event_text, raw_text}
 use Rattle.text_form.proofs.Tokens.{Plain, Spells, Written, decimal_written, digits_spell, digits_written, spelled_is, token_there}
-use Rattle.text_form.proofs.Reading.{reader, state, read_append, token_read, opened, first_word, Suits, middle_word, last_word}
+use Rattle.text_form.proofs.Reading.{reader, state, read_append, token_read, opened, first_word, not_keys, Suits, middle_word, last_word}
 
 -- ---- a text takes the reader from p to q
 
@@ -49,28 +52,28 @@ all_plain [] e = nil
 all_plain (b ∷ bs) e = cons (record { above = leb-true 48 b (and_left _ _ e) }) (all_plain bs (and_right (leb 48 b) _ e))
 
 -- the first word of lines of command d
-pub record Named (name : List ℕ) (d : ℕ) : Type 0 where
+pub record Named (name : List ℕ) (d : Command) : Type 0 where
   pub plain : Each Plain name
   pub there : eqb (packed 0 name) 0 ≡ false
-  pub is : command_of (packed 0 name) ≡ d
+  pub is : command_of (packed 0 name) ≡ Some d
 
 pub record AllNamed : Type 0 where
-  pub sides_is : Named sides_name 0
-  pub keys_is : Named keys_name 1
-  pub on_is : Named on_name 2
-  pub off_is : Named off_name 3
-  pub leave_is : Named leave_name 4
-  pub notice_is : Named notice_name 5
-  pub contact_is : Named contact_name 6
-  pub timer_is : Named timer_name 7
-  pub deliver_is : Named deliver_name 8
-  pub echo_is : Named echo_name 9
-  pub lose_is : Named lose_name 10
-  pub word_is : Named word_name 11
-  pub tail_is : Named tail_name 12
+  pub sides_is : Named sides_name command.Sides
+  pub keys_is : Named keys_name command.Keys
+  pub on_is : Named on_name command.On
+  pub off_is : Named off_name command.Off
+  pub leave_is : Named leave_name command.Leave
+  pub notice_is : Named notice_name command.Notice
+  pub contact_is : Named contact_name command.Contact
+  pub timer_is : Named timer_name command.Timer
+  pub deliver_is : Named deliver_name command.Deliver
+  pub echo_is : Named echo_name command.Echo
+  pub lose_is : Named lose_name command.Lose
+  pub word_is : Named word_name command.Word
+  pub tail_is : Named tail_name command.Tail
 
 pub named : AllNamed
-unfolding packed grown place_of is_plain
+unfolding packed grown named_in is_plain
 named =
     record {
       sides_is = record { plain = all_plain sides_name refl; there = refl; is = refl };
@@ -126,15 +129,15 @@ unopened stage.Keys sides keys = given_bytes sides keys given.Opening
 unopened stage.Events sides keys = []
 unopened stage.End sides keys = []
 
-pub opened_is : (s : Stage) (d : ℕ) (sides : Sides) (keys : List ℕ) → leb 2 d ≡ true → opened s d sides keys ≡ unopened s sides keys
+pub opened_is : (s : Stage) (d : Command) (sides : Sides) (keys : List ℕ) → is_later d ≡ true → opened s d sides keys ≡ unopened s sides keys
 unfolding opened unopened
 opened_is stage.Start d sides keys h = refl
 opened_is stage.Sides d sides keys h = refl
-opened_is stage.Keys d sides keys h = rw (ne_eqb d 1 (λ e. omega (arith, leb-true 2 d h)))
+opened_is stage.Keys d sides keys h = rw (not_keys d h)
 opened_is stage.Events d sides keys h = refl
 opened_is stage.End d sides keys h = refl
 
-module _ (line : ℕ) (s : Stage) (c f : ℕ) (sides : Sides) (keys script : List ℕ) {name : List ℕ} {d : ℕ} (n : Named name d)
+module _ (line : ℕ) (s : Stage) (c : Command) (f : ℕ) (sides : Sides) (keys script : List ℕ) {name : List ℕ} {d : Command} (n : Named name d)
     (ok : allowed s (length keys) d ≡ true) where
   abbrev pub before : Progress
   before = state line 0 s c 0 f sides keys script
@@ -147,7 +150,7 @@ module _ (line : ℕ) (s : Stage) (c f : ℕ) (sides : Sides) (keys script : Lis
       on {q = state line (packed 0 name) s c 0 f sides keys script} (record { is = token_read line s c 0 f sides keys script 0 name n.plain })
       (record { is = first_word line s c f sides keys script (packed 0 name) d bs n.there n.is ok h })
 
-  module _ (later : leb 2 d ≡ true) where
+  module _ (later : is_later d ≡ true) where
     -- a line of one part
     pub one_part : (bs : List ℕ) (v : ℕ) (g : Given) → Each Plain bs
         → Suits (expected_at (reader line (packed 0 bs) (stage_after d) d 1 0 sides (length keys))) (packed 0 bs) v
@@ -189,8 +192,8 @@ pub data Later : Stage → Type 0 where
   after_keys : Later stage.Keys
   after_events : Later stage.Events
 
-pub later_allowed : {s : Stage} → Later s → (n d : ℕ) → is_later d ≡ true → allowed s n d ≡ true
-later_allowed after_keys n d h = or_right (eqb d 1 && ltb n 64) h
+pub later_allowed : {s : Stage} → Later s → (n : ℕ) (d : Command) → is_later d ≡ true → allowed s n d ≡ true
+later_allowed after_keys n d h = or_right (is_keys d && ltb n 64) h
 later_allowed after_events n d h = h
 
 -- ---- the line of an event
@@ -202,44 +205,44 @@ pub two_spaced : (a b : ℕ) → spaced (a ∷ b ∷ []) ≡ (space ∷ decimal 
 unfolding spaced
 two_spaced a b = rw (append-nil (decimal b))
 
-module _ (line : ℕ) (s : Stage) (c f : ℕ) (sides : Sides) (keys script : List ℕ) where
+module _ (line : ℕ) (s : Stage) (c : Command) (f : ℕ) (sides : Sides) (keys script : List ℕ) where
   abbrev pub start : Progress
   start = state line 0 s c 0 f sides keys script
 
   -- the line gives the word w, after the words of the opening, if those are still to come
   pub record Gives (text : List ℕ) (w : ℕ) : Type 0 where
-    pub command : ℕ
+    pub command : Command
     pub first : ℕ
     pub leads : Leads start text (state (line + 1) 0 stage.Events command 0 first sides keys (script ++ unopened s sides keys ++ word_bytes w))
 
-  given_by : {text : List ℕ} {d : ℕ} {w : ℕ} (first : ℕ) → leb 2 d ≡ true → stage_after d ≡ stage.Events
+  given_by : {text : List ℕ} {d : Command} {w : ℕ} (first : ℕ) → is_later d ≡ true → stage_after d ≡ stage.Events
       → Leads start text (state (line + 1) 0 (stage_after d) d 0 first sides keys (script ++ opened s d sides keys ++ given_bytes sides keys (given.Word w)))
       → Gives text w
   unfolding given_bytes
   given_by {text} {d} {w} first h e l = record { command = d; first = first; leads = rw (e, opened_is s d sides keys h) at l }
 
   -- any word
-  pub raw_line : (w : ℕ) → w < 2 ^ 32 → allowed s (length keys) 11 ≡ true → Gives (raw_text w ++ newline ∷ []) w
+  pub raw_line : (w : ℕ) → w < 2 ^ 32 → allowed s (length keys) command.Word ≡ true → Gives (raw_text w ++ newline ∷ []) w
   unfolding raw_text stage_after expected_at line_given given_keys
   raw_line w h ok =
       let r = digits_written 8 w (lit≤ tt) (lit≤ tt) h in
-      given_by {d = 11} {w = w} w refl refl
+      given_by {d = command.Word} {w = w} w refl refl
       (one_part line s c f sides keys script named.word_is ok refl (last_digits 16 8 w) w (given.Word w) r.plain
       (word_suits (last_digits 16 8 w) w r (digits_spell 8 w (lit≤ tt) h) h) refl refl refl)
 
   module _ (ok : Later s) where
     -- a line of one number
-    one_number : {name : List ℕ} {d : ℕ} (n : Named name d) (v w : ℕ) → is_later d ≡ true → stage_after d ≡ stage.Events → (r : Written 10 8 (decimal v) v)
+    one_number : {name : List ℕ} {d : Command} (n : Named name d) (v w : ℕ) → is_later d ≡ true → stage_after d ≡ stage.Events → (r : Written 10 8 (decimal v) v)
         → Suits (expected_at (reader line (packed 0 (decimal v)) (stage_after d) d 1 0 sides (length keys))) (packed 0 (decimal v)) v
         → leb (length (parts d)) 1 ≡ true → line_given d 0 v (packed 0 (decimal v)) ≡ given.Word w → Gives (name ++ spaced (v ∷ []) ++ newline ∷ []) w
     unfolding given_keys
     one_number {d = d} n v w l e r h one is =
-        given_by v (and_left (leb 2 d) _ l) e
-        (rw (← one_more_lem v) (one_part line s c f sides keys script n (later_allowed ok (length keys) d l) (and_left (leb 2 d) _ l)
+        given_by v l e
+        (rw (← one_more_lem v) (one_part line s c f sides keys script n (later_allowed ok (length keys) d l) l
         (decimal v) v (given.Word w) r.plain h one is refl))
 
     -- of two
-    two_numbers : {name : List ℕ} {d : ℕ} (n : Named name d) (u v w : ℕ) → is_later d ≡ true → stage_after d ≡ stage.Events
+    two_numbers : {name : List ℕ} {d : Command} (n : Named name d) (u v w : ℕ) → is_later d ≡ true → stage_after d ≡ stage.Events
         → (q : Written 10 8 (decimal u) u) (r : Written 10 8 (decimal v) v)
         → Suits (expected_at (reader line (packed 0 (decimal u)) (stage_after d) d 1 0 sides (length keys))) (packed 0 (decimal u)) u
         → Suits (expected_at (reader line (packed 0 (decimal v)) (stage_after d) d 2 u sides (length keys))) (packed 0 (decimal v)) v
@@ -247,9 +250,9 @@ module _ (line : ℕ) (s : Stage) (c f : ℕ) (sides : Sides) (keys script : Lis
         → Gives (name ++ spaced (u ∷ v ∷ []) ++ newline ∷ []) w
     unfolding given_keys
     two_numbers {name} {d = d} n u v w l e q r h i more two is =
-        given_by u (and_left (leb 2 d) _ l) e
+        given_by u l e
         (rw (two_spaced u v, ← append_assoc name (space ∷ decimal u) (space ∷ decimal v))
-        (two_parts line s c f sides keys script n (later_allowed ok (length keys) d l) (and_left (leb 2 d) _ l) (decimal u)
+        (two_parts line s c f sides keys script n (later_allowed ok (length keys) d l) l (decimal u)
         (decimal v) u v (given.Word w) q.plain r.plain h i more two is refl))
 
     pub event_line : (e : Event) → parts_fit e ≡ true → Gives (event_text e ++ newline ∷ []) (word_of e)
@@ -283,9 +286,9 @@ module _ (line : ℕ) (s : Stage) (c f : ℕ) (sides : Sides) (keys script : Lis
         let i : is_timer k ≡ true = and_right (ltb x.0 64) _ t in
         let w = small x.0 (omega arith) in
         let v = small k (omega (arith, leb-true k 4 (and_left _ _ i))) in
-        given_by {d = 7} {w = word_of (Timer x k)} k refl refl
+        given_by {d = command.Timer} {w = word_of (Timer x k)} k refl refl
         (rw (← one_more_lem x.0, ← one_more_lem k)
-        (three_parts line s c f sides keys script named.timer_is (later_allowed ok (length keys) 7 refl) refl
+        (three_parts line s c f sides keys script named.timer_is (later_allowed ok (length keys) command.Timer refl) refl
         (decimal k) at_name (decimal x.0) k 0 x.0 (given.Word (word_of (Timer x k)))
         v.plain (all_plain at_name at_plain) w.plain (timer_suits v i) at_suits (node_suits w h) refl refl refl))
     event_line (Deliver i false) t =

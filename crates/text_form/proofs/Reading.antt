@@ -1,6 +1,6 @@
 -- A reader in a line: bytes of a token, its end by a blank or by the line's end, and the words of the line one by one.
 use mathlib.Core.Path.{◌≡◌, refl}
-use mathlib.Core.Bool.{Bool, true, false, ◌&&◌, ◌||◌}
+use mathlib.Core.Bool.{Bool, true, false, not, ◌&&◌, ◌||◌}
 use mathlib.Core.List.{List, [], ◌∷◌, ◌++◌, append-nil}
 use Prim.Native.Nat.{ℕ, ◌+◌}
 use native.Mathlib.Omega.{arith}
@@ -8,22 +8,23 @@ use borrow.Author.Tests.{lt-leb, lt-ltb, ne_eqb, leb-true}
 use lib.Dec.{ltb, leb, eqb}
 use lib.ListN.{length}
 use Rattle.bench_lines.specs.Decimal.{space, newline}
-use Rattle.std.specs.Prelude.{if◌then◌else◌}
+use Rattle.std.specs.Prelude.{Some, if◌then◌else◌}
 use Rattle.model.specs.WellFormed.{Each, nil, cons}
 use Rattle.model.specs.declared.values.Sides.{Sides}
-use Rattle.model.proofs.Laws.{or_right}
+use Rattle.model.proofs.Laws.{clash, and_left, and_right, or_right}
+use Rattle.text_form.specs.declared.Command.{Command}
 use Rattle.text_form.specs.declared.Stage.{Stage}
 use Rattle.text_form.specs.declared.Expected.{Expected}
 use Rattle.text_form.specs.declared.Given.{Given}
 use Rattle.text_form.specs.declared.Given.TheVariants as given
 use Rattle.text_form.specs.declared.Reader.{Reader}
-use Rattle.text_form.specs.Assemble.{Progress, grown, packed, parts, allowed, stage_after, opens, command_of, expected_at, value_of}
-use Rattle.text_form.specs.Assemble.{fits, line_given, hash, silent, begun, part_read, continued, token_ended, complete}
+use Rattle.text_form.specs.Assemble.{Progress, grown, packed, parts, is_sides, is_keys, is_later, allowed, stage_after, opens, command_of, expected_at, value_of}
+use Rattle.text_form.specs.Assemble.{fits, line_given, hash, silent, begun_by, begun, part_read, continued, token_ended, complete}
 use Rattle.text_form.specs.Assemble.{line_ended, grown_by, byte_read, given_bytes, given_keys, advanced, text_read}
 use Rattle.text_form.proofs.Tokens.{Plain}
 
 -- a reader with no fault and not in a comment
-abbrev pub reader : ℕ → ℕ → Stage → ℕ → ℕ → ℕ → Sides → ℕ → Reader
+abbrev pub reader : ℕ → ℕ → Stage → Command → ℕ → ℕ → Sides → ℕ → Reader
 reader line token stage command place first sides keys =
     record {
       line = line;
@@ -39,7 +40,7 @@ reader line token stage command place first sides keys =
     }
 
 -- such a reader that has counted its keys
-abbrev pub state : ℕ → ℕ → Stage → ℕ → ℕ → ℕ → Sides → List ℕ → List ℕ → Progress
+abbrev pub state : ℕ → ℕ → Stage → Command → ℕ → ℕ → Sides → List ℕ → List ℕ → Progress
 state line token stage command place first sides keys script =
     record { reader = reader line token stage command place first sides (length keys); keys = keys; script = script }
 
@@ -53,7 +54,7 @@ pub nothing : (p : Progress) (r : Reader) → advanced p (silent r) ≡ record {
 unfolding advanced given_keys given_bytes
 nothing p r = rw (append-nil p.keys, append-nil p.script)
 
-module _ (line : ℕ) (s : Stage) (c place f : ℕ) (sides : Sides) (keys script : List ℕ) where
+module _ (line : ℕ) (s : Stage) (c : Command) (place f : ℕ) (sides : Sides) (keys script : List ℕ) where
   -- ---- the bytes of a token
 
   plain_byte :
@@ -74,8 +75,18 @@ module _ (line : ℕ) (s : Stage) (c place f : ℕ) (sides : Sides) (keys script
 
 -- ---- the first word of a line
 
+none_of : (q : Bool) → not q ≡ true → q ≡ false
+none_of true h = clash h refl
+none_of false h = refl
+
+pub not_sides : (c : Command) → is_later c ≡ true → is_sides c ≡ false
+not_sides c h = none_of (is_sides c) (and_left (not (is_sides c)) _ h)
+
+pub not_keys : (c : Command) → is_later c ≡ true → is_keys c ≡ false
+not_keys c h = none_of (is_keys c) (and_right (not (is_sides c)) _ h)
+
 -- the words of the opening, where the line is the first after the keys
-unfoldable pub opened : Stage → ℕ → Sides → List ℕ → List ℕ
+unfoldable pub opened : Stage → Command → Sides → List ℕ → List ℕ
 opened s c sides keys = if opens s c then given_bytes sides keys given.Opening else []
 
 opening_given : (b : Bool) (p : Progress) (r : Reader) → advanced p (record { reader = r; given = if b then given.Opening else given.Nothing })
@@ -84,20 +95,20 @@ unfolding advanced given_keys given_bytes
 opening_given true p r = rw (append-nil p.keys)
 opening_given false p r = rw (append-nil p.keys)
 
-module _ (line : ℕ) (s : Stage) (c f : ℕ) (sides : Sides) (keys script : List ℕ) where
-  begun_by : (t d : ℕ) → eqb t 0 ≡ false → command_of t ≡ d → allowed s (length keys) d ≡ true
+module _ (line : ℕ) (s : Stage) (c : Command) (f : ℕ) (sides : Sides) (keys script : List ℕ) where
+  word_begins : (t : ℕ) (d : Command) → eqb t 0 ≡ false → command_of t ≡ Some d → allowed s (length keys) d ≡ true
       → byte_read (reader line t s c 0 f sides (length keys)) space
       ≡ record { reader = reader line 0 (stage_after d) d 1 0 sides (length keys); given = if opens s d then given.Opening else given.Nothing }
-  unfolding byte_read token_ended begun
-  begun_by t d there is ok = rw (there, is, ok)
+  unfolding byte_read token_ended begun begun_by
+  word_begins t d there is ok = rw (there, is, ok)
 
-  pub first_word : (t d : ℕ) (bs : List ℕ) → eqb t 0 ≡ false → command_of t ≡ d → allowed s (length keys) d ≡ true → Each Plain bs
+  pub first_word : (t : ℕ) (d : Command) (bs : List ℕ) → eqb t 0 ≡ false → command_of t ≡ Some d → allowed s (length keys) d ≡ true → Each Plain bs
       → text_read (state line t s c 0 f sides keys script) (space ∷ bs)
       ≡ state line (packed 0 bs) (stage_after d) d 1 0 sides keys (script ++ opened s d sides keys)
   unfolding text_read opened
   first_word t d bs there is ok h =
       rw (
-        begun_by t d there is ok,
+        word_begins t d there is ok,
         opening_given (opens s d) (state line t s c 0 f sides keys script) (reader line 0 (stage_after d) d 1 0 sides (length keys)),
       )
       (token_read line (stage_after d) d 1 0 sides keys (script ++ opened s d sides keys) 0 bs h)
@@ -105,20 +116,20 @@ module _ (line : ℕ) (s : Stage) (c f : ℕ) (sides : Sides) (keys script : Lis
 -- ---- the other words of a line
 
 -- a reader after the word t of value v, and what the word gave
-abbrev pub part_given : ℕ → ℕ → ℕ → ℕ → ℕ → Given
+abbrev pub part_given : Command → ℕ → ℕ → ℕ → ℕ → Given
 part_given c place f v t = if leb (length (parts c)) place then line_given c f v t else given.Nothing
 
-abbrev place_after : ℕ → ℕ → ℕ
-place_after c place = if eqb c 1 then 2 else place + 1
+abbrev place_after : Command → ℕ → ℕ
+place_after c place = if is_keys c then 2 else place + 1
 
 abbrev first_after : ℕ → ℕ → ℕ → ℕ
 first_after place f v = if eqb place 1 then v else f
 
-abbrev sides_after : ℕ → ℕ → ℕ → ℕ → Sides → Sides
-sides_after c place f v sides = if eqb c 0 && eqb place 2 then record { ahead = f; behind = v } else sides
+abbrev sides_after : Command → ℕ → ℕ → ℕ → Sides → Sides
+sides_after c place f v sides = if is_sides c && eqb place 2 then record { ahead = f; behind = v } else sides
 
-abbrev keys_after : ℕ → ℕ → ℕ
-keys_after c n = if eqb c 1 then n + 1 else n
+abbrev keys_after : Command → ℕ → ℕ
+keys_after c n = if is_keys c then n + 1 else n
 
 -- the token t is what is expected, and has value v
 pub record Suits (e : Expected) (t v : ℕ) : Type 0 where
@@ -126,7 +137,7 @@ pub record Suits (e : Expected) (t v : ℕ) : Type 0 where
   pub fit : fits e t ≡ true
   pub value : value_of e t ≡ v
 
-module _ (line t : ℕ) (s : Stage) (c place f : ℕ) (sides : Sides) (n v : ℕ) (in-line : eqb place 0 ≡ false)
+module _ (line t : ℕ) (s : Stage) (c : Command) (place f : ℕ) (sides : Sides) (n v : ℕ) (in-line : eqb place 0 ≡ false)
     (h : Suits (expected_at (reader line t s c place f sides n)) t v) where
   part_ended : token_ended (reader line t s c place f sides n)
       ≡ record {
@@ -161,13 +172,13 @@ pub not_a_key : (p : Progress) (r : Reader) (g : Given) → given_keys g ≡ [] 
 unfolding advanced
 not_a_key p r g e = rw (e, append-nil p.keys)
 
-module _ (line t : ℕ) (s : Stage) (c place f : ℕ) (sides : Sides) (keys script : List ℕ) (v : ℕ) (in-line : eqb place 0 ≡ false)
-    (h : Suits (expected_at (reader line t s c place f sides (length keys))) t v) (later : leb 2 c ≡ true) where
-  no_sides : eqb c 0 ≡ false
-  no_sides = ne_eqb c 0 (λ e. omega (arith, leb-true 2 c later))
+module _ (line t : ℕ) (s : Stage) (c : Command) (place f : ℕ) (sides : Sides) (keys script : List ℕ) (v : ℕ) (in-line : eqb place 0 ≡ false)
+    (h : Suits (expected_at (reader line t s c place f sides (length keys))) t v) (later : is_later c ≡ true) where
+  no_sides : is_sides c ≡ false
+  no_sides = not_sides c later
 
-  no_keys : eqb c 1 ≡ false
-  no_keys = ne_eqb c 1 (λ e. omega (arith, leb-true 2 c later))
+  no_keys : is_keys c ≡ false
+  no_keys = not_keys c later
 
   -- a word that is not the last
   pub middle_word : leb (length (parts c)) place ≡ false → (bs : List ℕ) → Each Plain bs

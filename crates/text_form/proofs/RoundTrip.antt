@@ -21,6 +21,8 @@ use Rattle.model.specs.declared.values.Sides.{Sides}
 use Rattle.model.proofs.Laws.{decide, and_left, and_right}
 use Rattle.model.proofs.Lists.{each_drop}
 use Rattle.model.proofs.Answers.{accepted_is}
+use Rattle.text_form.specs.declared.Command.{Command}
+use Rattle.text_form.specs.declared.Command.TheVariants as command
 use Rattle.text_form.specs.declared.Stage.{Stage}
 use Rattle.text_form.specs.declared.Stage.TheVariants as stage
 use Rattle.text_form.specs.Assemble.{Progress, allowed, start as begin, token_ended, complete, line_ended, byte_read}
@@ -47,11 +49,11 @@ data Closes : Stage → Type 0 where
 
 -- The reader is at the start of a line, in one of these stages. The lines before it give these bytes, once the words of the opening have come.
 data Stands (ok : Stage → Type 0) (bytes : List ℕ) : Progress → Type 0 where
-  stands : (line c f : ℕ) (s : Stage) (sides : Sides) (keys script : List ℕ) → ok s → script ++ unopened s sides keys ≡ bytes
+  stands : (line : ℕ) (c : Command) (f : ℕ) (s : Stage) (sides : Sides) (keys script : List ℕ) → ok s → script ++ unopened s sides keys ≡ bytes
       → Stands ok bytes (state line 0 s c 0 f sides keys script)
 
 -- a line that gives the word w
-gives_stands : {ok : Stage → Type 0} (line c f : ℕ) (s : Stage) (sides : Sides) (keys script text : List ℕ) (w : ℕ) {bytes : List ℕ} → ok stage.Events
+gives_stands : {ok : Stage → Type 0} (line : ℕ) (c : Command) (f : ℕ) (s : Stage) (sides : Sides) (keys script text : List ℕ) (w : ℕ) {bytes : List ℕ} → ok stage.Events
     → Gives line s c f sides keys script text w → script ++ unopened s sides keys ≡ bytes
     → Stands ok (bytes ++ word_bytes w) (text_read (state line 0 s c 0 f sides keys script) text)
 unfolding unopened
@@ -63,7 +65,7 @@ WordLine : (Stage → Type 0) → (ℕ → List ℕ) → Type 0
 WordLine ok text = (w : ℕ) → Word w → (bytes : List ℕ) (p : Progress) → Stands ok bytes p
     → Stands ok (bytes ++ word_bytes w) (text_read p (text w ++ newline ∷ []))
 
-free_allowed : {s : Stage} → Free s → (n : ℕ) → (allowed s n 11 ≡ true) × (allowed s n 12 ≡ true)
+free_allowed : {s : Stage} → Free s → (n : ℕ) → (allowed s n command.Word ≡ true) × (allowed s n command.Tail ≡ true)
 free_allowed free_start n = (refl, refl)
 free_allowed free_events n = (refl, refl)
 
@@ -74,7 +76,7 @@ raw_stands w h bytes p (stands line c f s sides keys script e is) =
     (raw_line line s c f sides keys script w h (free_allowed e (length keys)).0) is
 
 word_gives :
-    (line c f : ℕ) (s : Stage) (sides : Sides) (keys script : List ℕ) (w : ℕ) → Word w → Later s
+    (line : ℕ) (c : Command) (f : ℕ) (s : Stage) (sides : Sides) (keys script : List ℕ) (w : ℕ) → Word w → Later s
     → Gives line s c f sides keys script (word_text w ++ newline ∷ []) w
 unfolding word_text
 word_gives line c f s sides keys script w h l =
@@ -82,7 +84,7 @@ word_gives line c f s sides keys script w h l =
     (λ e. rw e
     (subst (Gives line s c f sides keys script (event_text (event_of w) ++ newline ∷ [])) (sym (eqb-true w (word_of (event_of w)) (and_left _ _ e)))
     (event_line line s c f sides keys script l (event_of w) (and_right (eqb w (word_of (event_of w))) _ e))))
-    (λ e. rw e (raw_line line s c f sides keys script w h (later_allowed l (length keys) 11 refl)))
+    (λ e. rw e (raw_line line s c f sides keys script w h (later_allowed l (length keys) command.Word refl)))
 
 word_stands : WordLine Later word_text
 unfolding WordLine
@@ -114,7 +116,7 @@ closed_later after_events = closes_events
 -- stages in which a tail may stand, and a text may end
 record Tailed (ok : Stage → Type 0) : Type 1 where
   closes : {s : Stage} → ok s → Closes s
-  tail_allowed : {s : Stage} → ok s → (n : ℕ) → allowed s n 12 ≡ true
+  tail_allowed : {s : Stage} → ok s → (n : ℕ) → allowed s n command.Tail ≡ true
 
 tail_token : (b : ℕ) (bs : List ℕ) → length (b ∷ bs) < 4 → Each Byte (b ∷ bs) → (k : ℕ) × (v : ℕ) × Token (b ∷ bs) k v
 tail_token a [] h (cons ha nil) = (1, _, token_1 a ha)
@@ -129,12 +131,12 @@ tail_stands t [] h e bytes p (stands line c f s sides keys script o is) = stands
 tail_stands t (b ∷ bs) h e bytes p (stands line c f s sides keys script o is) =
     let g = tail_token b bs h e in
     rw (tail_line_lem line s c f sides keys script (t.tail_allowed o (length keys)) b bs g.0 g.1 g.2).is
-    (stands (line + 1) 12 g.1 stage.End sides keys _ closes_end (append-nil _ ∙ ap (λ (l : List ℕ). l ++ b ∷ bs) is))
+    (stands (line + 1) command.Tail g.1 stage.End sides keys _ closes_end (append-nil _ ∙ ap (λ (l : List ℕ). l ++ b ∷ bs) is))
 
 -- ---- the end
 
 -- a line's end more
-empty_line : (line c f : ℕ) (s : Stage) (sides : Sides) (keys script : List ℕ)
+empty_line : (line : ℕ) (c : Command) (f : ℕ) (s : Stage) (sides : Sides) (keys script : List ℕ)
     → text_read (state line 0 s c 0 f sides keys script) (newline ∷ []) ≡ state (line + 1) 0 s c 0 f sides keys script
 unfolding text_read byte_read token_ended line_ended complete
 empty_line line c f s sides keys script = nothing (state line 0 s c 0 f sides keys script) (reader (line + 1) 0 s c 0 f sides (length keys))
@@ -143,7 +145,7 @@ record Ended (p : Progress) (bytes : List ℕ) : Type 0 where
   faultless : (advanced p (closed p.reader)).reader.fault ≡ false
   gives : (advanced p (closed p.reader)).script ≡ bytes
 
-ended : (line c f : ℕ) {s : Stage} (sides : Sides) (keys script bytes : List ℕ) → Closes s → script ++ unopened s sides keys ≡ bytes
+ended : (line : ℕ) (c : Command) (f : ℕ) {s : Stage} (sides : Sides) (keys script bytes : List ℕ) → Closes s → script ++ unopened s sides keys ≡ bytes
     → Ended (state line 0 s c 0 f sides keys script) bytes
 unfolding advanced closed given_bytes unopened
 ended line c f sides keys script bytes closes_start is = record { faultless = refl; gives = is }
@@ -169,7 +171,7 @@ assembles text bytes st =
 
 first_stands : Stands Free [] first
 unfolding begin unopened
-first_stands = stands 1 0 0 stage.Start (record { ahead = 0; behind = 0 }) [] [] free_start refl
+first_stands = stands 1 command.Sides 0 stage.Start (record { ahead = 0; behind = 0 }) [] [] free_start refl
 
 -- a script that opens no ring
 raw_words : (ws : List ℕ) → Each Word ws → Stands Free (words_bytes ws) (text_read first (word_lines raw_text ws))
@@ -186,7 +188,7 @@ module _ (ws : List ℕ) (h : Each Word ws) (t : Table) (o : Opens ws t) where
       let e : Ends t.sides [] first (opening_text t) t.keys =
       opening_read 1 t.sides.ahead t.sides.behind o.ahead_low o.ahead_high o.behind_low o.behind_high t.keys
       o.some o.few o.keys_small in
-      rw e.leads.is (stands e.line 1 e.first stage.Keys t.sides t.keys [] after_keys refl)
+      rw e.leads.is (stands e.line command.Keys e.first stage.Keys t.sides t.keys [] after_keys refl)
 
   opened_words : Stands Later (words_bytes ws) (text_read first (opening_text t ++ word_lines word_text (drop (1 + size t) ws)))
   opened_words =
@@ -197,7 +199,7 @@ free_tailed : Tailed Free
 free_tailed = record { closes = closed_free; tail_allowed = λ o n. (free_allowed o n).1 }
 
 later_tailed : Tailed Later
-later_tailed = record { closes = closed_later; tail_allowed = λ o n. later_allowed o n 12 refl }
+later_tailed = record { closes = closed_later; tail_allowed = λ o n. later_allowed o n command.Tail refl }
 
 words_stand :
     (ws : List ℕ) → Each Word ws → (cs : List ℕ) → length cs < 4 → Each Byte cs

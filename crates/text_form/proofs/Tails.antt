@@ -12,6 +12,8 @@ use Rattle.model.specs.WellFormed.{Each, nil}
 use Rattle.model.specs.declared.values.Sides.{Sides}
 use Rattle.model.proofs.Lists.{each_append}
 use Rattle.text_form.specs.declared.Stage.{Stage}
+use Rattle.text_form.specs.declared.Command.{Command}
+use Rattle.text_form.specs.declared.Command.TheVariants as command
 use Rattle.text_form.specs.declared.Stage.TheVariants as stage
 use Rattle.text_form.specs.declared.Expected.TheVariants as expected
 use Rattle.text_form.specs.declared.Given.TheVariants as given
@@ -113,12 +115,12 @@ module _ (a : ℕ) (ha : a < 256) where
 
 -- ---- the line
 
-module _ (line : ℕ) (s : Stage) (c f : ℕ) (sides : Sides) (keys script : List ℕ) (ok : allowed s (length keys) 12 ≡ true) where
+module _ (line : ℕ) (s : Stage) (c : Command) (f : ℕ) (sides : Sides) (keys script : List ℕ) (ok : allowed s (length keys) command.Tail ≡ true) where
   pub tail_line_lem : (b : ℕ) (bs : List ℕ) (k v : ℕ) → Token (b ∷ bs) k v
       → Leads (state line 0 s c 0 f sides keys script) (tail_text (b ∷ bs))
-      (state (line + 1) 0 stage.End 12 0 v sides keys (script ++ unopened s sides keys ++ b ∷ bs))
+      (state (line + 1) 0 stage.End command.Tail 0 v sides keys (script ++ unopened s sides keys ++ b ∷ bs))
   unfolding tail_text stage_after expected_at line_given given_keys given_bytes
   tail_line_lem b bs k v t =
-      rw (opened_is s 12 sides keys refl, t.bytes) at
+      rw (opened_is s command.Tail sides keys refl, t.bytes) at
       (one_part line s c f sides keys script named.tail_is ok refl (hex_bytes (b ∷ bs)) v (given.Tail k v) (hex_plain (b ∷ bs))
       t.suits refl (ap (λ (j : ℕ). given.Tail j v) t.pairs) refl)

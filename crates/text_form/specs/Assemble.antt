@@ -1,11 +1,15 @@
 -- The script of a text, byte by byte.
 use Rattle.std.specs.Prelude.{◌≡◌, Bool, true, false, not, ◌&&◌, ◌||◌, ℕ, zero, suc, ◌+◌, ◌-◌}
-use Rattle.std.specs.Prelude.{◌*◌, ◌/◌, ◌%◌, ◌^◌, List, [], ◌∷◌, ◌++◌, ltb, leb, eqb, length, get_or, if◌then◌else◌}
+use Rattle.std.specs.Prelude.{◌*◌, ◌/◌, ◌%◌, ◌^◌, List, [], ◌∷◌, ◌++◌, ltb, leb, eqb, length, get_or, Option, None, Some, if◌then◌else◌}
+use Rattle.std.specs.Option.{option_map_or}
 use Rattle.bench_lines.specs.Decimal.{newline}
 use Rattle.model.specs.Events.{word_of, is_timer}
 use Rattle.model.specs.Words.{head_word, key_word}
+use Rattle.model.specs.declared.event.Event.{Event}
 use Rattle.model.specs.declared.event.Event.TheVariants as event
 use Rattle.model.specs.declared.values.Sides.{Sides}
+use Rattle.text_form.specs.declared.Command.{Command}
+use Rattle.text_form.specs.declared.Command.TheVariants as command
 use Rattle.text_form.specs.declared.Stage.{Stage}
 use Rattle.text_form.specs.declared.Stage.TheVariants as stage
 use Rattle.text_form.specs.declared.Expected.{Expected}
@@ -61,61 +65,126 @@ spelled base t = if is_number base 8 t then spelled_by base 8 t else no_number
 
 -- ---- a line
 
--- the first words of lines; a line is known by the place of its own in this list
-abbrev pub names : List (List ℕ)
+-- the first words of lines
+abbrev pub names : List (List ℕ × Command)
 names =
-    sides_name ∷ keys_name ∷ on_name ∷ off_name ∷ leave_name ∷ notice_name ∷ contact_name ∷ timer_name ∷ deliver_name ∷ echo_name ∷ lose_name ∷ word_name
-    ∷ tail_name ∷ []
+    (sides_name, command.Sides)
+    ∷ (keys_name, command.Keys)
+    ∷ (on_name, command.On)
+    ∷ (off_name, command.Off)
+    ∷ (leave_name, command.Leave)
+    ∷ (notice_name, command.Notice)
+    ∷ (contact_name, command.Contact)
+    ∷ (timer_name, command.Timer)
+    ∷ (deliver_name, command.Deliver)
+    ∷ (echo_name, command.Echo)
+    ∷ (lose_name, command.Lose)
+    ∷ (word_name, command.Word)
+    ∷ (tail_name, command.Tail)
+    ∷ []
 
--- the place of the name that the token is, from place c on; the length of the list, where it is none
-unfoldable pub place_of : ℕ → List (List ℕ) → ℕ → ℕ
-place_of c [] t = c
-place_of c (name ∷ rest) t = if named name t then c else place_of (c + 1) rest t
+-- the line whose name the token is, if there is one
+unfoldable pub named_in : List (List ℕ × Command) → ℕ → Option Command
+named_in [] t = None
+named_in (name ∷ rest) t = if named name.0 t then Some name.1 else named_in rest t
 
-abbrev pub command_of : ℕ → ℕ
-command_of t = place_of 0 names t
+abbrev pub command_of : ℕ → Option Command
+command_of t = named_in names t
 
 -- what a line has after its first word; further keys may follow the first
-abbrev pub parts : ℕ → List Expected
-parts c =
-    get_or
-    ((expected.Side ∷ expected.Side ∷ [])
-    ∷ (expected.Key ∷ [])
-    ∷ (expected.Node ∷ [])
-    ∷ (expected.Node ∷ [])
-    ∷ (expected.Node ∷ [])
-    ∷ (expected.Node ∷ expected.Node ∷ [])
-    ∷ (expected.Node ∷ expected.Node ∷ [])
-    ∷ (expected.Timer ∷ expected.At ∷ expected.Node ∷ [])
-    ∷ (expected.Position ∷ [])
-    ∷ (expected.Position ∷ [])
-    ∷ (expected.Position ∷ [])
-    ∷ (expected.Word ∷ [])
-    ∷ (expected.Tail ∷ [])
-    ∷ [])
-    c
-    []
+abbrev pub parts : Command → List Expected
+parts command.Sides = expected.Side ∷ expected.Side ∷ []
+parts command.Keys = expected.Key ∷ []
+parts command.On = expected.Node ∷ []
+parts command.Off = expected.Node ∷ []
+parts command.Leave = expected.Node ∷ []
+parts command.Notice = expected.Node ∷ expected.Node ∷ []
+parts command.Contact = expected.Node ∷ expected.Node ∷ []
+parts command.Timer = expected.Timer ∷ expected.At ∷ expected.Node ∷ []
+parts command.Deliver = expected.Position ∷ []
+parts command.Echo = expected.Position ∷ []
+parts command.Lose = expected.Position ∷ []
+parts command.Word = expected.Word ∷ []
+parts command.Tail = expected.Tail ∷ []
+
+abbrev pub is_sides : Command → Bool
+is_sides command.Sides = true
+is_sides command.Keys = false
+is_sides command.On = false
+is_sides command.Off = false
+is_sides command.Leave = false
+is_sides command.Notice = false
+is_sides command.Contact = false
+is_sides command.Timer = false
+is_sides command.Deliver = false
+is_sides command.Echo = false
+is_sides command.Lose = false
+is_sides command.Word = false
+is_sides command.Tail = false
+
+abbrev pub is_keys : Command → Bool
+is_keys command.Sides = false
+is_keys command.Keys = true
+is_keys command.On = false
+is_keys command.Off = false
+is_keys command.Leave = false
+is_keys command.Notice = false
+is_keys command.Contact = false
+is_keys command.Timer = false
+is_keys command.Deliver = false
+is_keys command.Echo = false
+is_keys command.Lose = false
+is_keys command.Word = false
+is_keys command.Tail = false
+
+-- what a script without an opening may begin with
+abbrev pub is_raw : Command → Bool
+is_raw command.Sides = false
+is_raw command.Keys = false
+is_raw command.On = false
+is_raw command.Off = false
+is_raw command.Leave = false
+is_raw command.Notice = false
+is_raw command.Contact = false
+is_raw command.Timer = false
+is_raw command.Deliver = false
+is_raw command.Echo = false
+is_raw command.Lose = false
+is_raw command.Word = true
+is_raw command.Tail = true
 
 -- on, off, leave, notice, contact, timer, deliver, echo, lose, word and tail may stand after the opening
-abbrev pub is_later : ℕ → Bool
-is_later c = leb 2 c && leb c 12
+abbrev pub is_later : Command → Bool
+is_later c = not (is_sides c) && not (is_keys c)
 
 -- `sides` first, then `keys`, and more of them up to 64 keys; or `word` or `tail` at once. Nothing after `tail`
-abbrev pub allowed : Stage → ℕ → ℕ → Bool
-allowed stage.Start keys c = eqb c 0 || leb 11 c && leb c 12
-allowed stage.Sides keys c = eqb c 1
-allowed stage.Keys keys c = eqb c 1 && ltb keys 64 || is_later c
+abbrev pub allowed : Stage → ℕ → Command → Bool
+allowed stage.Start keys c = is_sides c || is_raw c
+allowed stage.Sides keys c = is_keys c
+allowed stage.Keys keys c = is_keys c && ltb keys 64 || is_later c
 allowed stage.Events keys c = is_later c
 allowed stage.End keys c = false
 
-unfoldable pub stage_after : ℕ → Stage
-stage_after c = if eqb c 0 then stage.Sides else if eqb c 1 then stage.Keys else if eqb c 12 then stage.End else stage.Events
+unfoldable pub stage_after : Command → Stage
+stage_after command.Sides = stage.Sides
+stage_after command.Keys = stage.Keys
+stage_after command.On = stage.Events
+stage_after command.Off = stage.Events
+stage_after command.Leave = stage.Events
+stage_after command.Notice = stage.Events
+stage_after command.Contact = stage.Events
+stage_after command.Timer = stage.Events
+stage_after command.Deliver = stage.Events
+stage_after command.Echo = stage.Events
+stage_after command.Lose = stage.Events
+stage_after command.Word = stage.Events
+stage_after command.Tail = stage.End
 
 -- the words of the opening come once it is known how many keys there are: with the first later line
-abbrev pub opens : Stage → ℕ → Bool
+abbrev pub opens : Stage → Command → Bool
 opens stage.Start c = false
 opens stage.Sides c = false
-opens stage.Keys c = not (eqb c 1)
+opens stage.Keys c = not (is_keys c)
 opens stage.Events c = false
 opens stage.End c = false
 
@@ -131,7 +200,7 @@ line_at stage.End = expected.NoLine
 unfoldable pub expected_at : Reader → Expected
 expected_at r =
     if eqb r.place 0 then line_at r.stage
-    else if eqb r.command 1 then (if ltb r.keys 64 then expected.Key else expected.LineEnd)
+    else if is_keys r.command then (if ltb r.keys 64 then expected.Key else expected.LineEnd)
     else get_or (parts r.command) (r.place - 1) expected.LineEnd
 
 -- a token of so many bytes: 1, 2 or 3 pairs of digits
@@ -173,31 +242,25 @@ fits expected.Word t = leb (2 ^ 56) t && ltb (spelled 16 t) no_number
 fits expected.Tail t = not (eqb (pairs_of t) 0) && ltb (spelled 16 t) no_number
 fits expected.LineEnd t = false
 
--- the event of a line whose first part is a, and the last b
-abbrev pub event_given : ℕ → ℕ → ℕ → ℕ
-event_given c a b =
-    word_of
-    (get_or
-    (event.On (record { 0 = b })
-    ∷ event.Off (record { 0 = b }) false
-    ∷ event.Off (record { 0 = b }) true
-    ∷ event.Notice (record { 0 = a }) (record { 0 = b })
-    ∷ event.Contact (record { 0 = a }) (record { 0 = b })
-    ∷ event.Timer (record { 0 = b }) a
-    ∷ event.Deliver b false
-    ∷ event.Deliver b true
-    ∷ [])
-    (c - 2)
-    (event.Lose b))
+-- what the line of an event gives
+abbrev pub event_given : Event → Given
+event_given e = given.Word (word_of e)
 
--- what a line gives with its last part, the token t of value b
-unfoldable pub line_given : ℕ → ℕ → ℕ → ℕ → Given
-line_given c a b t =
-    if eqb c 0 then given.Nothing
-    else if eqb c 1 then given.Key b
-    else if eqb c 11 then given.Word b
-    else if eqb c 12 then given.Tail (pairs_of t) b
-    else given.Word (event_given c a b)
+-- what a line gives whose first part is a, with its last part, the token t of value b
+unfoldable pub line_given : Command → ℕ → ℕ → ℕ → Given
+line_given command.Sides a b t = given.Nothing
+line_given command.Keys a b t = given.Key b
+line_given command.On a b t = event_given (event.On (record { 0 = b }))
+line_given command.Off a b t = event_given (event.Off (record { 0 = b }) false)
+line_given command.Leave a b t = event_given (event.Off (record { 0 = b }) true)
+line_given command.Notice a b t = event_given (event.Notice (record { 0 = a }) (record { 0 = b }))
+line_given command.Contact a b t = event_given (event.Contact (record { 0 = a }) (record { 0 = b }))
+line_given command.Timer a b t = event_given (event.Timer (record { 0 = b }) a)
+line_given command.Deliver a b t = event_given (event.Deliver b false)
+line_given command.Echo a b t = event_given (event.Deliver b true)
+line_given command.Lose a b t = event_given (event.Lose b)
+line_given command.Word a b t = given.Word b
+line_given command.Tail a b t = given.Tail (pairs_of t) b
 
 -- ---- a reader
 
@@ -209,7 +272,7 @@ start =
       comment = false;
       token = 0;
       stage = stage.Start;
-      command = 0;
+      command = command.Sides;
       place = 0;
       first = 0;
       sides = record { ahead = 0; behind = 0 };
@@ -235,10 +298,10 @@ stopped r =
       keys = r.keys;
     }
 
--- the first word of a line
-unfoldable pub begun : Reader → ℕ → Step
-begun r t =
-    if allowed r.stage r.keys (command_of t)
+-- a line of command c may come, or not
+unfoldable pub begun_by : Reader → Command → Step
+begun_by r c =
+    if allowed r.stage r.keys c
     then record {
       reader =
           record {
@@ -246,16 +309,20 @@ begun r t =
             fault = false;
             comment = r.comment;
             token = 0;
-            stage = stage_after (command_of t);
-            command = command_of t;
+            stage = stage_after c;
+            command = c;
             place = 1;
             first = 0;
             sides = r.sides;
             keys = r.keys;
           };
-      given = if opens r.stage (command_of t) then given.Opening else given.Nothing;
+      given = if opens r.stage c then given.Opening else given.Nothing;
     }
     else silent (stopped r)
+
+-- the first word of a line
+unfoldable pub begun : Reader → ℕ → Step
+begun r t = option_map_or (begun_by r) (command_of t) (silent (stopped r))
 
 -- so many parts of the line are read, the last with value b: the reader
 unfoldable pub part_read : Reader → ℕ → Reader
@@ -267,10 +334,10 @@ part_read r b =
       token = 0;
       stage = r.stage;
       command = r.command;
-      place = if eqb r.command 1 then 2 else r.place + 1;
+      place = if is_keys r.command then 2 else r.place + 1;
       first = if eqb r.place 1 then b else r.first;
-      sides = if eqb r.command 0 && eqb r.place 2 then record { ahead = r.first; behind = b } else r.sides;
-      keys = if eqb r.command 1 then r.keys + 1 else r.keys;
+      sides = if is_sides r.command && eqb r.place 2 then record { ahead = r.first; behind = b } else r.sides;
+      keys = if is_keys r.command then r.keys + 1 else r.keys;
     }
 
 -- the next word of a line: with the last part, the line gives

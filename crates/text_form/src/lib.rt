@@ -3,39 +3,26 @@
 
 use model::values::Sides;
 
-// The first words of lines, by number.
-pub mod command {
-    pub const SIDES: u8 = 0;
-
-    pub const KEYS: u8 = 1;
-
-    pub const ON: u8 = 2;
-
-    pub const OFF: u8 = 3;
-
-    pub const LEAVE: u8 = 4;
-
-    pub const NOTICE: u8 = 5;
-
-    pub const CONTACT: u8 = 6;
-
-    pub const TIMER: u8 = 7;
-
-    pub const DELIVER: u8 = 8;
-
-    pub const ECHO: u8 = 9;
-
-    pub const LOSE: u8 = 10;
-
-    pub const WORD: u8 = 11;
-
-    pub const TAIL: u8 = 12;
-
-    pub const UNKNOWN: u8 = 13;
+// The first words of lines.
+#[derive(Clone, Copy, Debug, PartialEq, Eq)]
+pub enum Command {
+    Sides,
+    Keys,
+    On,
+    Off,
+    Leave,
+    Notice,
+    Contact,
+    Timer,
+    Deliver,
+    Echo,
+    Lose,
+    Word,
+    Tail,
 }
 
 // What came before the line: nothing, the sides, some keys, the whole opening, or the tail.
-#[derive(Clone, Copy)]
+#[derive(Clone, Copy, Debug, PartialEq, Eq)]
 pub enum Stage {
     Start,
     Sides,
@@ -45,7 +32,7 @@ pub enum Stage {
 }
 
 // What is expected at a place: a line of some kind, a part of a line, or its end.
-#[derive(Clone, Copy)]
+#[derive(Clone, Copy, Debug, PartialEq, Eq)]
 pub enum Expected {
     Opening,
     Keys,
@@ -63,8 +50,8 @@ pub enum Expected {
 }
 
 // How far a reader has come: the line, from 1; whether it stopped at a fault; whether it is in a comment; the token
-// that is not finished, 0 for none; the line's first word, by number, the place in the line, 0 before that word, and
-// the first part, once there is one; the sides, and how many keys there are.
+// that is not finished, 0 for none; the line's first word, the place in the line, 0 before that word, and the first
+// part, once there is one; the sides, and how many keys there are.
 #[derive(Clone, Copy)]
 pub struct Reader {
     pub line: u64,
@@ -72,7 +59,7 @@ pub struct Reader {
     pub comment: bool,
     pub token: u64,
     pub stage: Stage,
-    pub command: u8,
+    pub command: Command,
     pub place: u8,
     pub first: u32,
     pub sides: Sides,
@@ -81,7 +68,7 @@ pub struct Reader {
 
 // What a byte of a text gives to the script: nothing, the words of the opening, a key for them, a word, or so many
 // bytes at the end.
-#[derive(Clone, Copy)]
+#[derive(Clone, Copy, Debug, PartialEq, Eq)]
 pub enum Given {
     Nothing,
     Opening,

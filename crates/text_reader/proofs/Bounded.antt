@@ -1,18 +1,21 @@
 -- What a reader holds stays within its bounds, and so does what it gives.
 use mathlib.Core.Path.{◌≡◌, refl, ap, ◌∙◌, subst}
-use mathlib.Core.Bool.{Bool, true, false, not, ◌&&◌, ◌||◌}
+use mathlib.Core.Bool.{Bool, true, false, not, ◌&&◌}
 use Prim.Native.Nat.{ℕ, ◌+◌, ◌-◌, ◌^◌, ◌≤◌, ◌<◌}
 use native.Mathlib.Omega.{arith}
 use lib.Dec.{eqb, ltb, leb}
 use lib.ListN.{length, get_or, get_or-eq_default}
-use borrow.Author.Tests.{eqb-true, eqb-false, ne_eqb, eq-eqb, ltb-true, leb-true, leb-false, le-leb}
-use Rattle.std.specs.Prelude.{if◌then◌else◌}
+use borrow.Author.Tests.{eqb-true, eqb-false, ne_eqb, ltb-true, leb-true, leb-false, le-leb}
+use Rattle.std.specs.Prelude.{Option, None, Some, if◌then◌else◌}
 use Rattle.model.specs.Sets.{all}
 use Rattle.model.specs.Structs.{RoomSides}
-use Rattle.model.proofs.Laws.{clash, and_left, and_right, or_case, if_law, all_out, decide}
+use Rattle.model.proofs.Laws.{clash, and_left, and_right, if_law, all_out, decide}
 use Rattle.bench_lines.specs.Decimal.{newline}
-use Rattle.text_form.specs.Assemble.{parts, is_later, allowed, opens, command_of, expected_at, pairs_of, spelled, value_of, fits, event_given, line_given}
-use Rattle.text_form.specs.Assemble.{silent, stopped, begun, part_read, continued, token_ended, complete, line_ended, commented, grown_by, after}
+use Rattle.std.specs.Option.{option_map_or}
+use Rattle.text_form.specs.declared.Command.{Command}
+use Rattle.text_form.specs.declared.Command.TheVariants as command
+use Rattle.text_form.specs.Assemble.{parts, is_sides, is_keys, allowed, opens, command_of, expected_at, pairs_of, spelled, value_of, fits, line_given}
+use Rattle.text_form.specs.Assemble.{silent, stopped, begun_by, begun, part_read, continued, token_ended, complete, line_ended, commented, grown_by, after}
 use Rattle.text_form.specs.Assemble.{hash, byte_read, closed, given_keys, start}
 use Rattle.text_form.specs.declared.Stage.{Stage}
 use Rattle.text_form.specs.declared.Stage.TheVariants as stage
@@ -60,99 +63,149 @@ below_limit Word t h = ltb-true _ _ (and_right (leb (2 ^ 56) t) _ h)
 below_limit Tail t h = ltb-true _ _ (and_right (not (eqb (pairs_of t) 0)) (ltb (spelled 16 t) (2 ^ 32)) h)
 below_limit LineEnd t h = clash h refl
 
-limit_of_part : (c p : ℕ) → c < 13 → p < 4 → limit (get_or (parts c) p LineEnd) ≤ bound c
+within_bound : (c : Command) → all 4 (λ p. leb (limit (get_or (parts c) p LineEnd)) (bound c)) ≡ true
 unfolding all limit
-limit_of_part c p hc hp =
-    leb-true _ _
-    (all_out 4 (λ q. leb (limit (get_or (parts c) q LineEnd)) (bound c))
-    (all_out 13 (λ k. all 4 (λ q. leb (limit (get_or (parts k) q LineEnd)) (bound k))) refl c hc) p hp)
+within_bound command.Sides = refl
+within_bound command.Keys = refl
+within_bound command.On = refl
+within_bound command.Off = refl
+within_bound command.Leave = refl
+within_bound command.Notice = refl
+within_bound command.Contact = refl
+within_bound command.Timer = refl
+within_bound command.Deliver = refl
+within_bound command.Echo = refl
+within_bound command.Lose = refl
+within_bound command.Word = refl
+within_bound command.Tail = refl
 
-bound_small : (c : ℕ) → c < 13 → bound c ≤ 2 ^ 32
-unfolding all
-bound_small c h = leb-true _ _ (all_out 13 (λ k. leb (bound k) (2 ^ 32)) refl c h)
+limit_of_part : (c : Command) (p : ℕ) → p < 4 → limit (get_or (parts c) p LineEnd) ≤ bound c
+limit_of_part c p h = leb-true _ _ (all_out 4 (λ q. leb (limit (get_or (parts c) q LineEnd)) (bound c)) (within_bound c) p h)
 
-few_parts : (c : ℕ) → c < 13 → length (parts c) ≤ 3
-unfolding all
-few_parts c h = leb-true _ _ (all_out 13 (λ k. leb (length (parts k)) 3) refl c h)
+bound_small : (c : Command) → bound c ≤ 2 ^ 32
+bound_small command.Sides = omega arith
+bound_small command.Keys = omega arith
+bound_small command.On = omega arith
+bound_small command.Off = omega arith
+bound_small command.Leave = omega arith
+bound_small command.Notice = omega arith
+bound_small command.Contact = omega arith
+bound_small command.Timer = omega arith
+bound_small command.Deliver = omega arith
+bound_small command.Echo = omega arith
+bound_small command.Lose = omega arith
+bound_small command.Word = omega arith
+bound_small command.Tail = omega arith
 
--- notice, contact and timer have more than one
-two_parts : (c : ℕ) → 5 ≤ c → c ≤ 7 → 2 ≤ length (parts c)
-unfolding all
-two_parts c l h =
-    leb-true _ _
-    (or_case (ltb c 5) _ (all_out 8 (λ k. ltb k 5 || leb 2 (length (parts k))) refl c (omega arith))
-    (λ e. let w = ltb-true c 5 e in absurd (omega arith)) (λ e. e))
+few_parts : (c : Command) → length (parts c) ≤ 3
+few_parts command.Sides = omega arith
+few_parts command.Keys = omega arith
+few_parts command.On = omega arith
+few_parts command.Off = omega arith
+few_parts command.Leave = omega arith
+few_parts command.Notice = omega arith
+few_parts command.Contact = omega arith
+few_parts command.Timer = omega arith
+few_parts command.Deliver = omega arith
+few_parts command.Echo = omega arith
+few_parts command.Lose = omega arith
+few_parts command.Word = omega arith
+few_parts command.Tail = omega arith
 
-bound_0 : (c n : ℕ) → c ≡ 0 → n < bound c → n < 9
-bound_0 c n e h = rw e at h
+sides_bound : (c : Command) → is_sides c ≡ true → bound c ≡ 9
+sides_bound command.Sides h = refl
+sides_bound command.Keys h = clash h refl
+sides_bound command.On h = clash h refl
+sides_bound command.Off h = clash h refl
+sides_bound command.Leave h = clash h refl
+sides_bound command.Notice h = clash h refl
+sides_bound command.Contact h = clash h refl
+sides_bound command.Timer h = clash h refl
+sides_bound command.Deliver h = clash h refl
+sides_bound command.Echo h = clash h refl
+sides_bound command.Lose h = clash h refl
+sides_bound command.Word h = clash h refl
+sides_bound command.Tail h = clash h refl
 
-bound_1 : (c n : ℕ) → c ≡ 1 → n < bound c → n < 2 ^ 24
-bound_1 c n e h = rw e at h
+keys_bound : (c : Command) → is_keys c ≡ true → bound c ≡ 2 ^ 24
+keys_bound command.Sides h = clash h refl
+keys_bound command.Keys h = refl
+keys_bound command.On h = clash h refl
+keys_bound command.Off h = clash h refl
+keys_bound command.Leave h = clash h refl
+keys_bound command.Notice h = clash h refl
+keys_bound command.Contact h = clash h refl
+keys_bound command.Timer h = clash h refl
+keys_bound command.Deliver h = clash h refl
+keys_bound command.Echo h = clash h refl
+keys_bound command.Lose h = clash h refl
+keys_bound command.Word h = clash h refl
+keys_bound command.Tail h = clash h refl
 
 module _ (r : Reader) (b : ReaderBounded r) (started : 1 ≤ r.place) where
   limit_of_expected : limit (expected_at r) ≤ bound r.command
   unfolding expected_at limit
   limit_of_expected =
       rw (ne_eqb r.place 0 (λ e. absurd (omega arith)))
-      (if_law (λ (e : Expected). limit e ≤ bound r.command) (eqb r.command 1)
+      (if_law (λ (e : Expected). limit e ≤ bound r.command) (is_keys r.command)
       (if ltb r.keys 64 then Key else LineEnd) (get_or (parts r.command) (r.place - 1) LineEnd)
-      (λ e. rw (eqb-true r.command 1 e) (if_law (λ (x : Expected). limit x ≤ 2 ^ 24) (ltb r.keys 64) Key LineEnd (λ d. omega arith) (λ d. omega arith)))
-      (λ e. limit_of_part r.command (r.place - 1) b.command (omega (arith, b.place))))
+      (λ e. rw (keys_bound r.command e) (if_law (λ (x : Expected). limit x ≤ 2 ^ 24) (ltb r.keys 64) Key LineEnd (λ d. omega arith) (λ d. omega arith)))
+      (λ e. limit_of_part r.command (r.place - 1) (omega (arith, b.place))))
 
   module _ (t : ℕ) (fit : fits (expected_at r) t ≡ true) where
     pub value_bounded : value_of (expected_at r) t < bound r.command
     value_bounded = omega (arith, below_limit (expected_at r) t fit, limit_of_expected)
 
     pub value_small : value_of (expected_at r) t < 2 ^ 32
-    value_small = omega (arith, value_bounded, bound_small r.command b.command)
+    value_small = omega (arith, value_bounded, bound_small r.command)
 
     -- there is a part at this place
-    within_line : (r.command ≡ 1 → ⊥) → r.place ≤ length (parts r.command)
+    within_line : is_keys r.command ≡ false → r.place ≤ length (parts r.command)
     unfolding expected_at
     within_line other =
         decide (leb r.place (length (parts r.command))) (leb-true _ _)
         (λ e.
         let beyond : expected_at r ≡ LineEnd =
-        rw (ne_eqb r.place 0 (λ z. absurd (omega arith)), ne_eqb r.command 1 other)
+        rw (ne_eqb r.place 0 (λ z. absurd (omega arith)), other)
         (get_or-eq_default (parts r.command) LineEnd (omega (arith, leb-false r.place (length (parts r.command)) e))) in
         clash fit (ap (λ (x : Expected). fits x t) beyond))
 
-    room_for_key : r.command ≡ 1 → r.keys < 64
+    room_for_key : is_keys r.command ≡ true → r.keys < 64
     unfolding expected_at
     room_for_key is =
         decide (ltb r.keys 64) (ltb-true _ _)
         (λ e.
-        let full : expected_at r ≡ LineEnd = rw (ne_eqb r.place 0 (λ z. absurd (omega arith)), eq-eqb r.command 1 is, e) in
+        let full : expected_at r ≡ LineEnd = rw (ne_eqb r.place 0 (λ z. absurd (omega arith)), is, e) in
         clash fit (ap (λ (x : Expected). fits x t) full))
 
     pub parts_bounded : length (parts r.command) ≤ r.place → PartsBounded r.command r.first (value_of (expected_at r) t)
     parts_bounded h =
         record {
           last = value_bounded;
-          first = λ l m. b.first (omega (arith, two_parts r.command l m));
+          first = λ m. b.first (omega arith);
         }
 
-    sides_bounded : (r.command ≡ 0) → r.place ≡ 2 → RoomSides (record { ahead = r.first; behind = value_of (expected_at r) t })
+    sides_bounded : is_sides r.command ≡ true → r.place ≡ 2 → RoomSides (record { ahead = r.first; behind = value_of (expected_at r) t })
     sides_bounded e f =
-        let ahead = bound_0 r.command r.first e (b.first (omega arith)) in
-        let behind = bound_0 r.command (value_of (expected_at r) t) e value_bounded in
+        let ahead = b.first (omega arith) in
+        let behind = value_bounded in
+        let nine = sides_bound r.command e in
         record { ahead_room = omega arith; behind_room = omega arith }
 
     part_bounded : ReaderBounded (part_read r (value_of (expected_at r) t))
     unfolding part_read
     part_bounded =
         record {
-          command = b.command;
-          place = if_law (λ (n : ℕ). n ≤ 4) (eqb r.command 1) 2 (r.place + 1) (λ e. omega arith)
-              (λ e. omega (arith, within_line (eqb-false r.command 1 e), few_parts r.command b.command));
+          place = if_law (λ (n : ℕ). n ≤ 4) (is_keys r.command) 2 (r.place + 1) (λ e. omega arith)
+              (λ e. omega (arith, within_line e, few_parts r.command));
           first = λ h. if_law (λ (n : ℕ). n < bound r.command) (eqb r.place 1) (value_of (expected_at r) t) r.first (λ e. value_bounded)
               (λ e. b.first (let other = eqb-false r.place 1 e in omega arith));
-          sides = if_law RoomSides (eqb r.command 0 && eqb r.place 2) (record { ahead = r.first; behind = value_of (expected_at r) t }) r.sides
-              (λ e. sides_bounded (eqb-true r.command 0 (and_left (eqb r.command 0) (eqb r.place 2) e))
-              (eqb-true r.place 2 (and_right (eqb r.command 0) (eqb r.place 2) e)))
+          sides = if_law RoomSides (is_sides r.command && eqb r.place 2) (record { ahead = r.first; behind = value_of (expected_at r) t }) r.sides
+              (λ e. sides_bounded (and_left (is_sides r.command) (eqb r.place 2) e)
+              (eqb-true r.place 2 (and_right (is_sides r.command) (eqb r.place 2) e)))
               (λ e. b.sides);
-          keys = if_law (λ (n : ℕ). n ≤ 64) (eqb r.command 1) (r.keys + 1) r.keys
-              (λ e. omega (arith, room_for_key (eqb-true r.command 1 e))) (λ e. b.keys);
+          keys = if_law (λ (n : ℕ). n ≤ 64) (is_keys r.command) (r.keys + 1) r.keys
+              (λ e. omega (arith, room_for_key e)) (λ e. b.keys);
         }
 
 -- ---- a step
@@ -176,45 +229,42 @@ silent_bounded most r q b l k = record { reader = b; line = l; keys = k ∙ omeg
 
 pub stopped_bounded : (r : Reader) → ReaderBounded r → ReaderBounded (stopped r)
 unfolding stopped
-stopped_bounded r b = record { command = b.command; place = b.place; first = b.first; sides = b.sides; keys = b.keys }
+stopped_bounded r b = record { place = b.place; first = b.first; sides = b.sides; keys = b.keys }
 
 stops : (r : Reader) → ReaderBounded r → StepBounded r.line r (silent (stopped r))
 unfolding stopped
 stops r b = silent_bounded r.line r (stopped r) (stopped_bounded r b) (omega arith) refl
 
-allowed_known : (s : Stage) (k c : ℕ) → allowed s k c ≡ true → c < 13
-allowed_known stage.Start k c h =
-    or_case (eqb c 0) (leb 11 c && leb c 12) h (λ e. let z = eqb-true c 0 e in omega arith) (λ e. let w = within 11 12 c e in omega arith)
-allowed_known stage.Sides k c h = let z = eqb-true c 1 h in omega arith
-allowed_known stage.Keys k c h =
-    or_case (eqb c 1 && ltb k 64) (is_later c) h (λ e. let z = eqb-true c 1 (and_left (eqb c 1) (ltb k 64) e) in omega arith)
-    (λ e. let w = within 2 12 c e in omega arith)
-allowed_known stage.Events k c h = let w = within 2 12 c h in omega arith
-allowed_known stage.End k c h = clash h refl
-
 -- the opening, or nothing
 opening_law : (P : Given → Type 0) (q : Bool) → P given.Opening → P given.Nothing → P (if q then given.Opening else given.Nothing)
 opening_law P q f g = if_law P q given.Opening given.Nothing (λ e. f) (λ e. g)
 
-begun_bounded : (r : Reader) (t : ℕ) → ReaderBounded r → StepBounded r.line r (begun r t)
-unfolding begun given_keys
-begun_bounded r t b =
-    if_law (StepBounded r.line r) (allowed r.stage r.keys (command_of t)) _ (silent (stopped r))
+command_bounded : (r : Reader) → ReaderBounded r → (c : Command) → StepBounded r.line r (begun_by r c)
+unfolding begun_by given_keys
+command_bounded r b c =
+    if_law (StepBounded r.line r) (allowed r.stage r.keys c) _ (silent (stopped r))
     (λ e.
     record {
       reader =
           record {
-            command = allowed_known r.stage r.keys (command_of t) e;
             place = omega arith;
             first = λ h. absurd (omega arith);
             sides = b.sides;
             keys = b.keys;
           };
       line = omega arith;
-      keys = opening_law (λ (g : Given). r.keys ≡ r.keys + length (given_keys g)) (opens r.stage (command_of t)) (omega arith) (omega arith);
-      given = opening_law GivenBounded (opens r.stage (command_of t)) opening_bounded nothing_bounded;
+      keys = opening_law (λ (g : Given). r.keys ≡ r.keys + length (given_keys g)) (opens r.stage c) (omega arith) (omega arith);
+      given = opening_law GivenBounded (opens r.stage c) opening_bounded nothing_bounded;
     })
     (λ e. stops r b)
+
+begun_bounded : (r : Reader) (t : ℕ) → ReaderBounded r → StepBounded r.line r (begun r t)
+unfolding begun
+begun_bounded r t b = go (command_of t)
+  where
+    go : (o : Option Command) → StepBounded r.line r (option_map_or (begun_by r) o (silent (stopped r)))
+    go None = stops r b
+    go (Some c) = command_bounded r b c
 
 pairs_few : (t : ℕ) → pairs_of t ≤ 3
 unfolding pairs_of
@@ -224,33 +274,51 @@ pairs_few t =
     (λ f. if_law (λ (n : ℕ). n ≤ 3) (leb (2 ^ 40) t && ltb t (2 ^ 48)) 3 0 (λ g. omega arith) (λ g. omega arith)))
 
 -- what holds of whatever a line can give
-line_law : (P : Given → Type 0) (c a v t : ℕ) → P given.Nothing → (c ≡ 1 → P (given.Key v)) → ((w : ℕ) → (c ≡ 1 → ⊥) → P (given.Word w))
-    → ((c ≡ 1 → ⊥) → P (given.Tail (pairs_of t) v)) → P (line_given c a v t)
+line_law : (P : Given → Type 0) (c : Command) (a v t : ℕ) → P given.Nothing → (is_keys c ≡ true → P (given.Key v)) → ((w : ℕ) → is_keys c ≡ false → P (given.Word w))
+    → (is_keys c ≡ false → P (given.Tail (pairs_of t) v)) → P (line_given c a v t)
 unfolding line_given
-line_law P c a v t none key word tail =
-    if_law P (eqb c 0) given.Nothing _ (λ e. none)
-    (λ e. if_law P (eqb c 1) (given.Key v) _ (λ f. key (eqb-true c 1 f))
-    (λ f. if_law P (eqb c 11) (given.Word v) _ (λ g. word v (eqb-false c 1 f))
-    (λ g. if_law P (eqb c 12) (given.Tail (pairs_of t) v) (given.Word (event_given c a v)) (λ h. tail (eqb-false c 1 f))
-    (λ h. word (event_given c a v) (eqb-false c 1 f)))))
+line_law P command.Sides a v t none key word tail = none
+line_law P command.Keys a v t none key word tail = key refl
+line_law P command.On a v t none key word tail = word _ refl
+line_law P command.Off a v t none key word tail = word _ refl
+line_law P command.Leave a v t none key word tail = word _ refl
+line_law P command.Notice a v t none key word tail = word _ refl
+line_law P command.Contact a v t none key word tail = word _ refl
+line_law P command.Timer a v t none key word tail = word _ refl
+line_law P command.Deliver a v t none key word tail = word _ refl
+line_law P command.Echo a v t none key word tail = word _ refl
+line_law P command.Lose a v t none key word tail = word _ refl
+line_law P command.Word a v t none key word tail = word v refl
+line_law P command.Tail a v t none key word tail = tail refl
 
-one_key : (p a v t k : ℕ) → 1 ≤ p → k + 1 ≡ k + length (given_keys (if leb 1 p then line_given 1 a v t else given.Nothing))
-unfolding given_keys line_given
-one_key p a v t k h = rw (le-leb 1 p h)
-
-no_key : (c p a v t k : ℕ) → (c ≡ 1 → ⊥) → k ≡ k + length (given_keys (if leb (length (parts c)) p then line_given c a v t else given.Nothing))
+no_key : (c : Command) (p a v t k : ℕ) → is_keys c ≡ false → k ≡ k + length (given_keys (if leb (length (parts c)) p then line_given c a v t else given.Nothing))
 unfolding given_keys
 no_key c p a v t k other =
     if_law (λ (g : Given). k ≡ k + length (given_keys g)) (leb (length (parts c)) p) (line_given c a v t) given.Nothing
     (λ f.
-    line_law (λ (g : Given). k ≡ k + length (given_keys g)) c a v t (omega arith) (λ d. absurd (other d)) (λ w d. omega arith)
+    line_law (λ (g : Given). k ≡ k + length (given_keys g)) c a v t (omega arith) (λ d. clash d other) (λ w d. omega arith)
     (λ d. omega arith))
     (λ f. omega arith)
 
-counted : (c p a v t k : ℕ) → 1 ≤ p
-    → (if eqb c 1 then k + 1 else k) ≡ k + length (given_keys (if leb (length (parts c)) p then line_given c a v t else given.Nothing))
-counted c p a v t k h =
-    decide (eqb c 1) (λ e. rw (eqb-true c 1 e) (one_key p a v t k h)) (λ e. rw e (no_key c p a v t k (eqb-false c 1 e)))
+one_key : (c : Command) (p a v t k : ℕ) → is_keys c ≡ true → 1 ≤ p → k + 1 ≡ k + length (given_keys (if leb (length (parts c)) p then line_given c a v t else given.Nothing))
+unfolding given_keys line_given
+one_key command.Sides p a v t k is h = clash is refl
+one_key command.Keys p a v t k is h = rw (le-leb 1 p h)
+one_key command.On p a v t k is h = clash is refl
+one_key command.Off p a v t k is h = clash is refl
+one_key command.Leave p a v t k is h = clash is refl
+one_key command.Notice p a v t k is h = clash is refl
+one_key command.Contact p a v t k is h = clash is refl
+one_key command.Timer p a v t k is h = clash is refl
+one_key command.Deliver p a v t k is h = clash is refl
+one_key command.Echo p a v t k is h = clash is refl
+one_key command.Lose p a v t k is h = clash is refl
+one_key command.Word p a v t k is h = clash is refl
+one_key command.Tail p a v t k is h = clash is refl
+
+counted : (c : Command) (p a v t k : ℕ) → 1 ≤ p
+    → (if is_keys c then k + 1 else k) ≡ k + length (given_keys (if leb (length (parts c)) p then line_given c a v t else given.Nothing))
+counted c p a v t k h = decide (is_keys c) (λ e. rw e (one_key c p a v t k e h)) (λ e. rw e (no_key c p a v t k e))
 
 fitting_bounded : (r : Reader) (b : ReaderBounded r) (h : 1 ≤ r.place) (t : ℕ) → fits (expected_at r) t ≡ true → StepBounded r.line r
     (record {
@@ -269,12 +337,12 @@ fitting_bounded r b h t fit =
       given =
           if_law GivenBounded (leb (length (parts c)) r.place) (line_given c r.first v t) given.Nothing
           (λ e.
-          line_law GivenBounded c r.first v t nothing_bounded (λ f. record { key = bound_1 c v f (value_bounded r b h t fit); tail = omega arith })
+          line_law GivenBounded c r.first v t nothing_bounded (λ f. record { key = omega (arith, keys_bound c f, value_bounded r b h t fit); tail = omega arith })
           (λ w f. record { key = omega arith; tail = omega arith }) (λ f. record { key = omega arith; tail = pairs_few t }))
           (λ e. nothing_bounded);
     }
   where
-    c : ℕ
+    c : Command
     c = r.command
 
     v : ℕ
@@ -307,7 +375,7 @@ line_changed r b =
     if_law (Changed r) (complete r) _ (stopped r)
     (λ f.
     record {
-      reader = record { command = b.command; place = omega arith; first = λ h. absurd (omega arith); sides = b.sides; keys = b.keys };
+      reader = record { place = omega arith; first = λ h. absurd (omega arith); sides = b.sides; keys = b.keys };
       line = omega arith;
       keys = refl;
     })
@@ -317,7 +385,7 @@ comment_changed : (r : Reader) → ReaderBounded r → Changed r (commented r)
 unfolding commented
 comment_changed r b =
     record {
-      reader = record { command = b.command; place = b.place; first = b.first; sides = b.sides; keys = b.keys };
+      reader = record { place = b.place; first = b.first; sides = b.sides; keys = b.keys };
       line = omega arith;
       keys = refl;
     }
@@ -334,7 +402,7 @@ grown_bounded : (r : Reader) (v : ℕ) → ReaderBounded r → StepBounded (r.li
 unfolding grown_by
 grown_bounded r v b =
     silent_bounded (r.line + 1) r (grown_by r v)
-    (record { command = b.command; place = b.place; first = b.first; sides = b.sides; keys = b.keys }) (omega arith) refl
+    (record { place = b.place; first = b.first; sides = b.sides; keys = b.keys }) (omega arith) refl
 
 pub byte_bounded : (r : Reader) (v : ℕ) → ReaderBounded r → StepBounded (r.line + 1) r (byte_read r v)
 unfolding byte_read
@@ -374,7 +442,6 @@ pub start_bounded : ReaderBounded start
 unfolding start
 start_bounded =
     record {
-      command = omega arith;
       place = omega arith;
       first = λ h. absurd (omega arith);
       sides = record { ahead_room = omega arith; behind_room = omega arith };

@@ -1,4 +1,3 @@
 pub mod Tokens
-pub mod Lines
 pub mod Readers
 pub mod Bounded

@@ -1,14 +1,17 @@
 -- A reader's definitions, case by case.
-use mathlib.Core.Path.{◌≡◌, sym, ap, ◌∙◌}
+use mathlib.Core.Path.{◌≡◌, refl}
 use mathlib.Core.Bool.{Bool, true, false}
 use Prim.Native.Nat.{ℕ, ◌+◌, ◌≤◌, ◌<◌}
+use mathlib.Core.Logic.{◌⊎◌, inl, inr}
+use Rattle.std.specs.Prelude.{None, Some, if◌then◌else◌}
 use lib.ListN.{length}
 use borrow.Author.Tests.{eq-eqb, ne_eqb, le-leb, lt-leb}
 use Rattle.bench_lines.specs.Decimal.{newline}
-use Rattle.text_form.specs.Assemble.{parts, expected_at, value_of, fits, line_given, silent, stopped, part_read, continued, complete}
+use Rattle.text_form.specs.Assemble.{parts, stage_after, expected_at, value_of, fits, line_given, silent, stopped, part_read, continued, complete}
 use Rattle.text_form.specs.Assemble.{line_ended, commented, grown_by, after, token_ended, hash, byte_read, closed}
-use Rattle.text_form.specs.declared.Expected.{Expected}
 use Rattle.text_form.specs.declared.Reader.{Reader}
+use Rattle.text_form.specs.declared.Command.{Command}
+use Rattle.text_form.specs.declared.Command.TheVariants as command
 use Rattle.text_form.specs.declared.Stage.TheVariants as stage
 use Rattle.text_form.specs.declared.Given.TheVariants as given
 
@@ -89,19 +92,23 @@ module _ (r : Reader) where
     unfolding closed
     closed_end e = rw (sound, e)
 
--- the next word of a line, where e is expected, and v is the token's value as that
-module _ (r : Reader) (t : ℕ) {e : Expected} (expects : e ≡ expected_at r) where
-  pub valued : {v : ℕ} → v ≡ value_of e t → v ≡ value_of (expected_at r) t
-  valued f = f ∙ ap (λ (x : Expected). value_of x t) expects
+    pub closed_silent : (r.stage ≡ stage.Start) ⊎ ((r.stage ≡ stage.Events) ⊎ (r.stage ≡ stage.End)) → silent r ≡ closed r
+    closed_silent (inl e) = closed_start e
+    closed_silent (inr (inl e)) = closed_events e
+    closed_silent (inr (inr e)) = closed_end e
 
-  pub fitted : {q : Bool} → q ≡ fits e t → q ≡ true → fits (expected_at r) t ≡ true
-  fitted {q} f g = ap (λ (x : Expected). fits x t) (sym expects) ∙ sym f ∙ g
+-- what is read where the token fits, and where it does not
+pub misfit : (q : Bool) (v : ℕ) → None ≡ (if q then Some v else None) → q ≡ false
+misfit true v h = absurd (cc)
+misfit false v h = refl
 
-  pub unfitted : {q : Bool} → q ≡ fits e t → q ≡ false → silent (stopped r) ≡ continued r t
-  unfolding continued
-  unfitted {q} f g =
-      let no-fit : fits (expected_at r) t ≡ false = ap (λ (x : Expected). fits x t) (sym expects) ∙ sym f ∙ g in
-      rw no-fit
+pub fitted : (q : Bool) {v w : ℕ} → Some w ≡ (if q then Some v else None) → (q ≡ true) × (w ≡ v)
+fitted true h = (refl, cc)
+fitted false h = absurd (cc)
+
+pub unfitted : (r : Reader) (t : ℕ) → fits (expected_at r) t ≡ false → silent (stopped r) ≡ continued r t
+unfolding continued
+unfitted r t h = rw h
 
 module _ (r : Reader) (t : ℕ) (fit : fits (expected_at r) t ≡ true) where
   pub midway : r.place < length (parts r.command) → silent (part_read r (value_of (expected_at r) t)) ≡ continued r t
@@ -115,3 +122,19 @@ module _ (r : Reader) (t : ℕ) (fit : fits (expected_at r) t ≡ true) where
       } ≡ continued r t
   unfolding continued
   at_last h = rw (fit, le-leb (length (parts r.command)) r.place h)
+
+pub other_stage : (c : Command) → (c ≡ command.Sides → ⊥) → (c ≡ command.Keys → ⊥) → (c ≡ command.Tail → ⊥) → stage.Events ≡ stage_after c
+unfolding stage_after
+other_stage command.Sides s k t = absurd (s refl)
+other_stage command.Keys s k t = absurd (k refl)
+other_stage command.On s k t = refl
+other_stage command.Off s k t = refl
+other_stage command.Leave s k t = refl
+other_stage command.Notice s k t = refl
+other_stage command.Contact s k t = refl
+other_stage command.Timer s k t = refl
+other_stage command.Deliver s k t = refl
+other_stage command.Echo s k t = refl
+other_stage command.Lose s k t = refl
+other_stage command.Word s k t = refl
+other_stage command.Tail s k t = absurd (t refl)

@@ -9,14 +9,14 @@ ghost use Rattle.text_form.specs.Assemble as form;
 ghost use Rattle.text_reader.specs.Bounds.{sides_after, ReaderBounded};
 
 use model::values::Sides;
-use text_form::{Expected, Given, Reader, Stage, Step, command};
+use text_form::{Command, Expected, Given, Reader, Stage, Step};
 
-pub const NEWLINE: u8 = 10;
+pub const NEWLINE: u8 = b'\n';
 
-const HASH: u8 = 35;
+const HASH: u8 = b'#';
 
 // The highest blank: a space, above the control characters.
-const BLANK: u8 = 32;
+const BLANK: u8 = b' ';
 
 // Before the first byte.
 pub fn start() -> Reader
@@ -28,7 +28,7 @@ pub fn start() -> Reader
         comment: false,
         token: 0,
         stage: Stage::Start,
-        command: 0,
+        command: Command::Sides,
         place: 0,
         first: 0,
         sides: Sides {
@@ -73,14 +73,12 @@ fn silent(reader: Reader) -> Step
 
 // What is expected next: a line, a part of one, or its end.
 pub fn expected(reader: Reader) -> Expected
-    requires kind { reader.command < 13 }
     ensures value { result ≡ form.expected_at reader }
 {
     if reader.place == 0 {
-        let stage = reader.stage;
-        return line::expected(stage);
+        return line::expected(reader.stage);
     }
-    if reader.command != command::KEYS {
+    if !line::is_keys(reader.command) {
         return line::part(reader.command, reader.place);
     }
     if reader.keys < line::KEYS {
@@ -99,38 +97,42 @@ fn opening(opens: bool) -> Given
     Given::Nothing
 }
 
-// The first word of a line.
-fn begun(reader: Reader, token: u64) -> Step
-    ensures value { result ≡ form.begun reader token }
+// A line of this command may come, or not.
+fn begun_by(reader: Reader, command: Command) -> Step
+    ensures value { result ≡ form.begun_by reader command }
 {
-    let kind = token::command_of(token);
     let stage = reader.stage;
-    if !line::allowed(stage, reader.keys, kind) {
+    if !line::allowed(stage, reader.keys, command) {
         return silent(stopped(reader));
     }
-    let given = opening(line::opens(stage, kind));
-    let stage = line::stage_after(kind);
-    let sides = reader.sides;
+    let given = opening(line::opens(stage, command));
     let reader = Reader {
-        line: reader.line,
         fault: false,
-        comment: reader.comment,
         token: 0,
-        stage,
-        command: kind,
+        stage: line::stage_after(command),
+        command,
         place: 1,
         first: 0,
-        sides,
-        keys: reader.keys,
+        ..reader
     };
     Step { reader, given }
 }
 
-fn place_after(kind: u8, place: u8) -> u8
-    requires place { place ≤ 4 }
-    ensures value { result ≡ (if eqb kind 1 then 2 else place + 1) }
+// The first word of a line.
+fn begun(reader: Reader, token: u64) -> Step
+    ensures value { result ≡ form.begun reader token }
 {
-    if kind == command::KEYS {
+    match token::command_of(token) {
+        Some(command) => begun_by(reader, command),
+        None => silent(stopped(reader)),
+    }
+}
+
+fn place_after(command: Command, place: u8) -> u8
+    requires place { place ≤ 4 }
+    ensures value { result ≡ (if form.is_keys command then 2 else place + 1) }
+{
+    if line::is_keys(command) {
         return 2;
     }
     place + 1
@@ -145,10 +147,10 @@ fn first_after(place: u8, first: u32, value: u32) -> u32
     first
 }
 
-fn sides_after(sides: Sides, kind: u8, place: u8, first: u32, value: u32) -> Sides
-    ensures value { result ≡ sides_after sides kind place first value }
+fn sides_after(sides: Sides, command: Command, place: u8, first: u32, value: u32) -> Sides
+    ensures value { result ≡ sides_after sides command place first value }
 {
-    if (kind == command::SIDES) & (place == 2) {
+    if line::is_sides(command) & (place == 2) {
         return Sides {
             ahead: first,
             behind: value,
@@ -157,11 +159,11 @@ fn sides_after(sides: Sides, kind: u8, place: u8, first: u32, value: u32) -> Sid
     sides
 }
 
-fn keys_after(kind: u8, keys: u8) -> u8
+fn keys_after(command: Command, keys: u8) -> u8
     requires keys { keys ≤ 64 }
-    ensures value { result ≡ (if eqb kind 1 then keys + 1 else keys) }
+    ensures value { result ≡ (if form.is_keys command then keys + 1 else keys) }
 {
-    if kind == command::KEYS {
+    if line::is_keys(command) {
         return keys + 1;
     }
     keys
@@ -172,20 +174,20 @@ fn part_read(reader: Reader, value: u32) -> Reader
     requires bounds { ReaderBounded reader }
     ensures value { result ≡ form.part_read reader value }
 {
-    let stage = reader.stage;
-    let sides = reader.sides;
-    let sides = sides_after(sides, reader.command, reader.place, reader.first, value);
     Reader {
-        line: reader.line,
         fault: false,
-        comment: reader.comment,
         token: 0,
-        stage,
-        command: reader.command,
         place: place_after(reader.command, reader.place),
         first: first_after(reader.place, reader.first, value),
-        sides,
+        sides: sides_after(
+            reader.sides,
+            reader.command,
+            reader.place,
+            reader.first,
+            value,
+        ),
         keys: keys_after(reader.command, reader.keys),
+        ..reader
     }
 }
 
@@ -194,19 +196,16 @@ fn continued(reader: Reader, token: u64) -> Step
     requires bounds { ReaderBounded reader × (1 ≤ reader.place) }
     ensures value { result ≡ form.continued reader token }
 {
-    let part = expected(reader);
-    let value = line::value(part, token);
-    if !line::fits(part, token, value) {
+    let Some(value) = line::value(expected(reader), token) else {
         return silent(stopped(reader));
-    }
-    let last = value as u32;
-    let after = part_read(reader, last);
+    };
+    let after = part_read(reader, value);
     if reader.place < line::arity(reader.command) {
         return silent(after);
     }
     Step {
         reader: after,
-        given: line::given(reader.command, reader.first, last, token),
+        given: line::given(reader.command, reader.first, value, token),
     }
 }
 
@@ -226,14 +225,13 @@ fn token_ended(reader: Reader) -> Step
 
 // Whether the line may end here.
 fn complete(reader: Reader) -> bool
-    requires kind { reader.command < 13 }
     ensures value { result ≡ form.complete reader }
 {
     (reader.place == 0) | (line::arity(reader.command) < reader.place)
 }
 
 fn line_ended(mut reader: Reader) -> Reader
-    requires bounds { (reader.command < 13) × (reader.line + 1 < 2 ^ 64) }
+    requires bounds { reader.line + 1 < 2 ^ 64 }
     ensures value { result ≡ form.line_ended reader }
 {
     if reader.fault {
@@ -255,11 +253,9 @@ fn newline_read(reader: Reader) -> Step
     ensures value { result ≡ form.after (form.token_ended reader) form.line_ended }
 {
     let step = token_ended(reader);
-    let ended = step.reader;
-    let given = step.given;
     Step {
-        reader: line_ended(ended),
-        given,
+        reader: line_ended(step.reader),
+        given: step.given,
     }
 }
 
@@ -269,11 +265,9 @@ fn hash_read(reader: Reader) -> Step
     ensures value { result ≡ form.after (form.token_ended reader) form.commented }
 {
     let step = token_ended(reader);
-    let ended = step.reader;
-    let given = step.given;
     Step {
-        reader: commented(ended),
-        given,
+        reader: commented(step.reader),
+        given: step.given,
     }
 }
 
@@ -307,15 +301,12 @@ pub fn closed(reader: Reader) -> Step
     if reader.fault {
         return silent(reader);
     }
-    let stage = reader.stage;
-    match stage {
-        Stage::Start => silent(reader),
+    match reader.stage {
+        Stage::Start | Stage::Events | Stage::End => silent(reader),
         Stage::Sides => silent(stopped(reader)),
         Stage::Keys => Step {
             reader,
             given: Given::Opening,
         },
-        Stage::Events => silent(reader),
-        Stage::End => silent(reader),
     }
 }

@@ -2,14 +2,12 @@
 ghost use Rattle.std.specs.Prelude.{◌≡◌, ◌^◌, ◌<◌, ◌≤◌};
 ghost use Rattle.text_form.specs.Assemble as form;
 ghost use Rattle.text_form.specs.Names.{at_name};
+ghost use Rattle.text_reader.specs.Bounds.{Spells};
 
-use text_form::command;
+use text_form::Command;
 
 // More bytes than a token has.
-const TOO_LONG: u64 = 0xFFFF_FFFF_FFFF_FFFF;
-
-// What spells no number.
-pub const NO_NUMBER: u64 = 0x1_0000_0000;
+const TOO_LONG: u64 = u64::MAX;
 
 // The first words of lines, and "at".
 mod name {
@@ -47,69 +45,79 @@ pub fn grown(token: u64, byte: u8) -> u64
     ensures value { result ≡ form.grown token byte }
 {
     if token < 0x100_0000_0000_0000 {
-        token * 256 + (byte as u64)
+        token * 256 + u64::from(byte)
     } else {
         TOO_LONG
     }
 }
 
 // The digit of a byte, 16 for none.
-fn digit(byte: u64) -> u64
+fn digit(byte: u8) -> u8
     ensures value { result ≡ form.digit_of byte }
     ensures bound { result ≤ 16 }
 {
-    if (48 <= byte) & (byte <= 57) {
-        return byte - 48;
+    match byte {
+        b'0'..=b'9' => byte - b'0',
+        b'A'..=b'F' => byte - b'A' + 10,
+        b'a'..=b'f' => byte - b'a' + 10,
+        _ => 16,
     }
-    if (65 <= byte) & (byte <= 70) {
-        return byte - 55;
-    }
-    if (97 <= byte) & (byte <= 102) {
-        return byte - 87;
-    }
-    16
 }
 
-// The number that the token spells.
-pub fn spelled(base: u64, token: u64) -> u64
+// The number that the token spells to the base, if it spells one.
+fn spelled(base: u64, token: u64) -> Option<u32>
     requires base { base ≤ 16 }
-    ensures value { result ≡ form.spelled base token }
+    ensures value { Spells (form.spelled base token) result }
 {
     let mut rest = token;
     let mut unit = 1;
     let mut value = 0;
+    // It goes down the bytes of the number, the lowest first.
     while rest != 0 {
-        let next = digit(rest % 256);
+        let next = u64::from(digit((rest % 256) as u8));
         if base <= next {
-            return NO_NUMBER;
+            return None;
         }
         value += unit * next;
         unit *= base;
         rest /= 256;
     }
-    value
+    Some(value as u32)
 }
 
-// The line that the token begins, by number.
-pub fn command_of(token: u64) -> u8
+pub fn decimal(token: u64) -> Option<u32>
+    ensures value { Spells (form.spelled 10 token) result }
+{
+    spelled(10, token)
+}
+
+pub fn hexadecimal(token: u64) -> Option<u32>
+    ensures value { Spells (form.spelled 16 token) result }
+{
+    spelled(16, token)
+}
+
+// The command that the token names, if it names one.
+pub fn command_of(token: u64) -> Option<Command>
     ensures value { result ≡ form.command_of token }
 {
-    match token {
-        name::SIDES => command::SIDES,
-        name::KEYS => command::KEYS,
-        name::ON => command::ON,
-        name::OFF => command::OFF,
-        name::LEAVE => command::LEAVE,
-        name::NOTICE => command::NOTICE,
-        name::CONTACT => command::CONTACT,
-        name::TIMER => command::TIMER,
-        name::DELIVER => command::DELIVER,
-        name::ECHO => command::ECHO,
-        name::LOSE => command::LOSE,
-        name::WORD => command::WORD,
-        name::TAIL => command::TAIL,
-        _ => command::UNKNOWN,
-    }
+    let command = match token {
+        name::SIDES => Command::Sides,
+        name::KEYS => Command::Keys,
+        name::ON => Command::On,
+        name::OFF => Command::Off,
+        name::LEAVE => Command::Leave,
+        name::NOTICE => Command::Notice,
+        name::CONTACT => Command::Contact,
+        name::TIMER => Command::Timer,
+        name::DELIVER => Command::Deliver,
+        name::ECHO => Command::Echo,
+        name::LOSE => Command::Lose,
+        name::WORD => Command::Word,
+        name::TAIL => Command::Tail,
+        _ => return None,
+    };
+    Some(command)
 }
 
 pub fn is_at(token: u64) -> bool
@@ -122,14 +130,10 @@ pub fn is_at(token: u64) -> bool
 pub fn pairs(token: u64) -> u8
     ensures value { result ≡ form.pairs_of token }
 {
-    if (0x100 <= token) & (token < 0x1_0000) {
-        return 1;
+    match token {
+        0x100..=0xFFFF => 1,
+        0x100_0000..=0xFFFF_FFFF => 2,
+        0x100_0000_0000..=0xFFFF_FFFF_FFFF => 3,
+        _ => 0,
     }
-    if (0x100_0000 <= token) & (token < 0x1_0000_0000) {
-        return 2;
-    }
-    if (0x100_0000_0000 <= token) & (token < 0x1_0000_0000_0000) {
-        return 3;
-    }
-    0
 }

@@ -1,23 +1,14 @@
--- `begun` meets its contract: a line that may not come stops the reader; else the calls give the parts of the new one.
-use mathlib.Core.Path.{◌≡◌, sym, ap, ◌∙◌}
-use mathlib.Core.Bool.{true, false}
-use Rattle.text_form.specs.Assemble.{allowed, command_of, silent, begun}
+-- `begun` meets its contract: the token names a command, or not.
+use mathlib.Core.Path.{sym, ap, ◌∙◌}
+use Rattle.text_form.specs.Assemble.{silent, begun}
 use Rattle.text_reader.proofs.begun.Goals as goal
 
-pub returns-then-not-allowed : goal.returns-then-not-allowed
+pub returns-in-Some : goal.returns-in-Some
 unfolding begun
-returns-then-not-allowed c = record {
-  value =
-      let no : allowed c.args.reader.stage c.args.reader.keys (command_of c.args.token) ≡ false =
-      ap (allowed c.args.reader.stage c.args.reader.keys) (sym c.command_of-kind.ensures.value) ∙ sym c.allowed.ensures.value ∙ c.if-not-allowed.true in
-      rw no (c.silent.ensures.value ∙ ap silent c.stopped.ensures.value);
-}
+returns-in-Some c = record { value = rw (sym c.command_of.ensures.value, c.in-Some.is) c.begun_by.ensures.value }
 
-pub returns : goal.returns
+pub returns-in-None : goal.returns-in-None
 unfolding begun
-returns c = record {
-  value =
-      let yes' : allowed c.args.reader.stage c.args.reader.keys (command_of c.args.token) ≡ true =
-      ap (allowed c.args.reader.stage c.args.reader.keys) (sym c.command_of-kind.ensures.value) ∙ sym c.allowed.ensures.value ∙ c.if-not-allowed.false in
-      rw (yes', sym c.command_of-kind.ensures.value) (rw (c.stage_after-stage.ensures.value, c.opening-given.ensures.value, c.opens.ensures.value));
+returns-in-None c = record {
+  value = rw (sym c.command_of.ensures.value, c.in-None.is) (c.silent.ensures.value ∙ ap silent c.stopped.ensures.value);
 }

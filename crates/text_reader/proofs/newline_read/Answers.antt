@@ -7,8 +7,5 @@ pub line_ended-requires : goal.line_ended-requires
 line_ended-requires c = record {
   bounds =
       let t = token_bounded c.args.reader c.requires.bounds.0 in
-      rw c.token_ended-step.ensures.value (t.reader.command, omega (arith, t.line));
+      rw c.token_ended-step.ensures.value (omega (arith, t.line));
 }
-
-pub returns : goal.returns
-returns c = record { value = rw (c.line_ended.ensures.value, c.token_ended-step.ensures.value) }

@@ -10,6 +10,6 @@ returns c = record {
         c.keys_after.ensures.value,
         c.first_after.ensures.value,
         c.place_after.ensures.value,
-        c.sides_after-sides.ensures.value,
+        c.sides_after.ensures.value,
       );
 }

@@ -1,33 +1,55 @@
--- `given` meets its contract: in each arm the kind is known; in the default arm it is none of the others.
-use Rattle.text_form.specs.declared.Given.TheVariants.{Word}
-use borrow.Author.Tests.{ne_eqb}
-use Prim.Native.Nat.{ℕ}
-use mathlib.Core.Path.{ap, ◌∙◌}
+-- `given` meets its contract: each arm is a case of the definition.
 use Rattle.text_form.specs.Assemble.{line_given}
-use borrow.Author.Rules.{rules}
 use Rattle.text_reader.proofs.line.given.Goals as goal
 
-pub returns-in-0 : goal.returns-in-0
+pub returns-in-Sides : goal.returns-in-Sides
 unfolding line_given
-returns-in-0 c = record { value = rw c.in-0.is }
+returns-in-Sides c = record { value = rw c.in-Sides.is }
 
-pub returns-in-1 : goal.returns-in-1
+pub returns-in-Keys : goal.returns-in-Keys
 unfolding line_given
-returns-in-1 c = record { value = rw c.in-1.is }
+returns-in-Keys c = record { value = rw c.in-Keys.is }
 
-pub returns-in-11 : goal.returns-in-11
+pub returns-in-On : goal.returns-in-On
 unfolding line_given
-returns-in-11 c = record { value = rw c.in-11.is }
+returns-in-On c = record { value = rw c.in-On.is c.event.ensures.value }
 
-pub returns-in-12 : goal.returns-in-12
+pub returns-in-Off : goal.returns-in-Off
 unfolding line_given
-returns-in-12 c = record { value = rw (c.pairs.ensures.value, c.in-12.is) }
+returns-in-Off c = record { value = rw c.in-Off.is c.event-in-Off.ensures.value }
 
-pub returns-in_default : goal.returns-in_default
+pub returns-in-Leave : goal.returns-in-Leave
 unfolding line_given
-returns-in_default c = record {
-  value =
-      let k : ℕ = c.args.kind in
-      rw (ne_eqb k 0 (search rules), ne_eqb k 1 (search rules), ne_eqb k 11 (search rules), ne_eqb k 12 (search rules))
-      (ap Word (c.new.ensures.value ∙ c.event.ensures.value));
-}
+returns-in-Leave c = record { value = rw c.in-Leave.is c.event-in-Leave.ensures.value }
+
+pub returns-in-Notice : goal.returns-in-Notice
+unfolding line_given
+returns-in-Notice c = record { value = rw c.in-Notice.is c.event-in-Notice.ensures.value }
+
+pub returns-in-Contact : goal.returns-in-Contact
+unfolding line_given
+returns-in-Contact c = record { value = rw c.in-Contact.is c.event-in-Contact.ensures.value }
+
+pub returns-in-Timer : goal.returns-in-Timer
+unfolding line_given
+returns-in-Timer c = record { value = rw c.in-Timer.is c.event-in-Timer.ensures.value }
+
+pub returns-in-Deliver : goal.returns-in-Deliver
+unfolding line_given
+returns-in-Deliver c = record { value = rw c.in-Deliver.is c.event-in-Deliver.ensures.value }
+
+pub returns-in-Echo : goal.returns-in-Echo
+unfolding line_given
+returns-in-Echo c = record { value = rw c.in-Echo.is c.event-in-Echo.ensures.value }
+
+pub returns-in-Lose : goal.returns-in-Lose
+unfolding line_given
+returns-in-Lose c = record { value = rw c.in-Lose.is c.event-in-Lose.ensures.value }
+
+pub returns-in-Word : goal.returns-in-Word
+unfolding line_given
+returns-in-Word c = record { value = rw c.in-Word.is }
+
+pub returns-in-Tail : goal.returns-in-Tail
+unfolding line_given
+returns-in-Tail c = record { value = rw (c.in-Tail.is, c.pairs.ensures.value) }

@@ -1,20 +1,19 @@
--- `stage_after` meets its contract: each early return is a case of the definition, by its test.
-use borrow.Author.Tests.{eq-eqb, ne_eqb}
+-- `stage_after` meets its contract: each arm is a case of the definition.
 use Rattle.text_form.specs.Assemble.{stage_after}
+use Rattle.text_reader.proofs.Readers.{other_stage}
 use Rattle.text_reader.proofs.line.stage_after.Goals as goal
 
-pub returns-then-kind-eq-SIDES : goal.returns-then-kind-eq-SIDES
+pub returns-in-Sides : goal.returns-in-Sides
 unfolding stage_after
-returns-then-kind-eq-SIDES c = record { value = rw (eq-eqb _ _ c.if-kind-eq-SIDES.true) }
+returns-in-Sides c = record { value = rw c.in-Sides.is }
 
-pub returns-then-kind-eq-KEYS : goal.returns-then-kind-eq-KEYS
+pub returns-in-Keys : goal.returns-in-Keys
 unfolding stage_after
-returns-then-kind-eq-KEYS c = record { value = rw (ne_eqb _ _ c.if-kind-eq-SIDES.false, eq-eqb _ _ c.if-kind-eq-KEYS.true) }
+returns-in-Keys c = record { value = rw c.in-Keys.is }
 
-pub returns-then-kind-eq-TAIL : goal.returns-then-kind-eq-TAIL
+pub returns-in-Tail : goal.returns-in-Tail
 unfolding stage_after
-returns-then-kind-eq-TAIL c = record { value = rw (ne_eqb _ _ c.if-kind-eq-SIDES.false, ne_eqb _ _ c.if-kind-eq-KEYS.false, eq-eqb _ _ c.if-kind-eq-TAIL.true) }
+returns-in-Tail c = record { value = rw c.in-Tail.is }
 
-pub returns : goal.returns
-unfolding stage_after
-returns c = record { value = rw (ne_eqb _ _ c.if-kind-eq-SIDES.false, ne_eqb _ _ c.if-kind-eq-KEYS.false, ne_eqb _ _ c.if-kind-eq-TAIL.false) }
+pub returns-in_default : goal.returns-in_default
+returns-in_default c = record { value = other_stage _ c.in_default.not-Sides c.in_default.not-Keys c.in_default.not-Tail }

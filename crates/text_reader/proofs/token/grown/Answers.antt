@@ -5,7 +5,7 @@ use Rattle.text_reader.proofs.token.grown.Goals as goal
 
 pub returns-then-token-lt72057594037927936 : goal.returns-then-token-lt72057594037927936
 unfolding grown
-returns-then-token-lt72057594037927936 c = record { value = rw (lt-ltb _ _ c.if-token-lt72057594037927936.true) }
+returns-then-token-lt72057594037927936 c = record { value = rw (lt-ltb _ _ c.if-token-lt72057594037927936.true, c.from.ensures) }
 
 pub returns-else-token-lt72057594037927936 : goal.returns-else-token-lt72057594037927936
 unfolding grown
