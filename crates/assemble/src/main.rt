@@ -2,7 +2,7 @@
 // word: the words wait in a temporary file until the text is read to its end.
 #![tactic(auto)]
 
-ghost use Rattle.std.specs.Prelude.{◌≡◌, ◌+◌, ◌^◌, ◌<◌, length, IfOk};
+ghost use Rattle.std.specs.Prelude.{◌≡◌, ◌+◌, ◌^◌, ◌<◌, length};
 ghost use Rattle.text_reader.specs.Bounds.{ReaderBounded};
 ghost use Rattle.text_assemble.specs.Chunks.{KeysBounded};
 
@@ -31,13 +31,11 @@ fn spool_end<F: Write>(
 ) -> Result<Reader>
     requires ready { ReaderBounded reader × KeysBounded keys.old × (reader.line + 1 < 2 ^ 64)
         × (length out.old ≡ 266240) }
-    ensures kind { IfOk result (λ closed. closed.command < 13) }
 {
     let last = chunk::close(reader, keys, out);
-    let end = last.end;
-    let closed = last.reader;
-    file.write_all(&out[..end]).context("the temporary file")?;
-    Ok(closed)
+    file.write_all(&out[..last.end])
+        .context("the temporary file")?;
+    Ok(last.reader)
 }
 
 // Reads chunk after chunk, and writes the words of each.
@@ -49,15 +47,13 @@ fn spool_text<R: Read, F: Write>(
     out: &mut [u8],
 ) -> Result<Reader>
     requires ready { KeysBounded keys.old × (length bytes.old ≡ 1024) × (length out.old ≡ 266240) }
-    ensures kind { IfOk result (λ closed. closed.command < 13) }
 {
     let mut reader = text_reader::start();
     for _ in 0..MOST {
         let next = chunk::read_next(input, reader, bytes, keys, out).context("standard input")?;
-        let after = next.reader;
-        reader = after;
-        let end = next.end;
-        file.write_all(&out[..end]).context("the temporary file")?;
+        reader = next.reader;
+        file.write_all(&out[..next.end])
+            .context("the temporary file")?;
         if (next.read < ChunkRead::CHUNK) | reader.fault {
             return spool_end(file, reader, keys, out);
         }
@@ -74,7 +70,6 @@ fn print<F: Read + Seek, W: Write>(file: &mut F, output: &mut W) -> Result<()> {
 
 // What is wrong with the text.
 fn print_fault<E: Write>(reader: Reader, errors: &mut E) -> Result<()>
-    requires kind { reader.command < 13 }
 {
     let mut line = [0u8; fault::ROOM];
     let end = fault::put_fault(reader, &mut line);

@@ -7,8 +7,11 @@ use native.Mathlib.Nat.{add-zero}
 use native.Mathlib.Decide.{ℕ_discrete}
 use native.Mathlib.Omega.{arith}
 use mathlib.Core.Bool.{false}
-use lib.ListN.{length, get_or, take, drop, set, length-set}
-use lib.Seq.{take-suc, take-suc-set, get_or-set_same, get_or-set_other, length-take-le}
+use Rattle.std.specs.Int.{w32, to_le_bytes, to_be_bytes}
+use Rattle.std.proofs.lemmas.Bool.{cases_lt}
+use mathlib.Core.Logic.{inl, inr}
+use lib.ListN.{get_or-eq_default, length-take, length, get_or, take, drop, set, length-set}
+use lib.Seq.{take_all, get_or-take, take-suc, take-suc-set, get_or-set_same, get_or-set_other}
 use Rattle.bench_lines.specs.Put.{Put}
 use Rattle.bench_lines.proofs.Puts.{put_none}
 use Rattle.model.specs.Words.{head_word, key_word}
@@ -18,6 +21,10 @@ use Rattle.text_form.specs.declared.Given.{Given}
 use Rattle.text_form.specs.declared.Given.TheVariants as given
 use Rattle.text_reader.specs.Bounds.{GivenBounded}
 use Rattle.text_assemble.specs.Chunks.{KeysBounded, Gave}
+
+pub word_bytes_are : (w : ℕ) → to_le_bytes w32 w ≡ word_bytes w
+unfolding word_bytes
+word_bytes_are w = refl
 
 pub word_length : (w : ℕ) → length (word_bytes w) ≡ 4
 unfolding word_bytes
@@ -41,20 +48,27 @@ pub keys_more : (ks : List ℕ) (i w : ℕ) → i < length ks → w ≡ key_word
 keys_more ks i w h e =
     rw (add-one i, take-suc ks i 0 h, keys_append (take i ks) (get_or ks i 0 ∷ []), one_key (get_or ks i 0), e)
 
--- the words of the opening with the first n keys
-pub opening_bytes : (sides : Sides) (ks : List ℕ) (n w : ℕ) → n ≤ length ks → w ≡ head_word sides n 0
-    → word_bytes w ++ key_bytes (take n ks) ≡ given_bytes sides (take n ks) given.Opening
+pub all_keys : (ks : List ℕ) (n : ℕ) → length ks ≤ n → key_bytes (take n ks) ≡ key_bytes ks
+all_keys ks n h = ap key_bytes (take_all n ks h)
+
+-- the words of the opening
+pub opening_bytes : (sides : Sides) (ks : List ℕ) (w : ℕ) → w ≡ head_word sides (length ks) 0
+    → word_bytes w ++ key_bytes ks ≡ given_bytes sides ks given.Opening
 unfolding given_bytes
-opening_bytes sides ks n w h e = rw (e, length-take-le n ks h)
+opening_bytes sides ks w e = rw e
+
+-- of the first keys, each is below the same bound
+pub first_bounded : (ks : List ℕ) (n : ℕ) → KeysBounded ks → (i : ℕ) → get_or (take n ks) i 0 < 2 ^ 24
+first_bounded ks n k i =
+    elim (cases_lt i n) [ inl h ↦ rw (get_or-take n ks i 0 h) (k.each i) | inr h ↦ rw (get_or-eq_default (take n ks) 0 {n = i} (omega (arith, length-take n ks))) (omega arith) ]
 
 -- the last k of the three bytes of a tail, and how many they are
-pub tail_part : (k v : ℕ) → k ≤ 3
-    → take (3 - (3 - k)) (drop (3 - k) (v / 2 ^ 8 / 2 ^ 8 % 2 ^ 8 ∷ v / 2 ^ 8 % 2 ^ 8 ∷ v % 2 ^ 8 ∷ [])) ≡ tail_bytes k v
+pub tail_part : (k v : ℕ) → k ≤ 3 → take (4 - (4 - k)) (drop (4 - k) (to_be_bytes w32 v)) ≡ tail_bytes k v
 unfolding tail_bytes
 tail_part zero v h = refl
 tail_part (suc zero) v h = refl
 tail_part (suc (suc zero)) v h = refl
-tail_part (suc (suc (suc zero))) v h = refl
+tail_part (suc (suc (suc zero))) v h = let e : v / 2 ^ 16 ≡ v / 2 ^ 8 / 2 ^ 8 = omega arith in ap (λ (n : ℕ). n % 2 ^ 8 ∷ v / 2 ^ 8 % 2 ^ 8 ∷ v % 2 ^ 8 ∷ []) e
 tail_part (suc (suc (suc (suc k)))) v h = absurd (omega arith)
 
 pub tail_short : (k v : ℕ) → k ≤ 3 → length (tail_bytes k v) ≤ 3

@@ -39,9 +39,7 @@ fn put_step(step: Step, n: usize, keys: &mut [u32], out: &mut [u8], at: usize) -
         at result }
 {
     let reader = step.reader;
-    let given = step.given;
-    let sides = reader.sides;
-    let end = put::put_given(given, sides, n, keys, out, at);
+    let end = put::put_given(step.given, reader.sides, n, keys, out, at);
     ChunkRead { reader, end }
 }
 
@@ -53,7 +51,7 @@ fn read_byte(reader: Reader, byte: u8, keys: &mut [u32], out: &mut [u8], at: usi
         out.old out.new at result }
 {
     let step = text_reader::byte_read(reader, byte);
-    put_step(step, reader.keys as usize, keys, out, at)
+    put_step(step, usize::from(reader.keys), keys, out, at)
 }
 
 // Reads a chunk: the keys are at the start of `keys`, and what it gives to the script is put at the start of `out`.
@@ -65,9 +63,8 @@ pub fn read_chunk(reader: Reader, bytes: &[u8], keys: &mut [u32], out: &mut [u8]
     ensures line { result.reader.line ≤ reader.line + length bytes.now }
 {
     let mut read = ChunkRead { reader, end: 0 };
-    for i in 0..bytes.len() {
-        let before = read.reader;
-        read = read_byte(before, bytes[i], keys, out, read.end);
+    for byte in bytes {
+        read = read_byte(read.reader, *byte, keys, out, read.end);
     }
     read
 }
@@ -104,10 +101,9 @@ pub fn read_next<R: Read>(
 {
     let read = streams::read_full(file, bytes)?;
     let chunk = read_chunk(reader, &bytes[..read], keys, out);
-    let after = chunk.reader;
     Ok(NextRead {
         read,
-        reader: after,
+        reader: chunk.reader,
         end: chunk.end,
     })
 }
@@ -122,5 +118,5 @@ pub fn close(reader: Reader, keys: &mut [u32], out: &mut [u8]) -> ChunkRead
     let line = read_byte(reader, NEWLINE, keys, out, 0);
     let last = line.reader;
     let step = text_reader::closed(last);
-    put_step(step, last.keys as usize, keys, out, line.end)
+    put_step(step, usize::from(last.keys), keys, out, line.end)
 }

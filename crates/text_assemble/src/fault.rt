@@ -42,7 +42,7 @@ fn put_expected(expected: Expected, out: &mut [u8], at: usize) -> usize
 fn fault_line(reader: Reader) -> u64
     ensures value { result ≡ fault_line reader }
 {
-    if ((reader.place == 0) & (reader.token == 0)) & (1 < reader.line) {
+    if (reader.place == 0) & (reader.token == 0) & (1 < reader.line) {
         return reader.line - 1;
     }
     reader.line
@@ -50,7 +50,7 @@ fn fault_line(reader: Reader) -> u64
 
 // Puts the line of the fault at which the reader stopped, at the start of `out`.
 pub fn put_fault(reader: Reader, out: &mut [u8]) -> usize
-    requires room { (reader.command < 13) × (128 ≤ length out.old) }
+    requires room { 128 ≤ length out.old }
     ensures bytes { Put out.old out.new 0 result
         (fault_bytes (fault_line reader) (expected_at reader)) }
 {

@@ -1,5 +1,5 @@
 // What a text gives to its script, put into lent buffers. Each function answers the index after the bytes that it puts.
-ghost use Rattle.std.specs.Prelude.{◌≡◌, ◌+◌, ◌*◌, ◌≤◌, length, take};
+ghost use Rattle.std.specs.Prelude.{◌≡◌, ◌+◌, ◌*◌, ◌^◌, ◌<◌, ◌≤◌, ℕ, length, get_or};
 ghost use Rattle.bench_lines.specs.Put.{Put};
 ghost use Rattle.model.specs.Structs.{RoomSides};
 ghost use Rattle.text_form.specs.Assemble.{word_bytes, key_bytes, tail_bytes, given_bytes, given_keys};
@@ -15,38 +15,32 @@ fn put_word(word: u32, out: &mut [u8], at: usize) -> usize
     requires room { at + 4 ≤ length out.old }
     ensures bytes { Put out.old out.new at result (word_bytes word) }
 {
-    let bytes = [
-        (word % 256) as u8,
-        (word / 256 % 256) as u8,
-        (word / 0x1_0000 % 256) as u8,
-        (word / 0x100_0000 % 256) as u8,
-    ];
-    put_bytes(out, at, &bytes)
+    put_bytes(out, at, &word.to_le_bytes())
 }
 
-// Puts the words of the first n keys.
-fn put_keys(keys: &[u32], n: usize, out: &mut [u8], at: usize) -> usize
-    requires keys { KeysBounded keys.now × (n ≤ 64) × (at + 4 * n ≤ length out.old) }
-    ensures bytes { Put out.old out.new at result (key_bytes (take n keys.now)) }
-    ensures end { result ≡ at + 4 * n }
+// Puts the words of keys.
+fn put_keys(keys: &[u32], out: &mut [u8], at: usize) -> usize
+    requires keys { ((i : ℕ) → get_or keys.now i 0 < 2 ^ 24) × (at + 4 * length keys.now ≤ length out.old) }
+    ensures bytes { Put out.old out.new at result (key_bytes keys.now) }
+    ensures end { result ≡ at + 4 * length keys.now }
 {
     let mut end = at;
-    for i in 0..n {
-        end = put_word(KeyWord::new(Key(keys[i]), false).0, out, end);
+    for key in keys {
+        end = put_word(KeyWord::new(Key(*key), false).0, out, end);
     }
     end
 }
 
-// Puts the words of the opening with the first n keys.
-fn put_opening(sides: Sides, keys: &[u32], n: usize, out: &mut [u8], at: usize) -> usize
-    requires keys { RoomSides sides × KeysBounded keys.now × (n ≤ 64) × (at + 260 ≤ length out.old) }
-    ensures bytes { Put out.old out.new at result
-        (given_bytes sides (take n keys.now) Given.Opening) }
+// Puts the words of the opening with these keys.
+fn put_opening(sides: Sides, keys: &[u32], out: &mut [u8], at: usize) -> usize
+    requires keys { RoomSides sides × ((i : ℕ) → get_or keys.now i 0 < 2 ^ 24) × (length keys.now ≤ 64)
+        × (at + 260 ≤ length out.old) }
+    ensures bytes { Put out.old out.new at result (given_bytes sides keys.now Given.Opening) }
     ensures end { result ≤ at + 260 }
 {
-    let head = HeadWord::new(sides, n as u32, 0);
+    let head = HeadWord::new(sides, keys.len() as u32, 0);
     let first = put_word(head.0, out, at);
-    put_keys(keys, n, out, first)
+    put_keys(keys, out, first)
 }
 
 // Puts the last bytes of a script, at most three.
@@ -55,12 +49,8 @@ fn put_tail(count: u8, value: u32, out: &mut [u8], at: usize) -> usize
     ensures bytes { Put out.old out.new at result (tail_bytes count value) }
     ensures end { result ≤ at + 3 }
 {
-    let bytes = [
-        (value / 256 / 256 % 256) as u8,
-        (value / 256 % 256) as u8,
-        (value % 256) as u8,
-    ];
-    let start = 3 - count as usize;
+    let bytes = value.to_be_bytes();
+    let start = 4 - usize::from(count);
     put_bytes(out, at, &bytes[start..])
 }
 
@@ -80,7 +70,7 @@ pub fn put_given(
 {
     match given {
         Given::Nothing => at,
-        Given::Opening => put_opening(sides, keys, n, out, at),
+        Given::Opening => put_opening(sides, &keys[..n], out, at),
         Given::Key(key) => {
             keys[n] = key;
             at

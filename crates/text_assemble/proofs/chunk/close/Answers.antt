@@ -23,5 +23,5 @@ pub returns : goal.returns
 returns c = record {
   read =
       text_ended c.requires.ready.0 c.requires.ready.1 c.read_byte-line.ensures.put
-      (rw c.closed-step.ensures.value at c.put_step.ensures.put);
+      (rw (c.closed-step.ensures.value, c.from.ensures) at c.put_step.ensures.put);
 }

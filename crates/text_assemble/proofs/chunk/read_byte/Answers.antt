@@ -11,4 +11,4 @@ put_step-requires c = record {
 }
 
 pub returns : goal.returns
-returns c = record { put = rw c.byte_read-step.ensures.value at c.put_step.ensures.put }
+returns c = record { put = rw (c.byte_read-step.ensures.value, c.from.ensures) at c.put_step.ensures.put }
