@@ -28,7 +28,8 @@ use Rattle.audit_account.specs.Points
 use Rattle.audit_account.specs.Partings
 use Rattle.audit_account.specs.Partings.{parts}
 use Rattle.audit_account.specs.Accounts
-use Rattle.audit_account.specs.Accounts.{Entry, Standing}
+use Rattle.audit_account.specs.declared.Entry.{Entry}
+use Rattle.audit_account.specs.Accounts.{Standing}
 use Rattle.audit_account.specs.Whole
 use Rattle.audit_account.proofs.ExampleRing.{ring, from_0, request, acknowledgement, left}
 use Rattle.audit_account.proofs.PartingRows.{holding, sides}

@@ -26,7 +26,8 @@ use Rattle.model.proofs.Theorems.{connectivity_preserved}
 use Rattle.audit_account.specs.declared.Account.{Account}
 use Rattle.audit_account.specs.Points.{acknowledgements, late_leaves, is_point, is_uncovered_word, is_on, is_off, is_notice}
 use Rattle.audit_account.specs.Partings.{parts}
-use Rattle.audit_account.specs.Accounts.{opened, noted, counted, begun, Entry, most, Standing, entered, after_parting, played}
+use Rattle.audit_account.specs.declared.Entry.{Entry}
+use Rattle.audit_account.specs.Accounts.{opened, noted, counted, begun, most, Standing, entered, after_parting, played}
 use Rattle.audit_account.specs.Whole.{begins, played_all}
 
 -- ---- lists that grow at their end

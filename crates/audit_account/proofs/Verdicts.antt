@@ -27,7 +27,8 @@ use Rattle.model.proofs.Decoded.{reads_well}
 use Rattle.model.proofs.Theorems.{connectivity_preserved, list_reaches, reached_reads}
 use Rattle.text_form.specs.Describe.{word_text}
 use Rattle.audit_account.specs.Partings.{parts}
-use Rattle.audit_account.specs.Accounts.{noted, Entry, most, Standing, entered, played, event_text, parted_text, verdict_text, word_lines}
+use Rattle.audit_account.specs.declared.Entry.{Entry}
+use Rattle.audit_account.specs.Accounts.{noted, most, Standing, entered, played, event_text, parted_text, verdict_text, word_lines}
 use Rattle.audit_account.specs.Whole.{begins, played_all, all_lines}
 use Rattle.audit_account.proofs.SafePoints.{none_counted, point_decides}
 use Rattle.audit_account.proofs.Torn.{Parted, parts_true, parts_false}

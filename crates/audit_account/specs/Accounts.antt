@@ -12,6 +12,7 @@ use Rattle.model.specs.Connection.{groups}
 use Rattle.audit_account.specs.Points.{acknowledgements, is_point, is_uncovered_word, is_on, is_off, is_notice}
 use Rattle.audit_account.specs.Partings.{parts, sides_text}
 use Rattle.audit_account.specs.declared.Account.{Account}
+use Rattle.audit_account.specs.declared.Entry.{Entry}
 
 -- ---- what is kept
 
@@ -80,11 +81,6 @@ begun a =
       offs = a.offs;
       notices = a.notices;
     }
-
--- an event that the promise does not cover: its count and its word
-pub record Entry : Type 0 where
-  pub number : ℕ
-  pub word : ℕ
 
 -- how many of them are listed in a verdict
 abbrev pub most : ℕ

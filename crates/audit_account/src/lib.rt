@@ -5,7 +5,7 @@
 // from a running node. Since then: how many events were accepted that the promise does not cover, and whether an on, an
 // off or a wrong notice is among them. At how many events nodes were parted, and how many of these have such an event
 // in their verdict.
-#[derive(Clone, Copy)]
+#[derive(Clone, Copy, Debug, PartialEq, Eq)]
 pub struct Account {
     pub count: u64,
     pub point: u64,
@@ -17,4 +17,11 @@ pub struct Account {
     pub ons: u64,
     pub offs: u64,
     pub notices: u64,
+}
+
+// An event that the promise does not cover: its number in the script, and its word.
+#[derive(Clone, Copy, Debug, PartialEq, Eq)]
+pub struct Entry {
+    pub number: u64,
+    pub word: u32,
 }
