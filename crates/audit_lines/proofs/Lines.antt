@@ -3,28 +3,23 @@ use mathlib.Core.Path.{◌≡◌, refl, sym, ap, ◌∙◌}
 use mathlib.Core.Bool.{Bool, true, false}
 use mathlib.Core.List.{List, [], ◌∷◌, ◌++◌, append_assoc, append-nil}
 use Prim.Native.Nat.{ℕ, ◌+◌, ◌*◌, ◌-◌, ◌≤◌, ◌<◌}
-use native.Mathlib.Numerals.{add-one}
 use native.Mathlib.Omega.{arith}
 use borrow.Author.Tests.{eq-eqb, ne_eqb, lt-ltb, le-ltb}
-use lib.ListN.{length, get_or}
+use lib.ListN.{length, get_or, take}
 use Rattle.std.specs.Prelude.{if◌then◌else◌}
 use Rattle.bench_lines.specs.Decimal.{decimal, newline}
 use Rattle.bench_lines.specs.Put.{Put}
 use Rattle.bench_lines.proofs.Puts.{put_none, put_as, put_more}
-use Rattle.model.specs.Answers.{number_of}
 use Rattle.model.specs.Ring.{Ring}
-use Rattle.model.specs.declared.answer.Answer.{Answer}
 use Rattle.text_form.specs.Ascii.{ascii}
 use Rattle.audit_account.specs.Points.{acknowledgements}
 use Rattle.text_form.specs.Describe.{word_text}
-use Rattle.audit_account.specs.Accounts.{most, Entry, answer_text, state_text, event_text, entry_text, entries_text, more_text, verdict_text, end_text}
+use Rattle.audit_account.specs.Accounts.{most, answer_text, state_text, event_text, entry_text, entries_text, more_text, verdict_text, end_text}
 use Rattle.audit_account.specs.declared.Account.{Account}
-use Rattle.audit_lines.specs.Seen.{Sees, entries_of}
+use Rattle.audit_account.specs.declared.Entry.{Entry}
+use Rattle.std.proofs.lemmas.List.{take_more}
+use Rattle.audit_lines.specs.Seen.{Sees}
 use Rattle.audit_lines.specs.declared.Sight.{Sight}
-
-pub answered : {e x b : List ℕ} {at end : ℕ} {a k : Answer} → a ≡ k → Put e x at end b → b ≡ answer_text (number_of k) → length b ≤ 60
-    → Put e x at end (answer_text (number_of a)) × (end ≤ at + 60)
-answered q p is l = (put_as p (is ∙ ap (λ (j : Answer). answer_text (number_of j)) (sym q)), omega (arith, p.ends))
 
 -- ---- parts that stand one after the other
 
@@ -71,10 +66,10 @@ pub event_line : (k : ℕ) (text : List ℕ) (answer : ℕ) (r : Ring)
 unfolding event_text
 event_line k text answer r = three_parts (decimal k) (ascii " ") text (ascii ": ") (answer_text answer) (state_text r)
 
-pub entry_line : (k w : ℕ)
-    → (((ascii "    " ++ decimal k) ++ ascii " ") ++ word_text w) ++ newline ∷ [] ≡ entry_text (record { number = k; word = w })
+pub entry_line : (e : Entry)
+    → (((ascii "    " ++ decimal e.number) ++ ascii " ") ++ word_text e.word) ++ newline ∷ [] ≡ entry_text e
 unfolding entry_text
-entry_line k w = numbered_word (ascii "    ") (decimal k) (ascii " ") (word_text w) (newline ∷ [])
+entry_line e = numbered_word (ascii "    ") (decimal e.number) (ascii " ") (word_text e.word) (newline ∷ [])
 
 pub verdict_lines : (a : Account) (es : List Entry)
     → (((ascii "  the promise last began after event " ++ decimal a.point) ++ (ascii "; it does not cover, since then:" ++ newline ∷ []))
@@ -116,26 +111,21 @@ unfolding entries_text
 entries_append [] fs = refl
 entries_append (e ∷ es) fs = rw (entries_append es fs, append_assoc)
 
-pub record PutTo (out out' : List ℕ) (at end : ℕ) (counts words : List ℕ) (i : ℕ) : Type 0 where
-  pub put : Put out out' at end (entries_text (entries_of counts words i))
+-- i of the events are put
+pub record PutTo (out out' : List ℕ) (at end : ℕ) (es : List Entry) (i : ℕ) : Type 0 where
+  pub put : Put out out' at end (entries_text (take i es))
   pub room : end ≤ at + 66 * i
 
-pub put_none_yet : (out : List ℕ) (at : ℕ) (counts words : List ℕ) → PutTo out out at at counts words 0
-unfolding entries_of entries_text
-put_none_yet out at counts words = record { put = put_none out at; room = omega arith }
+pub put_none_yet : (out : List ℕ) (at : ℕ) (es : List Entry) → PutTo out out at at es 0
+unfolding entries_text
+put_none_yet out at es = record { put = put_none out at; room = omega arith }
 
-pub put_one_more : {out out' out'' : List ℕ} {at end end' : ℕ} {counts words : List ℕ} {i k w : ℕ} → PutTo out out' at end counts words i
-    → k ≡ get_or counts i 0 → w ≡ get_or words i 0 → Put out' out'' end end' (entry_text (record { number = k; word = w })) → end' ≤ end + 66
-    → PutTo out out'' at end' counts words (i + 1)
-unfolding entries_of entries_text
-put_one_more {counts = counts} {words = words} {i = i} {k = k} {w = w} p e f q l =
+pub put_one_more : {out out' out'' : List ℕ} {at end end' : ℕ} {es : List Entry} {i : ℕ} {e : Entry} → PutTo out out' at end es i
+    → i < length es → e ≡ get_or es i e → Put out' out'' end end' (entry_text e) → end' ≤ end + 66 → PutTo out out'' at end' es (i + 1)
+unfolding entries_text
+put_one_more {es = es} {i = i} {e = e} p h f q l =
     record {
-      put = put_as (put_more p.put q) (the_next e f);
+      put = put_as (put_more p.put q) (sym (ap entries_text (take_more es i e h ∙ ap (λ (d : Entry). take i es ++ d ∷ []) (sym f))
+      ∙ entries_append (take i es) _ ∙ ap (λ (l : List ℕ). entries_text (take i es) ++ l) (append-nil _)));
       room = omega (arith, p.room);
     }
-  where
-    the_next : k ≡ get_or counts i 0 → w ≡ get_or words i 0
-        → entries_text (entries_of counts words i) ++ entry_text (record { number = k; word = w }) ≡ entries_text (entries_of counts words (i + 1))
-    the_next e f =
-        rw (add-one i, e, f)
-        (sym (entries_append (entries_of counts words i) _ ∙ ap (λ (l : List ℕ). entries_text (entries_of counts words i) ++ l) (append-nil _)))

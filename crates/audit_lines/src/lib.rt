@@ -1,21 +1,21 @@
 // The lines of an account, as bytes.
 #![tactic(auto)]
 
-ghost use Rattle.std.specs.Prelude.{◌≡◌, List, ◌++◌, ◌+◌, ◌≤◌, min, length};
+ghost use Rattle.std.specs.Prelude.{◌≡◌, ◌++◌, ◌+◌, ◌≤◌, min, length, take};
 ghost use Rattle.bench_lines.specs.Decimal.{decimal};
 ghost use Rattle.bench_lines.specs.Put.{Put};
-ghost use Rattle.model.specs.Answers.{number_of};
+ghost use Rattle.model.specs.Answers.{number_of, answer_number};
 ghost use Rattle.model.specs.Ring.{Ring};
 ghost use Rattle.text_form.specs.Ascii.{ascii};
 ghost use Rattle.text_form.specs.Describe.{word_text};
-ghost use Rattle.audit_account.specs.Accounts.{most, Entry, answer_text, state_text};
+ghost use Rattle.audit_account.specs.Accounts.{most, answer_text, state_text};
 ghost use Rattle.audit_account.specs.Accounts.{event_text, entry_text, entries_text};
 ghost use Rattle.audit_account.specs.Accounts.{no_ring_text, more_text, verdict_text, end_text};
-ghost use Rattle.audit_lines.specs.Seen.{Sees, entries_of};
+ghost use Rattle.audit_lines.specs.Seen.{Sees};
 
-use audit_account::Account;
+use audit_account::{Account, Entry};
 use bench_lines::{put_byte, put_bytes, put_number};
-use model::answer::Answer;
+use model::refusal::Refusal;
 use text_event::put_word;
 
 const NEWLINE: u8 = 10;
@@ -43,48 +43,46 @@ pub fn put_numbered(out: &mut [u8], at: usize, text: &[u8], n: u64) -> usize
     put_number(out, start, n)
 }
 
+// A refusal in words. 12 to 16, and those after 17, are no event's.
+#[tactic(auto, unfolding(audit_account::specs::Accounts::answer_text))]
+fn refusal_text(refusal: Refusal) -> &'static [u8]
+    ensures text { result.now ≡ answer_text (number_of refusal) }
+    ensures short { length result.now ≤ 60 }
+{
+    match refusal {
+        Refusal::WrongLength => b"refused, 1: a ring buffer is not 13,441 words",
+        Refusal::OpeningOutOfRange => b"refused, 2: n, A or B is out of range",
+        Refusal::BadKey => b"refused, 3: a key is too big, or two are equal",
+        Refusal::NotAnEvent => b"refused, 4: not an event",
+        Refusal::SameNode => b"refused, 5: a node with itself",
+        Refusal::NotARing => b"refused, 6: the words do not read as a ring",
+        Refusal::OutOfTable => b"refused, 7: no such node, or no such message",
+        Refusal::NodeOff => b"refused, 8: the node is off",
+        Refusal::AlreadyRunning => b"refused, 9: the node runs already",
+        Refusal::ClockSpent => b"refused, 10: the clock is spent",
+        Refusal::PoolFull => b"refused, 11: more than 1,024 messages would be in flight",
+        Refusal::SenderFull => b"refused, 17: a sender would have more than 256 in flight",
+        Refusal::KeyOutOfRange
+        | Refusal::ListTooShort
+        | Refusal::SidesDiffer
+        | Refusal::TablesClash
+        | Refusal::TooManyMessages
+        | Refusal::NotWatched
+        | Refusal::NotShort
+        | Refusal::PlaceTooSmall => b"",
+    }
+}
+
 // Puts an answer in words.
-fn put_answer(out: &mut [u8], at: usize, answer: Answer) -> usize
+#[tactic(auto, unfolding(audit_account::specs::Accounts::answer_text))]
+fn put_answer(out: &mut [u8], at: usize, answer: Result<(), Refusal>) -> usize
     requires room { at + 60 ≤ length out.old }
-    ensures bytes { Put out.old out.new at result (answer_text (number_of answer)) }
+    ensures bytes { Put out.old out.new at result (answer_text (answer_number answer)) }
     ensures end { result ≤ at + 60 }
 {
     match answer {
-        Answer::Accepted => put_bytes(out, at, b"accepted"),
-        Answer::WrongLength => {
-            put_bytes(out, at, b"refused, 1: a ring buffer is not 13,441 words")
-        }
-        Answer::OpeningOutOfRange => put_bytes(out, at, b"refused, 2: n, A or B is out of range"),
-        Answer::BadKey => put_bytes(out, at, b"refused, 3: a key is too big, or two are equal"),
-        Answer::NotAnEvent => put_bytes(out, at, b"refused, 4: not an event"),
-        Answer::SameNode => put_bytes(out, at, b"refused, 5: a node with itself"),
-        Answer::NotARing => put_bytes(out, at, b"refused, 6: the words do not read as a ring"),
-        Answer::OutOfTable => put_bytes(out, at, b"refused, 7: no such node, or no such message"),
-        Answer::NodeOff => put_bytes(out, at, b"refused, 8: the node is off"),
-        Answer::AlreadyRunning => put_bytes(out, at, b"refused, 9: the node runs already"),
-        Answer::ClockSpent => put_bytes(out, at, b"refused, 10: the clock is spent"),
-        Answer::PoolFull => {
-            put_bytes(
-                out,
-                at,
-                b"refused, 11: more than 1,024 messages would be in flight",
-            )
-        }
-        Answer::KeyOutOfRange => at,
-        Answer::ListTooShort => at,
-        Answer::SidesDiffer => at,
-        Answer::TablesClash => at,
-        Answer::TooManyMessages => at,
-        Answer::SenderFull => {
-            put_bytes(
-                out,
-                at,
-                b"refused, 17: a sender would have more than 256 in flight",
-            )
-        }
-        Answer::NotWatched => at,
-        Answer::NotShort => at,
-        Answer::PlaceTooSmall => at,
+        Ok(()) => put_bytes(out, at, b"accepted"),
+        Err(refusal) => put_bytes(out, at, refusal_text(refusal)),
     }
 }
 
@@ -101,10 +99,10 @@ fn put_state(out: &mut [u8], at: usize, sight: Sight) -> usize
 }
 
 // Puts the answer, and what it leaves, after the event's text.
-pub fn put_answered(out: &mut [u8], at: usize, answer: Answer, sight: Sight) -> usize
+pub fn put_answered(out: &mut [u8], at: usize, answer: Result<(), Refusal>, sight: Sight) -> usize
     requires room { at + 163 ≤ length out.old }
     ensures bytes { (r : Ring) → Sees sight r
-        → Put out.old out.new at result (ascii ": " ++ answer_text (number_of answer) ++ state_text r) }
+        → Put out.old out.new at result (ascii ": " ++ answer_text (answer_number answer) ++ state_text r) }
     ensures end { result ≤ at + 163 }
 {
     let first = put_bytes(out, at, b": ");
@@ -118,12 +116,12 @@ pub fn put_event(
     at: usize,
     number: u64,
     word: u32,
-    answer: Answer,
+    answer: Result<(), Refusal>,
     sight: Sight,
 ) -> usize
     requires room { at + 224 ≤ length out.old }
     ensures bytes { (r : Ring) → Sees sight r
-        → Put out.old out.new at result (event_text number (word_text word) (number_of answer) r) }
+        → Put out.old out.new at result (event_text number (word_text word) (answer_number answer) r) }
     ensures end { result ≤ at + 224 }
 {
     let first = put_number(out, at, number);
@@ -133,29 +131,27 @@ pub fn put_event(
 }
 
 // Puts the line of an uncovered event in a verdict.
-fn put_entry(out: &mut [u8], at: usize, number: u64, word: u32) -> usize
+fn put_entry(out: &mut [u8], at: usize, entry: Entry) -> usize
     requires room { at + 66 ≤ length out.old }
-    ensures bytes { Put out.old out.new at result
-        (entry_text (record { number = number; word = word })) }
+    ensures bytes { Put out.old out.new at result (entry_text entry) }
     ensures end { result ≤ at + 66 }
 {
-    let first = put_numbered(out, at, b"    ", number);
+    let first = put_numbered(out, at, b"    ", entry.number);
     let second = put_byte(out, first, SPACE);
-    let third = put_word(out, second, word);
+    let third = put_word(out, second, entry.word);
     put_byte(out, third, NEWLINE)
 }
 
-// Puts the lines of the first k uncovered events.
-fn put_entries(out: &mut [u8], at: usize, counts: &[u64], words: &[u32], k: usize) -> usize
+// Puts the lines of uncovered events.
+fn put_entries(out: &mut [u8], at: usize, entries: &[Entry]) -> usize
     requires room { at + 1056 ≤ length out.old }
-    requires lists { (length counts.now ≡ 16) × (length words.now ≡ 16) × (k ≤ 16) }
-    ensures bytes { Put out.old out.new at result
-        (entries_text (entries_of counts.now words.now k)) }
+    requires few { length entries.now ≤ 16 }
+    ensures bytes { Put out.old out.new at result (entries_text entries.now) }
     ensures end { result ≤ at + 1056 }
 {
     let mut end = at;
-    for i in 0..k {
-        end = put_entry(out, end, counts[i], words[i]);
+    for entry in entries {
+        end = put_entry(out, end, *entry);
     }
     end
 }
@@ -178,25 +174,16 @@ pub fn listed(uncovered: u64) -> usize
     ensures value { result ≡ min uncovered most }
     ensures bound { result ≤ 16 }
 {
-    if uncovered < MOST {
-        return uncovered as usize;
-    }
-    MOST as usize
+    uncovered.min(MOST) as usize
 }
 
-// Puts the verdict: the last point, and the events since it that the promise does not cover.
-pub fn put_verdict(
-    out: &mut [u8],
-    at: usize,
-    account: Account,
-    counts: &[u64],
-    words: &[u32],
-) -> usize
+// Puts the verdict: the last point, and the events since it that the promise does not cover, of which the first are in
+// `entries`.
+pub fn put_verdict(out: &mut [u8], at: usize, account: Account, entries: &[Entry]) -> usize
     requires room { at + 1180 ≤ length out.old }
-    requires lists { (length counts.now ≡ 16) × (length words.now ≡ 16) }
-    ensures bytes { (es : List Entry)
-        → es ≡ entries_of counts.now words.now (min account.uncovered most)
-        → Put out.old out.new at result (verdict_text account es) }
+    requires entries { length entries.now ≡ 16 }
+    ensures bytes { Put out.old out.new at result
+        (verdict_text account (take (min account.uncovered most) entries.now)) }
     ensures end { result ≤ at + 1180 }
 {
     let first = put_numbered(
@@ -206,7 +193,7 @@ pub fn put_verdict(
         account.point,
     );
     let second = put_bytes(out, first, b"; it does not cover, since then:\n");
-    let third = put_entries(out, second, counts, words, listed(account.uncovered));
+    let third = put_entries(out, second, &entries[..listed(account.uncovered)]);
     put_more(out, third, account.uncovered)
 }
 
