@@ -9,7 +9,10 @@ use lib.Dec.{eqb, ltb}
 use borrow.Author.Tests.{ltb-true, ltb-false, lt-ltb, le-ltb}
 use Rattle.model.specs.Sets.{Set, without, count}
 use Rattle.model.proofs.Laws.{clash, is_false, decide, and_in, and_left, and_right, not_in, not_out, count_none, count_mono, count_more}
-use Rattle.leafset_nearest.specs.Span.{Least, Found, nobody, found}
+use Rattle.leafset_nearest.specs.Span.{Least, Nearest}
+use Rattle.std.specs.Prelude.{Option, None, Some}
+use Rattle.std.specs.Option.{IsSome}
+use Rattle.model.specs.declared.values.NodeNumber.{NodeNumber}
 use Rattle.leafset.specs.Near.{is_near, IsLimit}
 use Rattle.sets.proofs.Ascending.{without_here, without_else, count_split, count_without}
 
@@ -37,9 +40,9 @@ taken_none S m low = record {
 
 module _ {S : Set} {m : ℕ → ℕ} {R : Set} {limit k : ℕ} (t : Taken S m R limit k) where
   -- while fewer are taken than S has, there is a nearest of the rest
-  pub taken_least : k < count 64 S → {b : ℕ} → Found R m b → Least R m b
-  taken_least h (nobody f) = absurd (omega (arith, count_none 64 R (λ y l. f y), t.size))
-  taken_least h (found l) = l
+  pub taken_some : k < count 64 S → (r : Option NodeNumber) → Nearest R m r → IsSome r
+  taken_some h None f = absurd (omega (arith, count_none 64 R (λ y l. f y), t.size))
+  taken_some h (Some b) l = refl
 
   pub taken_more : {b : ℕ} → Least R m b → Taken S m (without R b) (m b + 1) (k + 1)
   taken_more {b} l = record {

@@ -9,7 +9,7 @@ ghost use Rattle.sets.specs.Within.{Within, InTable};
 ghost use Rattle.leafset_nearest.specs.Span.{span_to};
 ghost use Rattle.leafset.specs.Near.{is_near, IsLimit};
 
-use leafset_nearest::Way;
+use leafset_nearest::{Way, nearest, span};
 use model::values::{Key, NodeNumber, Sides};
 
 // The limit below which the spans of the `many` nearest members lie.
@@ -20,13 +20,10 @@ fn limit(keys: &[u32], many: u32, way: Way, from: Key, set: u64) -> u32
 {
     let mut limit = 0;
     let mut left = set;
-    let mut taken = 0;
-    while taken < many {
-        let y = leafset_nearest::nearest(keys, way, from, left);
-        let at = y.0 as usize;
-        limit = leafset_nearest::span(way, from, Key(keys[at])) + 1;
+    for _ in 0..many {
+        let y = nearest(keys, way, from, left).unwrap();
+        limit = span(way, from, Key(keys[y.index()])) + 1;
         left = sets::without(left, y);
-        taken += 1;
     }
     limit
 }
@@ -39,7 +36,7 @@ fn below(keys: &[u32], limit: u32, way: Way, from: Key, set: u64) -> u64
 {
     let mut out = 0;
     for y in sets::members(set) {
-        if leafset_nearest::span(way, from, Key(keys[y.index()])) < limit {
+        if span(way, from, Key(keys[y.index()])) < limit {
             out = sets::with(out, y);
         }
     }
@@ -67,8 +64,7 @@ pub fn leafset(keys: &[u32], sides: Sides, x: NodeNumber, set: u64) -> u64
     if sets::size(left) < sides.ahead + sides.behind {
         return left;
     }
-    let at = x.0 as usize;
-    let from = Key(keys[at]);
+    let from = Key(keys[x.index()]);
     let ahead = near(keys, sides.ahead, Way::Clockwise, from, left);
     let behind = near(keys, sides.behind, Way::CounterClockwise, from, left);
     ahead | behind

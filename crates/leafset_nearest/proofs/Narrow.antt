@@ -17,10 +17,6 @@ narrow_rank_lem c d h k = ap₂ (λ (even odd : ℕ). if leb c d then even else 
     one_more_lem : (v : ℕ) → v < places → word (word (2 * v) + 1) ≡ 2 * v + 1
     one_more_lem v l = omega arith
 
--- what is left of the word to which a is added so that b comes out
-pub narrow_difference : (a b r : ℕ) → a < 2 ^ 32 → r < 2 ^ 32 → (r + a) % 2 ^ 32 ≡ b → r % places ≡ narrow_clockwise a b
-narrow_difference a b r h k e = omega arith
-
 pub narrow_clockwise_lem : (a b : ℕ) → a < 2 ^ 32 → b < 2 ^ 32 → narrow_clockwise a b ≡ clockwise a b
 narrow_clockwise_lem a b h k = mod-mod-pow (b + (2 ^ 32 - a)) 8 24 ∙ round
   where

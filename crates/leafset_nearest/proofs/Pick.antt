@@ -3,7 +3,10 @@ use Rattle.std.proofs.Common.{◌≡◌, ℕ, zero, suc, ◌<◌, ◌≤◌, Boo
 use native.Mathlib.Decide.{ℕ_discrete}
 use Rattle.model.specs.Sets.{Set, none_node, members}
 use Rattle.model.proofs.Laws.{clash, is_false}
-use Rattle.leafset_nearest.specs.Span.{Least, Found, nobody, found}
+use Rattle.leafset_nearest.specs.Span.{Least, Found, nobody, found, Nearest}
+use Rattle.std.specs.Prelude.{Option, None, Some}
+use Rattle.model.specs.declared.values.NodeNumber.{NodeNumber}
+use Rattle.sets.specs.Numbers.{number_or_none}
 
 -- a node, and what is compared of it
 abbrev pub Pair : Type 0
@@ -111,3 +114,8 @@ module _ (m : ℕ → ℕ) where
 pub found_least : {S : Set} {m : ℕ → ℕ} {b : ℕ} (y : ℕ) → S y ≡ true → Found S m b → Least S m b
 found_least y e (nobody f) = clash e (f y)
 found_least y e (found l) = l
+
+-- what is found, as a number
+pub found_number : {S : Set} {m : ℕ → ℕ} (r : Option NodeNumber) → Nearest S m r → Found S m (number_or_none r)
+found_number None f = nobody f
+found_number (Some b) l = found l

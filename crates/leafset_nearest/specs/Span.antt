@@ -1,7 +1,8 @@
 -- What nodes are ordered by, and the first of a set.
-use Rattle.std.specs.Prelude.{◌≡◌, ℕ, ◌+◌, ◌*◌, ◌<◌, ◌≤◌, true, false, List, nat_le, slice_index, if◌then◌else◌}
+use Rattle.std.specs.Prelude.{◌≡◌, ℕ, ◌+◌, ◌*◌, ◌<◌, ◌≤◌, true, false, List, Option, None, Some, nat_le, slice_index, if◌then◌else◌}
 use Rattle.model.specs.Key.{clockwise, counter_clockwise}
 use Rattle.model.specs.Sets.{Set, none_node}
+use Rattle.model.specs.declared.values.NodeNumber.{NodeNumber}
 use Rattle.leafset_nearest.specs.declared.Way.{Way}
 use Rattle.leafset_nearest.specs.declared.Way.TheVariants.{Clockwise, CounterClockwise, Either}
 
@@ -31,3 +32,8 @@ pub record Least (S : Set) (m : ℕ → ℕ) (b : ℕ) : Type 0 where
 pub data Found (S : Set) (m : ℕ → ℕ) : ℕ → Type 0 where
   nobody : ((y : ℕ) → S y ≡ false) → Found S m none_node
   found : {b : ℕ} → Least S m b → Found S m b
+
+-- what is found, or that nobody is
+abbrev pub Nearest : Set → (ℕ → ℕ) → Option NodeNumber → Type 0
+Nearest S m None = (y : ℕ) → S y ≡ false
+Nearest S m (Some b) = Least S m b.0

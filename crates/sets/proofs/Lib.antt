@@ -4,3 +4,4 @@ pub mod Collect
 pub mod Arrays
 pub mod UpTo
 pub mod Turns
+pub mod Numbers

@@ -10,13 +10,12 @@ ghost use Rattle.sets.specs.Within.{InTable};
 ghost use Rattle.records.specs.Effects.{OwnFits, Leaves};
 
 use leafset_choice::{passes_zero, successor};
-use model::message::MessageRecord;
+use model::message::{MessageRecord, MessageType};
 use model::node::NodeRecord;
 use model::values::NodeNumber;
 use records::effect::EffectRecord;
 use records::message::{naming, plain};
 use records::own::{add_candidate, hold};
-use word_ring::MessageWord;
 
 // "if it passes zero, type 11, subject myself, to the successor"
 pub fn timer4(keys: &[u32], me: NodeNumber, own: NodeRecord) -> EffectRecord
@@ -29,8 +28,8 @@ pub fn timer4(keys: &[u32], me: NodeNumber, own: NodeRecord) -> EffectRecord
     if !passes_zero(keys, me, own.held) {
         return EffectRecord::quiet(own);
     }
-    let next = successor(keys, me, own.held);
-    EffectRecord::replying(own, naming(MessageWord::PING_DELOOPY, me, next, me))
+    let next = successor(keys, me, own.held).unwrap();
+    EffectRecord::replying(own, naming(MessageType::PingDeloopy as u8, me, next, me))
 }
 
 // "On 11, subject o: nothing if o is me or I hold nobody; if my successor passes zero, o becomes a candidate and I
@@ -47,17 +46,20 @@ pub fn on_ping_deloopy(
         → Leaves (length keys.now) me.0 time result
         (steps.on_ping_deloopy (table_of sides keys.now) me.0 time (own_of own) (message_of message)) }
 {
-    if (message.subject.0 == me.0) | (own.held == 0) {
+    if message.subject == me || own.held == 0 {
         return EffectRecord::quiet(own);
     }
     if passes_zero(keys, me, own.held) {
         let next = add_candidate(own, message.subject);
-        return EffectRecord::replying(next, plain(MessageWord::PONG_DELOOPY, me, message.subject));
+        return EffectRecord::replying(
+            next,
+            plain(MessageType::PongDeloopy as u8, me, message.subject),
+        );
     }
-    let next = successor(keys, me, own.held);
+    let next = successor(keys, me, own.held).unwrap();
     EffectRecord::replying(
         own,
-        naming(MessageWord::PING_DELOOPY, me, next, message.subject),
+        naming(MessageType::PingDeloopy as u8, me, next, message.subject),
     )
 }
 

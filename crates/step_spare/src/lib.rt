@@ -10,13 +10,12 @@ ghost use Rattle.records.specs.Lent.{Lent};
 
 use leafset::{leafset, outside};
 use leafset_choice::closest;
-use model::message::MessageRecord;
+use model::message::{MessageRecord, MessageType};
 use model::node::NodeRecord;
 use model::values::{NodeNumber, Sides};
 use records::effect::{EffectRecord, Sends};
 use records::message::naming;
 use records::own::set_spare;
-use word_ring::MessageWord;
 
 // "type 7 to each held stand outside my leafset of the held"
 pub fn timer2(keys: &[u32], sides: Sides, me: NodeNumber, own: NodeRecord) -> EffectRecord
@@ -25,7 +24,7 @@ pub fn timer2(keys: &[u32], sides: Sides, me: NodeNumber, own: NodeRecord) -> Ef
         (steps.timer2 (table_of sides keys.now) me.0 time (own_of own)) }
 {
     let outside = outside(keys, sides, me, own.held);
-    EffectRecord::sending(own, Sends::Each(MessageWord::PING_ASK_REPL, outside))
+    EffectRecord::sending(own, Sends::Each(MessageType::PingAskRepl as u8, outside))
 }
 
 // "On 7 from a: answer 8 whose subject is the member of my leafset, other than a, nearest to a and strictly nearer to
@@ -43,10 +42,10 @@ pub fn on_ping_ask_repl(
         → Leaves (length keys.now) me.0 time result
         (steps.on_ping_ask_repl (table_of sides keys.now) me.0 time (own_of own) (message_of message)) }
 {
-    let spare = closest(keys, sides, me, own.held, message.sender);
+    let spare = closest(keys, sides, me, own.held, message.sender).unwrap_or(NodeNumber::NONE);
     EffectRecord::replying(
         own,
-        naming(MessageWord::PONG_ASK_REPL, me, message.sender, spare),
+        naming(MessageType::PongAskRepl as u8, me, message.sender, spare),
     )
 }
 

@@ -33,5 +33,6 @@ returns c = record {
       from_set (or_lt 64 c.near-ahead.result c.near-behind.result (search rules) (search rules))
       (or_union _ _
       ∙ leafset_near c.args.sides c.requires.table c.without-left.ensures.members
-      (omega (arith, c.size.ensures.value)) c.near-ahead.ensures.members c.near-behind.ensures.members);
+      (omega (arith, c.size.ensures.value)) (rw c.index.ensures.value at c.near-ahead.ensures.members)
+      (rw c.index.ensures.value at c.near-behind.ensures.members));
 }

@@ -1,41 +1,28 @@
-use mathlib.Core.Path.{subst₂}
-use Prim.Native.Nat.{ℕ, ◌<◌, ◌≤◌}
-use borrow.Author.Rules.{rules}
-use Rattle.sets.proofs.Bits.{none_left, first_bit}
-use Rattle.leafset_nearest.proofs.Pick.{found_least}
-use Rattle.leafset_choice.proofs.Spare.{others_low, closest_nobody, closest_found, closest_none}
+use mathlib.Core.Path.{refl}
+use Rattle.leafset_choice.proofs.Spare.{others_low, closest_nobody, closest_kept}
 use Rattle.leafset_choice.proofs.closest.Goals as goal
 
-pub returns-then-others-eq0 : goal.returns-then-others-eq0
-returns-then-others-eq0 c = record {
+pub nearest-requires : goal.nearest-requires
+nearest-requires c = record { members = others_low c.args.sides c.requires.table.0 _ _ _ c.leafset.ensures.value c.without-others.ensures.members }
+
+pub returns-in_err-y : goal.returns-in_err-y
+returns-in_err-y c = record {
   value =
-      closest_nobody c.args.sides c.requires.table.0 _ _ _ c.leafset.ensures.value c.without-others.ensures.members
-      (none_left c.if-others-eq0.true);
+      rw c.from_residual.ensures
+      (closest_nobody c.args.sides c.requires.table.0 _ _ _ c.leafset.ensures.value c.without-others.ensures.members c.in_err-y.ensures.nearest);
 }
 
-pub nearest-y-requires : goal.nearest-y-requires
-nearest-y-requires c = record { members = others_low c.args.sides c.requires.table.0 _ _ _ c.leafset.ensures.value c.without-others.ensures.members }
+pub bounds-keys-index-2 : goal.bounds-keys-index-2
+bounds-keys-index-2 c =
+    rw c.index-2.ensures.value
+    (others_low c.args.sides c.requires.table.0 _ _ _ c.leafset.ensures.value c.without-others.ensures.members _ c.in_ok-y.ensures.nearest.member)
 
-pub bounds-keys-to : goal.bounds-keys-to
-bounds-keys-to c =
-    let f = first_bit c.without-others.result (search rules) c.if-others-eq0.false in
-    others_low c.args.sides c.requires.table.0 _ _ _ c.leafset.ensures.value c.without-others.ensures.members _
-    (found_least _ f.member c.nearest-y.ensures.nearest).member
-
-pub returns-then-distance : goal.returns-then-distance
-returns-then-distance c = record {
+pub returns : goal.returns
+returns c = record {
   value =
-      let f = first_bit c.without-others.result (search rules) c.if-others-eq0.false in
-      closest_found c.args.sides c.requires.table.0 _ _ _ c.leafset.ensures.value c.without-others.ensures.members
-      (found_least _ f.member c.nearest-y.ensures.nearest)
-      (subst₂ (λ (m n : ℕ). m < n) c.distance.ensures.value c.distance-2.ensures.value c.if-distance.true);
-}
-
-pub returns-else-distance : goal.returns-else-distance
-returns-else-distance c = record {
-  value =
-      let f = first_bit c.without-others.result (search rules) c.if-others-eq0.false in
-      closest_none c.args.sides c.requires.table.0 _ _ _ c.leafset.ensures.value c.without-others.ensures.members
-      (found_least _ f.member c.nearest-y.ensures.nearest)
-      (subst₂ (λ (m n : ℕ). m ≤ n) c.distance-2.ensures.value c.distance.ensures.value c.if-distance.false);
+      rw c.then_some.ensures
+      (closest_kept c.args.sides c.requires.table.0 _ _ _ c.leafset.ensures.value c.without-others.ensures.members
+      (rw c.index.ensures.value at c.in_ok-y.ensures.nearest) c.in_ok-y.y refl
+      (rw (c.index.ensures.value, c.index-2.ensures.value) at c.distance.ensures.value)
+      (rw (c.index.ensures.value, c.index-3.ensures.value) at c.distance-2.ensures.value));
 }

@@ -1,11 +1,12 @@
 use mathlib.Core.Path.{sym, ap, ◌∙◌}
 use Prim.Native.Nat.{ℕ}
 use native.Mathlib.Omega.{arith}
-use borrow.Author.Tests.{not-true, not-false}
 use Rattle.model.specs.Structs.{any_sides}
 use Rattle.model.specs.Steps as steps
 use Rattle.records.proofs.Changes.{unchanged}
 use Rattle.leafset_choice.proofs.Choices.{passes_some, some_successor}
+use Rattle.sets.specs.Numbers.{number_or_none}
+use Rattle.sets.proofs.Numbers.{is_some_low}
 use Rattle.step_deloopy.proofs.timer4.Goals as goal
 
 pub returns-then-not-passes_zero : goal.returns-then-not-passes_zero
@@ -23,8 +24,8 @@ naming-requires c = record {
       let low = some_successor any_sides c.requires.table (passes_some any_sides c.requires.table passes) in (
         omega arith,
         omega (arith, c.requires.table.node, c.requires.table.few),
-        omega (arith, low, c.requires.table.few, c.successor-next.ensures.value any_sides),
-        omega (arith, low, c.requires.table.node, c.requires.table.few, c.successor-next.ensures.value any_sides),
+        omega (arith, low, c.requires.table.few, ap number_or_none (sym c.unwrap-next.ensures) ∙ c.successor.ensures.value any_sides),
+        omega (arith, low, c.requires.table.node, c.requires.table.few, ap number_or_none (sym c.unwrap-next.ensures) ∙ c.successor.ensures.value any_sides),
       );
 }
 
@@ -36,7 +37,13 @@ returns c = record {
       λ sides time.
       rw (sym (c.passes_zero.ensures.value sides) ∙ c.if-not-passes_zero.false)
       (c.replying.ensures.effect _ _ _ _ _ (unchanged c.requires.record) (record {
-        message = c.naming.ensures.message.message ∙ ap (λ (y : ℕ). steps.naming 11 a.me.0 y a.me.0) (c.successor-next.ensures.value sides);
+        message = c.naming.ensures.message.message ∙ ap (λ (y : ℕ). steps.naming 11 a.me.0 y a.me.0) (ap number_or_none (sym c.unwrap-next.ensures) ∙ c.successor.ensures.value sides);
         room = c.naming.ensures.message.room;
       }));
 }
+
+pub unwrap-next-requires : goal.unwrap-next-requires
+unwrap-next-requires c =
+    let q = c.requires.table in
+    let low = some_successor any_sides q (passes_some any_sides q (sym (c.passes_zero.ensures.value any_sides) ∙ c.if-not-passes_zero.false)) in
+    is_some_low c.successor.result (omega (arith, low, q.few, c.successor.ensures.value any_sides))

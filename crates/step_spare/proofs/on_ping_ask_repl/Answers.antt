@@ -7,6 +7,8 @@ use Rattle.model.specs.Sets.{of_bits}
 use Rattle.model.specs.Steps as steps
 use Rattle.records.proofs.Changes.{unchanged}
 use Rattle.leafset_choice.proofs.Spare.{closest_room}
+use Rattle.model.specs.declared.values.NodeNumber.{NodeNumber}
+use Rattle.sets.proofs.Numbers.{unwrapped}
 use Rattle.step_spare.proofs.on_ping_ask_repl.Goals as goal
 
 pub naming-requires : goal.naming-requires
@@ -17,7 +19,7 @@ naming-requires c = record {
       let room : closest (table_of a.sides a.keys.now) a.me.0 held a.message.sender.0 < 2 ^ 7 =
       closest_room a.sides a.keys.now a.me.0 held a.message.sender.0 c.requires.lent.table.few
       in
-      (omega arith, omega arith, omega arith, omega (arith, c.closest-spare.ensures.value));
+      (omega arith, omega arith, omega arith, omega (arith, ap (λ (y : NodeNumber). y.0) c.unwrap_or-spare.ensures ∙ unwrapped c.closest.result ∙ c.closest.ensures.value));
 }
 
 pub returns : goal.returns
@@ -26,7 +28,8 @@ returns c = record {
   effect =
       let a = c.args in
       λ time. c.replying.ensures.effect _ _ _ _ _ (unchanged c.requires.lent.own_fits) (record {
-        message = c.naming.ensures.message.message ∙ ap (steps.naming 8 a.me.0 a.message.sender.0) c.closest-spare.ensures.value;
+        message = c.naming.ensures.message.message ∙ ap (steps.naming 8 a.me.0 a.message.sender.0)
+            (ap (λ (y : NodeNumber). y.0) c.unwrap_or-spare.ensures ∙ unwrapped c.closest.result ∙ c.closest.ensures.value);
         room = c.naming.ensures.message.room;
       });
 }
