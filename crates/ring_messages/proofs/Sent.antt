@@ -1,33 +1,18 @@
 -- The messages that a node has sent, counted one after the other.
 use mathlib.Core.Path.{◌≡◌, refl, sym, ap, ◌∙◌}
-use mathlib.Core.Bool.{Bool, true, false}
 use mathlib.Core.List.{List}
 use Prim.Native.Nat.{ℕ, ◌+◌, ◌≤◌, ◌<◌}
 use native.Mathlib.Numerals.{add-one}
 use native.Mathlib.Omega.{arith}
 use lib.Dec.{eqb}
-use mir.Val.{bool_byte}
 use lib.ListN.{length, take}
 use lib.Seq.{length-take-le, take_all}
 use Rattle.std.specs.Prelude.{if◌then◌else◌}
-use Rattle.model.specs.Fields.{bit, bits}
+use Rattle.model.specs.Fields.{bits}
 use Rattle.model.specs.Ring.{Message, message_at, sent_by}
 use Rattle.model.specs.Words.{at, message_place, decode_message_at, decode}
 use Rattle.model.proofs.Senders.{one_of, sent_next, sent_le}
 use Rattle.ring_head.proofs.ReadRing.{read_message}
-
--- a truth as a number, by `usize::from`
-pub byte_is : (b : Bool) → bool_byte b ≡ bit b
-byte_is true = refl
-byte_is false = refl
-
-pub byte_small : (b : Bool) → bool_byte b ≤ 1
-byte_small true = omega arith
-byte_small false = omega arith
-
-one_is : (b : Bool) → bit b ≡ (if b then 1 else 0)
-one_is true = refl
-one_is false = refl
 
 module _ (ws : List ℕ) (x : ℕ) where
   -- those before k are counted
@@ -40,11 +25,11 @@ module _ (ws : List ℕ) (x : ℕ) where
   sent_before_first = record { within = omega arith; counted = refl }
 
   pub sent_before_next : {sent k : ℕ} → SentBefore sent k → k < length (decode ws).messages → {sender one : ℕ}
-      → sender ≡ bits 4 6 (at ws (message_place k)) → one ≡ bit (eqb sender x) → SentBefore (sent + one) (k + 1)
+      → sender ≡ bits 4 6 (at ws (message_place k)) → one ≡ (if eqb sender x then 1 else 0) → SentBefore (sent + one) (k + 1)
   unfolding decode_message_at
   sent_before_next {k = k} s h {sender} {one} is e =
       let same : (message_at (decode ws) k).sender ≡ sender = ap (λ (m : Message). m.sender) (read_message ws k h) ∙ sym is in
-      let counts : one_of x (message_at (decode ws) k) ≡ one = ap (λ (y : ℕ). if eqb y x then 1 else 0) same ∙ sym (one_is (eqb sender x)) ∙ sym e in
+      let counts : one_of x (message_at (decode ws) k) ≡ one = ap (λ (y : ℕ). if eqb y x then 1 else 0) same ∙ sym e in
       record {
         within = omega arith;
         counted = rw (add-one k) (omega (arith, s.counted, counts, sent_next x (decode ws).messages k h));

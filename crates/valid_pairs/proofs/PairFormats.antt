@@ -26,15 +26,11 @@ spare_format w = of_kind_lem 7 4 8388608 w (bits 0 7 w) (lowest 7 w) refl
 abbrev pub wrapped : ℕ → ℕ → ℕ
 wrapped most a = (most + (2 ^ 32 - a)) % 2 ^ 32
 
-pub is_wrapped : (most a r : ℕ) → a < 2 ^ 32 → r < 2 ^ 32 → (r + a) % 2 ^ 32 ≡ most → r ≡ wrapped most a
-is_wrapped most a r ha hr e =
-    elim (dec_lt (r + a) (2 ^ 32)) [
-      | yes l ↦ let m : (r + a) % 2 ^ 32 ≡ r + a = mod-eq_of_lt l in
-          let k : most + (2 ^ 32 - a) ≡ r + 2 ^ 32 = omega arith in
-          rw k (omega arith)
-      | no d ↦ let m : (r + a) % 2 ^ 32 ≡ r + a - 2 ^ 32 = omega arith in
-          let k : most + (2 ^ 32 - a) ≡ r = omega arith in
-          rw k (sym (mod-eq_of_lt hr))
+pub wrapped_back : (most a : ℕ) → most < 2 ^ 32 → a < 2 ^ 32 → (wrapped most a + a) % 2 ^ 32 ≡ most
+wrapped_back most a hm ha =
+    elim (dec_lt most a) [
+      | yes l ↦ let m : wrapped most a ≡ most + (2 ^ 32 - a) = mod-eq_of_lt (omega arith) in omega arith
+      | no d ↦ let m : wrapped most a ≡ most - a = omega arith in omega arith
     ]
 
 -- the mask takes bit 25 out

@@ -14,7 +14,7 @@ use Rattle.sets.proofs.Ascending.{count_without}
 use Rattle.model.proofs.Lists.{first, rest}
 use Rattle.valid_nodes.proofs.Formats.{lowest, xor_test}
 use Rattle.valid_pairs.specs.Pairs.{link_reads, spare_reads}
-use Rattle.valid_pairs.proofs.PairFormats.{pair_format, spare_format, without_candidate}
+use Rattle.valid_pairs.proofs.PairFormats.{pair_format, spare_format, without_candidate, wrapped, wrapped_back}
 
 -- ---- the link: high bits q, mark f, stamp s
 
@@ -142,10 +142,10 @@ module _ (n x z p u : ℕ) (hn : n ≤ 64) (hx : x < 64) (hz : z < 64) (e : u �
       ne_zero : {v : ℕ} → (v ≡ 0 → ⊥) → 1 ≤ v
       ne_zero g = omega arith
 
-pub pair_test : (clock n x z w p v d u : ℕ) → clock < 2 ^ 24 → n ≤ 64 → x < 64 → z < 64 → w < 2 ^ 32 → d < 2 ^ 32
-    → v ≡ bit_and w 4261412863 → (d + 822083585) % 2 ^ 32 ≡ v → u ≡ bit_xor p 1073741824
-    → tests n x z p u (eqb v 805306368) (ltb d clock) ≡ (link_reads clock w && spare_reads n x z w p)
-pair_test clock n x z w p v d u hc hn hx hz hw hd e g i =
+pub pair_test : (clock n x z w p v u : ℕ) → clock < 2 ^ 24 → n ≤ 64 → x < 64 → z < 64 → w < 2 ^ 32
+    → v ≡ bit_and w 4261412863 → u ≡ bit_xor p 1073741824
+    → tests n x z p u (eqb v 805306368) (ltb (wrapped v 822083585) clock) ≡ (link_reads clock w && spare_reads n x z w p)
+pair_test clock n x z w p v u hc hn hx hz hw e i =
     let parts : v ≡ w / 2 ^ 26 * 2 ^ 26 + (w / 2 ^ 24 % 2 * 2 ^ 24 + w % 2 ^ 24) =
     e
     ∙ without_candidate w hw
@@ -153,9 +153,11 @@ pair_test clock n x z w p v d u hc hn hx hz hw hd e g i =
     in
     let f< : w / 2 ^ 24 % 2 < 2 = mod-lt (w / 2 ^ 24) (lit< tt) in
     let s< : w % 2 ^ 24 < 2 ^ 24 = mod-lt w (lit< tt) in
+    let d< : wrapped v 822083585 < 2 ^ 32 = mod-lt (v + (2 ^ 32 - 822083585)) (lit< tt) in
+    let v< : v < 2 ^ 32 = omega arith in
     rw (
       idle clock (w / 2 ^ 26) (w / 2 ^ 24 % 2) (w % 2 ^ 24) v f< s< parts,
-      held clock (w / 2 ^ 26) (w / 2 ^ 24 % 2) (w % 2 ^ 24) v d f< s< parts hc hd g,
+      held clock (w / 2 ^ 26) (w / 2 ^ 24 % 2) (w % 2 ^ 24) v (wrapped v 822083585) f< s< parts hc d< (wrapped_back v 822083585 v< (lit< tt)),
       link_parts clock w,
       spare_parts n x z w p,
     )

@@ -18,6 +18,7 @@ use Rattle.valid_pairs.specs.Pairs.{link_at, spare_at, link_reads, spare_reads, 
 use Rattle.valid_pairs.specs.Rows.{no_link, no_spare, off_diagonal, apart, link_fits, links_fit, no_links, no_spares}
 use Rattle.valid_pairs.proofs.PairFormats.{pair_format, spare_format, wrapped}
 use Rattle.valid_nodes.proofs.Gather.{or_test, all_both, all_cong}
+use Rattle.model.proofs.Fields.{bits<}
 use Rattle.valid_nodes.proofs.Formats.{lowest, xor_test, xor_above}
 
 -- ---- a link
@@ -289,7 +290,7 @@ module _ (ws : List ℕ) (n x : ℕ) (hn : n ≤ 64) (hx : x < n) where
         ∙ all_cong (λ z. eqb (apart no_link x z (link_at ws x z)) 0 && eqb (apart no_spare x z (spare_at ws x z)) 0) (pair_reads ws n x) n (pair_off r)
 
   -- the links, as the code joins its tests
-  pub links_tests : (most : ℕ) → most ≡ 33554431 + clock_at ws x % 2 ^ 24
+  pub links_tests : (most : ℕ) → most ≡ 33554431 + bits 0 24 (clock_at ws x)
       → (all n (λ z. eqb (lift (apart no_link x z (link_at ws x z)) / 2 ^ 26) 0)
       && all n (λ z. eqb (lift (apart no_link x z (link_at ws x z)) / 2 ^ 24 % 2) 0)
       && all n (λ z. eqb (wrapped most (lift (apart no_link x z (link_at ws x z))) / 2 ^ 31) 0))
@@ -297,7 +298,7 @@ module _ (ws : List ℕ) (n x : ℕ) (hn : n ≤ 64) (hx : x < n) where
   links_tests most e =
       ap (λ (b : Bool). b && all n late) (all_both high even n) ∙ all_both (λ z. high z && even z) late n
       ∙ all_cong (λ z. high z && even z && late z) (λ z. link_fits (bits 0 24 (clock_at ws x)) (link z)) n
-      (λ z h. rw (e, lowest 24 (clock_at ws x)) (lifted_test (clock_at ws x % 2 ^ 24) (link z) (mod-lt (clock_at ws x) (lit< tt))))
+      (λ z h. rw e (lifted_test (bits 0 24 (clock_at ws x)) (link z) (bits< 0 24 (clock_at ws x))))
     where
       link : ℕ → ℕ
       link z = apart no_link x z (link_at ws x z)

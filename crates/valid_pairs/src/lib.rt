@@ -10,18 +10,16 @@ ghost use Rattle.model.specs.Sets.{all};
 ghost use Rattle.valid_pairs.specs.Pairs.{pair_reads, row_reads, pairs_read};
 ghost use Rattle.valid_pairs.specs.Rows.{GivenRow, RunningRow, no_links, no_spares, links_fit};
 
-use rows::{Row, whole_row};
+use rows::{NO_CANDIDATE, Row, whole_row};
 use valid_nodes::clear::clear;
-use word_ring::{KeyWord, PairWord, SpareWord, place};
+use word_ring::{ClockWord, KeyWord, PairWord, SpareWord, place};
 
 // The first word of a pair that is not held and no candidate, and the second of one that has no spare.
 const NO_LINK: u32 = PairWord::EMPTY;
 
 const NO_SPARE: u32 = SpareWord::NONE;
 
-// The bits of a pair's first word but the candidate mark; its stamp, and its stamp and held mark, with every bit set.
-const NO_CANDIDATE: u32 = 0xFFFF_FFFF - PairWord::CANDIDATE;
-
+// The stamp of a pair's first word, and its stamp and held mark, with every bit set.
 const LAST_STAMP: u32 = PairWord::HELD - 1;
 
 const LAST_HELD: u32 = PairWord::CANDIDATE - 1;
@@ -34,22 +32,23 @@ fn lifted(u: u32) -> u32
     (u & NO_CANDIDATE) + LAST_STAMP
 }
 
-// The row of a running node x. Each condition has a word in which the bits that break it are gathered.
+// The row of a running node x. Each condition has a word in which the bits that break it are gathered. z counts, since
+// words and tables are read at places of their own.
 fn running_row(words: &[u32], links: &[u32; 127], spares: &[u32; 127], x: usize, n: usize) -> Row
     requires row { GivenRow words.now links.now spares.now x n }
     ensures fits { result.fits ≡ links_fit words.now n x }
     ensures bare { result.bare ≡ no_spares words.now n x }
 {
-    let most = LAST_HELD + words[place::NODES + 2 * x + 1] % KeyWord::RUNNING;
+    let most = LAST_HELD + ClockWord(words[place::NODES + 2 * x + 1]).clock().0;
     let mut link = 0;
     let mut late = 0;
     let mut spare = 0;
     for z in 0..n {
         let at = place::PAIRS + 2 * (64 * x + z);
         let a = lifted(words[at] ^ links[63 - x + z]);
-        link = link | a;
-        late = late | std::num::wrapping_sub_u32(most, a);
-        spare = spare | (words[at + 1] ^ spares[63 - x + z]);
+        link |= a;
+        late |= most.wrapping_sub(a);
+        spare |= words[at + 1] ^ spares[63 - x + z];
     }
     Row {
         fits: (link >> 26 == 0) & ((link >> 24) % 2 == 0) & (late >> 31 == 0),
@@ -66,8 +65,8 @@ fn off_row(words: &[u32], links: &[u32; 127], spares: &[u32; 127], x: usize, n: 
     let mut spare = 0;
     for z in 0..n {
         let at = place::PAIRS + 2 * (64 * x + z);
-        link = link | (words[at] ^ links[63 - x + z]);
-        spare = spare | (words[at + 1] ^ spares[63 - x + z]);
+        link |= words[at] ^ links[63 - x + z];
+        spare |= words[at + 1] ^ spares[63 - x + z];
     }
     (link == 0) & (spare == 0)
 }
@@ -112,13 +111,13 @@ fn row_pairs_read(
     ensures fits { result.fits ≡ all n (pair_reads words.now n x) }
 {
     let own = place::PAIRS + 2 * (64 * x + x);
-    if !((words[own] | words[own + 1]) == 0) {
+    if (words[own] | words[own + 1]) != 0 {
         return Row {
             fits: false,
             bare: true,
         };
     }
-    if !((words[place::NODES + 2 * x] >> 24) % 2 == 1) {
+    if !KeyWord(words[place::NODES + 2 * x]).running() {
         return Row {
             fits: off_row(words, links, spares, x, n),
             bare: true,
@@ -166,7 +165,7 @@ pub fn pairs_read(words: &[u32], n: usize) -> bool
     let mut bare = true;
     for x in 0..n {
         let row = row_reads(words, &links, &spares, x, n, bare);
-        ok = ok & row.fits;
+        ok &= row.fits;
         bare = row.bare;
     }
     ok & clear(words, place::PAIRS + 128 * n, place::MESSAGES)

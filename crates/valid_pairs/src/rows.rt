@@ -4,10 +4,10 @@ ghost use Rattle.model.specs.Words.{ring_length};
 ghost use Rattle.model.specs.Sets.{count, all};
 ghost use Rattle.valid_pairs.specs.Pairs.{link_at, link_reads, spare_reads, run_reads, others_read};
 
-use word_ring::{KeyWord, PairWord, SpareWord, place};
+use word_ring::{ClockWord, PairWord, SpareWord, place};
 
 // The bits of a pair's first word but the candidate mark, and that word of a pair held since 1.
-const NO_CANDIDATE: u32 = 0xFFFF_FFFF - PairWord::CANDIDATE;
+pub const NO_CANDIDATE: u32 = 0xFFFF_FFFF - PairWord::CANDIDATE;
 
 const HELD_FROM_1: u32 = PairWord::EMPTY + PairWord::HELD + 1;
 
@@ -31,21 +31,11 @@ fn pair_fits(w: u32, p: u32, clock: u32, n: u32, x: u32, z: u32) -> bool
     ensures value { result ≡ link_reads clock w && spare_reads n x z w p }
 {
     let link = w & NO_CANDIDATE;
-    let held = std::num::wrapping_sub_u32(link, HELD_FROM_1) < clock;
+    let held = link.wrapping_sub(HELD_FROM_1) < clock;
     let spare = p ^ SpareWord::EMPTY;
     let none = p == SpareWord::NONE;
-    let named = (spare < n) & !(spare == x) & !(spare == z);
+    let named = (spare < n) & (spare != x) & (spare != z);
     ((link == PairWord::EMPTY) & none) | (held & (none | named))
-}
-
-fn one_if(b: bool) -> u32
-    ensures value { result ≡ (if b then 1 else 0) }
-    ensures bound { result ≤ 1 }
-{
-    if b {
-        return 1;
-    }
-    0
 }
 
 // The pairs of a running x with the nodes from `from` up to `to`, the first word of that with z being at base + 2 * z.
@@ -56,23 +46,22 @@ pub fn fitting(words: &[u32], base: usize, x: usize, n: usize, from: usize, to: 
         ≡ count to (run_reads words.now n x base) }
     ensures bound { result.fit + from ≤ to }
 {
-    let clock = words[place::NODES + 2 * x + 1] % KeyWord::RUNNING;
+    let clock = ClockWord(words[place::NODES + 2 * x + 1]).clock().0;
     let mut fit = 0;
     let mut met = 0;
     for z in from..to {
         let at = base + 2 * z;
-        fit = fit
-            + one_if(pair_fits(
-                words[at],
-                words[at + 1],
-                clock,
-                n as u32,
-                x as u32,
-                z as u32,
-            ));
-        met = met | words[at + 1];
+        fit += u32::from(pair_fits(
+            words[at],
+            words[at + 1],
+            clock,
+            n as u32,
+            x as u32,
+            z as u32,
+        ));
+        met |= words[at + 1];
     }
-    Run { fit: fit, met: met }
+    Run { fit, met }
 }
 
 // The pairs of a running x with the other nodes: all of them fit, and that of x with itself, which is 0, does not.

@@ -5,7 +5,7 @@ ghost use Rattle.valid_pairs.specs.Pairs.{in_row_reads, short_pairs_read};
 ghost use Rattle.valid_pairs.specs.Rows.{nothing_at};
 
 use super::rows::fitting;
-use word_ring::{PairWord, SpareWord, place};
+use word_ring::{KeyWord, PairWord, SpareWord, place};
 
 // The k pairs from `row` on have neither a link nor a spare.
 fn nothing(words: &[u32], row: usize, k: usize) -> bool
@@ -15,8 +15,8 @@ fn nothing(words: &[u32], row: usize, k: usize) -> bool
     let mut link = 0;
     let mut spare = 0;
     for i in 0..k {
-        link = link | (words[row + 2 * i] ^ PairWord::EMPTY);
-        spare = spare | (words[row + 2 * i + 1] ^ SpareWord::NONE);
+        link |= words[row + 2 * i] ^ PairWord::EMPTY;
+        spare |= words[row + 2 * i + 1] ^ SpareWord::NONE;
     }
     (link == 0) & (spare == 0)
 }
@@ -26,7 +26,7 @@ fn short_row_reads(words: &[u32], row: usize, x: usize, n: usize) -> bool
     requires words { (row + 2 * (n - 1) ≤ length words.now) × (1 + 2 * n ≤ row) × (x < n) × (n ≤ 64) }
     ensures value { result ≡ all n (in_row_reads words.now n x row) }
 {
-    if !((words[place::NODES + 2 * x] >> 24) % 2 == 1) {
+    if !KeyWord(words[place::NODES + 2 * x]).running() {
         return nothing(words, row, n - 1);
     }
     let before = fitting(words, row, x, n, 0, x);
@@ -42,8 +42,8 @@ pub fn short_pairs_read(words: &[u32], n: usize) -> bool
     let mut ok = true;
     let mut row = place::NODES + 2 * n;
     for x in 0..n {
-        ok = ok & short_row_reads(words, row, x, n);
-        row = row + 2 * (n - 1);
+        ok &= short_row_reads(words, row, x, n);
+        row += 2 * (n - 1);
     }
     ok
 }

@@ -1,7 +1,9 @@
 use mathlib.Core.Path.{ap, ◌∙◌}
 use native.Mathlib.Omega.{arith}
-use Rattle.model.specs.Fields.{bit}
-use Rattle.ring_messages.proofs.Sent.{byte_is, byte_small, sent_before_first, sent_before_next, sent_before_few, sent_before_last}
+use Rattle.std.specs.Prelude.{if◌then◌else◌}
+use mathlib.Core.Bool.{Bool}
+use Rattle.word_ring.proofs.Bytes.{byte_is, byte_small}
+use Rattle.ring_messages.proofs.Sent.{sent_before_first, sent_before_next, sent_before_few, sent_before_last}
 use Rattle.ring_messages.proofs.sent_by.Goals as goal
 
 pub loop-k-init : goal.loop-k-init
@@ -17,7 +19,7 @@ overflow_add-sent c =
 pub loop-k-preserved : goal.loop-k-preserved
 loop-k-preserved c =
     sent_before_next _ _ c.loop-k.invariant (omega (arith, c.requires.words.2)) c.sender-sender.ensures.value
-    (c.from-sent.ensures ∙ byte_is c.eq.result ∙ ap bit c.eq.ensures)
+    (c.from-sent.ensures ∙ byte_is c.eq.result ∙ ap (λ (b : Bool). if b then 1 else 0) c.eq.ensures)
 
 pub returns : goal.returns
 returns c =

@@ -6,6 +6,6 @@ pub returns : goal.returns
 returns c = record {
   value =
       let a = c.args in
-      pair_test a.clock a.n a.x a.z a.w a.p _ c.wrapping_sub_u32.result _ c.requires.bounds.0 c.requires.bounds.1 c.requires.bounds.2 c.requires.bounds.3
-      (omega arith) (omega arith) refl c.wrapping_sub_u32.ensures.value refl;
+      pair_test a.clock a.n a.x a.z a.w a.p _ _ c.requires.bounds.0 c.requires.bounds.1 c.requires.bounds.2 c.requires.bounds.3
+      (omega arith) refl refl;
 }
