@@ -1,5 +1,5 @@
 -- Laws of the questions: what a refused one gives, and an accepted one.
-use mathlib.Core.Path.{◌≡◌, refl, sym, ◌∙◌}
+use mathlib.Core.Path.{◌≡◌, refl, sym, ap, ◌∙◌}
 use mathlib.Core.Logic.{◌↔◌}
 use mathlib.Core.Bool.{Bool, true, false}
 use mathlib.Core.List.{List}
@@ -8,7 +8,9 @@ use Rattle.model.specs.Sets.{to_bits}
 use Rattle.model.specs.Leafset.{leafset}
 use Rattle.model.specs.Ring.{holds}
 use Rattle.model.specs.Connection.{Connected, connected, groups}
-use Rattle.model.specs.Answers.{is_accepted}
+use Rattle.model.specs.Answers.{answer_number, given_or, is_accepted}
+use Rattle.model.specs.declared.refusal.Refusal.{Refusal as Kind}
+use Rattle.std.specs.Prelude.{Result, Ok}
 use Rattle.model.specs.Words.{decode}
 use Rattle.model.specs.Buffer.{ring_answer}
 use Rattle.model.specs.Questions.{leafset_of, connection_answer, connection_of, groups_of}
@@ -41,21 +43,22 @@ module _ (ws : List ℕ) where
 
     -- ---- what a yes and a no say
 
-    module _ {q : ℕ} {v : Bool} (answer : q ≡ connection_answer ws x y) (value : v ≡ connection_of ws x y) (a : q ≡ 0) where
-      accepted : connection_answer ws x y ≡ 0
-      accepted = sym answer ∙ a
+    module _ {r : Result Bool Kind} (answer : answer_number r ≡ connection_answer ws x y) (value : given_or false r ≡ connection_of ws x y) where
+      module _ {v : Bool} (given : r ≡ Ok v) where
+        accepted : connection_answer ws x y ≡ 0
+        accepted = sym answer ∙ ap answer_number given
 
-      decides : (connected (decode ws) x y ≡ true) ↔ Connected (decode ws) x y
-      decides = connected_decides ws (connection_reads ws x y accepted) x y
+        decides : (connected (decode ws) x y ≡ true) ↔ Connected (decode ws) x y
+        decides = connected_decides ws (connection_reads ws x y accepted) x y
 
-      is : connected (decode ws) x y ≡ v
-      is = connection_given accepted refl ∙ sym value
+        is : connected (decode ws) x y ≡ v
+        is = connection_given accepted refl ∙ sym value ∙ ap (given_or false) given
 
-      pub yes_chain : v ≡ true → Connected (decode ws) x y
-      yes_chain t = decides.0 (is ∙ t)
+      pub yes_chain : r ≡ Ok true → Connected (decode ws) x y
+      yes_chain g = (decides g).0 (is g)
 
-      pub no_chain : v ≡ false → Connected (decode ws) x y → ⊥
-      no_chain f p = clash (decides.1 p) (is ∙ f)
+      pub no_chain : r ≡ Ok false → Connected (decode ws) x y → ⊥
+      no_chain g p = clash ((decides g).1 p) (is g)
 
   -- ---- a question about one node, which is named twice
 
