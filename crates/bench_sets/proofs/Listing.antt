@@ -1,7 +1,7 @@
 -- The members of a set, one after the other.
 use mathlib.Core.Path.{◌≡◌, refl, sym, ap, ◌∙◌}
 use mathlib.Core.List.{List, [], ◌∷◌, ◌++◌, append_assoc, append-nil}
-use Prim.Native.Nat.{ℕ, ◌+◌, ◌*◌, ◌^◌, ◌≤◌, ◌<◌}
+use Prim.Native.Nat.{ℕ, ◌+◌, ◌*◌, ◌≤◌}
 use native.Mathlib.Omega.{arith}
 use lib.ListN.{length}
 use Rattle.model.proofs.Laws.{length_members}
@@ -9,10 +9,9 @@ use Rattle.bench_lines.specs.Decimal.{spaced}
 use Rattle.bench_lines.specs.Put.{Put}
 use Rattle.bench_lines.proofs.Decimals.{spaced_append}
 use Rattle.bench_lines.proofs.Puts.{put_none, put_more, put_as}
-use Rattle.model.specs.Sets.{of_bits, count, members, lowest}
-use Rattle.sets.specs.Rest.{IsRest}
-use Rattle.sets.proofs.Ascending.{members_next}
-use Rattle.sets.proofs.Bits.{first_bit, members_end}
+use Rattle.model.specs.Sets.{of_bits, count, members}
+use Rattle.sets.proofs.Bits.{members_end}
+use Rattle.sets.proofs.Turns.{Turn}
 
 -- those before `rest` are put
 pub record Listing (out₀ out : List ℕ) (at end set rest : ℕ) : Type 0 where
@@ -20,36 +19,34 @@ pub record Listing (out₀ out : List ℕ) (at end set rest : ℕ) : Type 0 wher
   pub put : Put out₀ out at end bytes
   pub left : bytes ++ spaced (members 64 (of_bits rest)) ≡ spaced (members 64 (of_bits set))
   pub room : end + 21 * length (members 64 (of_bits rest)) ≤ at + 21 * count 64 (of_bits set)
-  pub fits : rest < 2 ^ 64
 
-pub listing_none : (out : List ℕ) (at set : ℕ) → set < 2 ^ 64 → Listing out out at at set set
-listing_none out at set h =
-    record {
+pub listing_none : (out : List ℕ) (at set : ℕ) {start : ℕ} → start ≡ set → Listing out out at at set start
+listing_none out at set e =
+    rw e record {
       bytes = [];
       put = put_none out at;
       left = refl;
       room = omega (arith, length_members 64 (of_bits set));
-      fits = h;
     }
 
 module _ {out₀ out : List ℕ} {at end set rest : ℕ} (l : Listing out₀ out at end set rest) where
-  pub listing_more : {out' : List ℕ} {end' y r : ℕ} → y ≡ lowest 64 (of_bits rest) → Put out out' end end' (spaced (y ∷ [])) → end' ≤ end + 21 → IsRest rest r
+  pub listing_more : {out' : List ℕ} {end' y v r : ℕ} → Turn rest y r → v ≡ y → Put out out' end end' (spaced (v ∷ [])) → end' ≤ end + 21
       → Listing out₀ out' at end' set r
-  listing_more {out'} {end'} {y} {r} is p h q =
-      let next : members 64 (of_bits rest) ≡ y ∷ members 64 (of_bits r) = q.next ∙ ap (λ (s : ℕ). s ∷ members 64 (of_bits r)) (sym is) in
+  listing_more {out'} {end'} {y} {v} {r} t e p h =
+      let next : members 64 (of_bits rest) ≡ v ∷ members 64 (of_bits r) =
+      t.rest.next ∙ ap (λ (s : ℕ). s ∷ members 64 (of_bits r)) (sym t.is ∙ sym e) in
       record {
-        bytes = l.bytes ++ spaced (y ∷ []);
+        bytes = l.bytes ++ spaced (v ∷ []);
         put = put_more l.put p;
         left =
-            append_assoc l.bytes (spaced (y ∷ [])) _
-            ∙ ap (λ (s : List ℕ). l.bytes ++ s) (sym (spaced_append (y ∷ []) (members 64 (of_bits r))) ∙ ap spaced (sym next))
+            append_assoc l.bytes (spaced (v ∷ [])) _
+            ∙ ap (λ (s : List ℕ). l.bytes ++ s) (sym (spaced_append (v ∷ []) (members 64 (of_bits r))) ∙ ap spaced (sym next))
             ∙ l.left;
         room = omega (arith, l.room, ap length next);
-        fits = omega (arith, l.fits, q.less);
       }
 
-  pub listing_room : (rest ≡ 0 → ⊥) → end + 21 ≤ at + 21 * count 64 (of_bits set)
-  listing_room d = omega (arith, l.room, ap length (members_next 64 (of_bits rest) _ (first_bit rest l.fits d)))
+  pub listing_room : {y r : ℕ} → Turn rest y r → end + 21 ≤ at + 21 * count 64 (of_bits set)
+  listing_room t = omega (arith, l.room, ap length t.rest.next)
 
   pub listing_all : rest ≡ 0 → Put out₀ out at end (spaced (members 64 (of_bits set)))
   unfolding spaced

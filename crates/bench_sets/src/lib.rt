@@ -13,10 +13,8 @@ pub fn put_members(out: &mut [u8], at: usize, set: u64) -> usize
     ensures end { result ≤ at + 21 * count 64 (of_bits set) }
 {
     let mut end = at;
-    let mut rest = set;
-    while rest != 0 {
-        end = bench_lines::put_next(out, end, sets::lowest(rest).0 as u64);
-        rest = sets::rest(rest);
+    for y in sets::members(set) {
+        end = bench_lines::put_next(out, end, u64::from(y.0));
     }
     end
 }

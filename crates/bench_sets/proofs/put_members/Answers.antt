@@ -1,34 +1,32 @@
-use borrow.Author.Rules.{rules}
+use native.Mathlib.Omega.{arith}
+use Rattle.sets.proofs.Turns.{begins, turn, no_more}
 use Rattle.bench_sets.proofs.Listing.{listing_none, listing_more, listing_room, listing_all}
 use Rattle.bench_sets.proofs.put_members.Goals as goal
 
-pub loop-rest-init : goal.loop-rest-init
-loop-rest-init c = listing_none _ _ _ (search rules)
+pub loop-y-init : goal.loop-y-init
+loop-y-init c =
+    listing_none _ _ _ (begins c.members-y-items.ensures.all c.into_iter-y-iterator.ensures.into_iter_gives)
 
 pub put_next-end-requires : goal.put_next-end-requires
 put_next-end-requires c = record {
   room =
-      let l = c.loop-rest.invariant in
-      let h = listing_room l c.loop-rest-test.true in
-      let e = l.put.long in
-      search rules;
+      let l = c.loop-y.invariant in
+      let h = listing_room l (turn c.loop-y.y-iterator c.next.new.self c.in-Some.ensures.steps) in
+      omega (arith, l.put.long);
 }
 
-pub loop-rest-smaller : goal.loop-rest-smaller
-loop-rest-smaller c = c.rest-rest.ensures.rest.less
-
-pub loop-rest-preserved : goal.loop-rest-preserved
-loop-rest-preserved c =
-    listing_more c.loop-rest.invariant c.lowest.ensures.value c.put_next-end.ensures.bytes c.put_next-end.ensures.end c.rest-rest.ensures.rest
+pub loop-y-preserved : goal.loop-y-preserved
+loop-y-preserved c =
+    listing_more c.loop-y.invariant (turn c.loop-y.y-iterator c.next.new.self c.in-Some.ensures.steps) c.from.ensures
+    c.put_next-end.ensures.bytes c.put_next-end.ensures.end
 
 pub shape_of-out : goal.shape_of-out
-shape_of-out c = c.loop-rest.invariant.put.long
+shape_of-out c = c.loop-y.invariant.put.long
 
 pub returns : goal.returns
 returns c =
-    let l = c.loop-rest.invariant in
-    let h = l.room in
+    let l = c.loop-y.invariant in
     record {
-      bytes = listing_all l c.loop-rest-test.false;
-      end = search rules;
+      bytes = listing_all l (no_more c.loop-y.y-iterator c.in-None.ensures.steps);
+      end = omega (arith, l.room);
     }
