@@ -2,12 +2,15 @@
 use mathlib.Core.Path.{◌≡◌, refl, sym, ap, ap₂, ◌∙◌}
 use mathlib.Core.Bool.{Bool, true, false, not, ◌&&◌}
 use mathlib.Core.List.{List, [], ◌∷◌}
-use Prim.Native.Nat.{ℕ, ◌+◌, ◌≤◌, ◌<◌}
+use Prim.Native.Nat.{ℕ, ◌+◌, ◌-◌, ◌≤◌, ◌<◌}
 use native.Mathlib.Omega.{arith}
 use borrow.Author.Tests.{leb-true, eq-eqb}
 use lib.Dec.{leb, eqb}
 use lib.ListN.{length, get_or, take, drop, length-map, length-drop, get_or-map}
 use lib.Seq.{ext_get_or, get_or-take, get_or-drop, length-take-le}
+use Rattle.std.specs.List.{slice_get}
+use Rattle.std.specs.Prelude.{None, Some, Err, ◌↔◌, IsTrue, EachIndex, slice_index}
+use Rattle.model.proofs.Cases.{number_high}
 use Rattle.model.specs.Choice.{every}
 use Rattle.model.specs.Sets.{all}
 use Rattle.model.specs.Leafset.{Table, size, key}
@@ -19,7 +22,7 @@ use Rattle.model.specs.Words.{ring_length, sides_of, sides_fit, head_word, key_w
 use Rattle.model.specs.Buffer.{Written, out_of_range, bad_key, opening_refusals, open_answer, open_buffer}
 use Rattle.model.specs.Structs.{table_of}
 use Rattle.model.specs.Bench.{script_table, script_answer}
-use Rattle.model.specs.declared.answer.Answer.{Answer}
+use Rattle.model.specs.declared.refusal.Refusal.{Refusal as Kind}
 use Rattle.model.specs.declared.values.Sides.{Sides}
 use Rattle.model.proofs.Laws.{clash, decide, and_right, same_test, all_in, all_out}
 use Rattle.model.proofs.Words.{length_encode}
@@ -30,17 +33,37 @@ use Rattle.answers.specs.Applied.{written}
 use Rattle.ring_head.proofs.Arrays.{Filled}
 use Rattle.bench_open.specs.Beginning.{head_fits, sizes_fit, key_fits, keys_fit, script_keys, open_script}
 
--- no words, no head
-pub no_head : (ws : List ℕ) → length ws ≡ 0 → head_fits ws ≡ false
+-- the first word, if there is one
+pub first_word : (ws : List ℕ) {w : ℕ} → Some w ≡ slice_get ws 0 → w ≡ get_or ws 0 0
+first_word [] e = absurd (cc)
+first_word (x ∷ ws) e = cc
+
+pub no_head : (ws : List ℕ) → None ≡ slice_get ws 0 → head_fits ws ≡ false
 unfolding head_fits head_word
-no_head [] h = refl
-no_head (w ∷ ws) h = absurd (omega arith)
+no_head [] e = refl
+no_head (w ∷ ws) e = absurd (cc)
 
 -- ---- the keys
 
+-- a word of those after the first
+pub word_at : (ws : List ℕ) (m s : ℕ) → s < m → get_or (take m (drop 1 ws)) s 0 ≡ get_or ws (1 + s) 0
+word_at ws m s h = get_or-take m (drop 1 ws) s 0 h ∙ get_or-drop 1 ws s 0
+
+pub words_long : (ws : List ℕ) (n : ℕ) → 1 + n ≤ length ws → length (take (n + 1 - 1) (drop 1 ws)) ≡ n
+words_long ws n h = length-take-le (n + 1 - 1) (drop 1 ws) (simp length-drop (omega arith)) ∙ omega arith
+
+pub keys_tested : (ws : List ℕ) (n m : ℕ) {b : Bool} → 1 + n ≤ length ws → m ≡ n
+    → IsTrue b ↔ EachIndex (take m (drop 1 ws)) (λ s. key_fits (slice_index (take m (drop 1 ws)) s) ≡ true) → b ≡ keys_fit ws n
+unfolding keys_fit
+keys_tested ws n m h e t =
+    let long : length (take m (drop 1 ws)) ≡ n = length-take-le m (drop 1 ws) (simp length-drop (omega arith)) ∙ e in
+    same_test _ _
+    (λ b. all_in n _ (λ s l. ap key_fits (sym (word_at ws m s (omega arith))) ∙ t.0 b s (omega arith)))
+    (λ a. t.1 (λ s l. ap key_fits (word_at ws m s (omega arith)) ∙ all_out n _ a s (omega arith)))
+
 -- the key of node s, where its word is not missing
 key_at_lem : (ws : List ℕ) (n s : ℕ) → s < n → get_or (script_keys ws n) s 0 ≡ bits 0 24 (get_or ws (1 + s) 0)
-key_at_lem ws n s h = get_or-map (bits 0 24) (take n (drop 1 ws)) s 0 ∙ ap (bits 0 24) (get_or-take n (drop 1 ws) s 0 h ∙ get_or-drop 1 ws s 0)
+key_at_lem ws n s h = get_or-map (bits 0 24) (take n (drop 1 ws)) s 0 ∙ ap (bits 0 24) (word_at ws n s h)
 
 pub keys_long : (ws : List ℕ) (n : ℕ) → 1 + n ≤ length ws → length (script_keys ws n) ≡ n
 keys_long ws n h = simp length-map (length-take-le n (drop 1 ws) (simp length-drop (omega arith)))
@@ -138,9 +161,9 @@ module _ (ws : List ℕ) {l : Sides} {m : ℕ} (le : l ≡ sides ws) (me : m ≡
 
 -- ---- the call
 
-pub script_refused : (old ws : List ℕ) (a : Answer) → script_answer ws ≡ number_of a → is_accepted (number_of a) ≡ false → written a old ≡ open_script old ws
+pub script_refused : (old ws : List ℕ) (a : Kind) → script_answer ws ≡ number_of a → written {A = Unit {0}} (Err a) old ≡ open_script old ws
 unfolding open_script
-script_refused old ws a e f = rw (e, f)
+script_refused old ws a e = rw (e, number_high a)
 
 -- what opening the ring itself says
 pub script_opened : (old ws : List ℕ) {q : Written} {t : Table} → length old ≡ ring_length → script_answer ws ≡ first_of (opening_refusals (script_table ws))

@@ -7,11 +7,12 @@ use borrow.Author.Tests.{eq-eqb, ne_eqb}
 use lib.ListN.{length}
 use Rattle.model.specs.Leafset.{size}
 use Rattle.model.specs.Ring.{Ring, initial}
-use Rattle.model.specs.Answers.{number_of, is_accepted}
+use Rattle.model.specs.Answers.{answer_number, is_accepted}
+use Rattle.model.specs.declared.refusal.Refusal.{Refusal}
 use Rattle.model.specs.Words.{encode, decode_table, decode, reads_as_ring}
 use Rattle.model.specs.Buffer.{Written}
 use Rattle.model.specs.Bench.{script_table, script_answer}
-use Rattle.model.specs.declared.answer.Answer.{Answer}
+use Rattle.std.specs.Prelude.{Result}
 use Rattle.model.proofs.Answers.{accepted_is}
 use Rattle.answers.specs.Applied.{written}
 use Rattle.bench_open.specs.Beginning.{open_script}
@@ -23,19 +24,20 @@ pub record Opened (ws script : List ℕ) : Type 0 where
   pub reads : reads_as_ring ws ≡ true
   pub ring : decode ws ≡ initial (script_table script)
 
+-- and where they have not
 pub record Refused (ws ws' script : List ℕ) : Type 0 where
   pub refused : is_accepted (script_answer script) ≡ false
   pub kept : ws' ≡ ws
 
-module _ (ws script : List ℕ) {ws' : List ℕ} {n : ℕ} (a : Answer) (e : written a ws' ≡ open_script ws script) (number : n ≡ number_of a) where
-  pub the_answer : number_of a ≡ script_answer script
+module _ (ws script : List ℕ) {ws' : List ℕ} {n : ℕ} {A : Type 0} (a : Result A Refusal) (e : written a ws' ≡ open_script ws script) (number : n ≡ answer_number a) where
+  pub the_answer : answer_number a ≡ script_answer script
   unfolding open_script
   the_answer = ap (λ (w : Written). w.answer) e
 
   pub opened_ring : n ≡ 0 → Opened ws' script
   unfolding open_script
   opened_ring z =
-      let yes' : is_accepted (script_answer script) ≡ true = ap is_accepted (sym the_answer) ∙ eq-eqb (number_of a) 0 (sym number ∙ z) in
+      let yes' : is_accepted (script_answer script) ≡ true = ap is_accepted (sym the_answer) ∙ eq-eqb (answer_number a) 0 (sym number ∙ z) in
       let ok : script_answer script ≡ 0 = accepted_is (script_answer script) yes' in
       let words : ws' ≡ encode (initial (script_table script)) = ap (λ (w : Written). w.words) e ∙ rw yes' in
       record {
@@ -48,7 +50,7 @@ module _ (ws script : List ℕ) {ws' : List ℕ} {n : ℕ} (a : Answer) (e : wri
   pub refused_ring : (n ≡ 0 → ⊥) → Refused ws ws' script
   unfolding open_script
   refused_ring d =
-      let no' : is_accepted (script_answer script) ≡ false = ap is_accepted (sym the_answer) ∙ ne_eqb (number_of a) 0 (λ z. d (number ∙ z)) in
+      let no' : is_accepted (script_answer script) ≡ false = ap is_accepted (sym the_answer) ∙ ne_eqb (answer_number a) 0 (λ z. d (number ∙ z)) in
       record { refused = no'; kept = ap (λ (w : Written). w.words) e ∙ rw no' }
 
 module _ {ws script : List ℕ} (o : Opened ws script) where
