@@ -53,7 +53,7 @@ fn view_of(low: u32, middle: u32, high: u32) -> u64
         + 0x1_0000_0000_0000 * u64::from(ViewWord(high).part() % 0x1_0000)
 }
 
-// How many of the m messages x has sent. k counts, since a message begins at every fifth word.
+// How many of the m messages x has sent. k counts, since `chunks_exact(5)` takes half as long again.
 pub fn sent_by(words: &[u32], m: usize, x: NodeNumber) -> usize
     requires words { (length words.now ≡ ring_length) × (m ≤ 1024) × (m ≡ length (decode words.now).messages) }
     ensures value { result ≡ sent_by x.0 (decode words.now).messages }

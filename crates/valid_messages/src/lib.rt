@@ -12,6 +12,7 @@ ghost use Rattle.model.specs.Words.{at, subject_fits};
 ghost use Rattle.valid_messages.specs.Messages.{messages_read};
 ghost use Rattle.valid_messages.specs.Parts.{first_reads, Halves};
 
+use model::message::MessageType;
 use rests::rests_read;
 use senders::senders_read;
 use word_ring::MessageWord;
@@ -21,13 +22,13 @@ const KIND: u16 = (MessageWord::KIND * 0x20) as u16;
 
 const NO_SUBJECT: u16 = 64;
 
-const PING_CONTACT: u16 = MessageWord::PING_CONTACT as u16;
+const PING_CONTACT: u16 = MessageType::PingContact as u16;
 
-const PONG_ASK_REPL: u16 = MessageWord::PONG_ASK_REPL as u16;
+const PONG_ASK_REPL: u16 = MessageType::PongAskRepl as u16;
 
-const PING_DELOOPY: u16 = MessageWord::PING_DELOOPY as u16;
+const PING_DELOOPY: u16 = MessageType::PingDeloopy as u16;
 
-const LEAVE: u16 = MessageWord::LEAVE as u16;
+const LEAVE: u16 = MessageType::Leave as u16;
 
 // "Of the four that use the subject, only type 8 may have 64 there"
 fn subject_fits(tag: u16, subject: u16, n: u16) -> bool
@@ -53,9 +54,9 @@ fn first_fits(low: u16, high: u16, n: u16) -> bool
         & ((PING_CONTACT <= tag) & (tag <= LEAVE))
         & (sender < n)
         & (receiver < n)
-        & !(sender == receiver)
+        & (sender != receiver)
         & subject_fits(tag, subject, n)
-        & (!(tag == PONG_ASK_REPL) | (!(subject == sender) & !(subject == receiver)))
+        & ((tag != PONG_ASK_REPL) | ((subject != sender) & (subject != receiver)))
 }
 
 // The upper half of a word.
@@ -87,7 +88,7 @@ fn halves_fit(lows: &[u16; 64], highs: &[u16; 64], n: u16, count: usize) -> bool
 {
     let mut ok = true;
     for k in 0..count {
-        ok = ok & first_fits(lows[k], highs[k], n);
+        ok &= first_fits(lows[k], highs[k], n);
     }
     ok
 }
@@ -104,24 +105,14 @@ fn block_reads(words: &[u32], base: usize, n: u32, from: usize, count: usize) ->
     halves_fit(&lows, &highs, n as u16, count)
 }
 
-// How many of the messages that are left go into a block.
-fn block_size(left: usize) -> usize
-    ensures bound { (result ≤ left) × (result ≤ 64) × (1 ≤ left → 1 ≤ result) }
-{
-    if left < 64 { left } else { 64 }
-}
-
 // The first words of m messages, block by block.
 fn firsts_read(words: &[u32], base: usize, n: u32, m: usize) -> bool
     requires words { (base + 5 * m ≤ length words.now) × (n ≤ 64) }
     ensures value { (t : Table) → size t ≡ n → result ≡ all m (first_reads words.now base t) }
 {
     let mut ok = true;
-    let mut from = 0;
-    while from < m {
-        let count = block_size(m - from);
-        ok = ok & block_reads(words, base, n, from, count);
-        from += count;
+    for from in (0..m).step_by(64) {
+        ok &= block_reads(words, base, n, from, (m - from).min(64));
     }
     ok
 }

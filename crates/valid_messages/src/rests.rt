@@ -8,14 +8,15 @@ ghost use Rattle.valid_messages.specs.Rests.{rest_reads};
 ghost use Rattle.valid_messages.specs.Masks.{part as part_of, above as bitsAbove, of_types_mask, OfReceivers};
 ghost use Rattle.valid_messages.specs.Masks.{beyond, wrong as wrongAt, nothing_wrong, Small};
 
-use word_ring::{MessageWord, StampWord, ViewWord};
+use model::message::MessageType;
+use word_ring::{StampWord, ViewWord};
 
 const NO_STAMP: u32 = StampWord::EMPTY;
 
 const NO_VIEW: u32 = ViewWord::EMPTY;
 
 // Four words a type: the places of the view of type 4, and of the stamps of types 9 and 10.
-const VIEW: usize = 4 * (MessageWord::PONG_ASK_INV as usize);
+const VIEW: usize = 4 * (MessageType::PongAskInv as usize);
 
 const LOW: usize = VIEW + 1;
 
@@ -23,22 +24,16 @@ const MIDDLE: usize = VIEW + 2;
 
 const HIGH: usize = VIEW + 3;
 
-const REQUEST: usize = 4 * (MessageWord::PING_REPLACE as usize);
+const REQUEST: usize = 4 * (MessageType::PingReplace as usize);
 
-const ACKNOWLEDGEMENT: usize = 4 * (MessageWord::PONG_REPLACE as usize);
+const ACKNOWLEDGEMENT: usize = 4 * (MessageType::PongReplace as usize);
 
 // How many of the 24 nodes from `from` on are below n.
 fn part(n: u32, from: u32) -> u32
     ensures value { result ≡ part_of n from }
     ensures bound { result ≤ 24 }
 {
-    if n <= from {
-        return 0;
-    }
-    if 24 <= n - from {
-        return 24;
-    }
-    n - from
+    n.saturating_sub(from).min(24)
 }
 
 // All bits but the lowest ones.
@@ -122,10 +117,10 @@ fn nothing_wrong(
     let mut middle = 0;
     let mut high = 0;
     for k in 0..m {
-        stamp = stamp | wrong(words, base, types, receivers, k, 0, NO_STAMP);
-        low = low | wrong(words, base, types, receivers, k, 1, NO_VIEW);
-        middle = middle | wrong(words, base, types, receivers, k, 2, NO_VIEW);
-        high = high | wrong(words, base, types, receivers, k, 3, NO_VIEW);
+        stamp |= wrong(words, base, types, receivers, k, 0, NO_STAMP);
+        low |= wrong(words, base, types, receivers, k, 1, NO_VIEW);
+        middle |= wrong(words, base, types, receivers, k, 2, NO_VIEW);
+        high |= wrong(words, base, types, receivers, k, 3, NO_VIEW);
     }
     (stamp == 0) & (low == 0) & (middle == 0) & (high == 0)
 }

@@ -9,20 +9,24 @@ use word_ring::{MessageWord, limit};
 // The most of one sender.
 const MOST: u32 = limit::SENDER as u32;
 
+// Among so many messages in all there are not too many of one sender.
+const UNCOUNTED: usize = limit::SENDER;
+
 // So many of a sender among all messages but the last `REST` are not too many of all.
 const FEW: u32 = 32;
 
 const REST: usize = limit::SENDER - FEW as usize;
 
-// Counts the messages from `from` to before `to`, by their senders, beside those before them.
+// Counts the messages from `from` to before `to`, by their senders, beside those before them. k counts, since
+// `chunks_exact(5)` takes half as long again.
 fn count(words: &[u32], base: usize, from: usize, to: usize, counts: &mut [u32])
     requires words { (base + 5 * to ≤ length words.now) × (from ≤ to) × (to ≤ 1024) }
     requires counts { Counts words.now base from counts.old }
     ensures counts { Counts words.now base to counts.new }
 {
     for k in from..to {
-        let x = MessageWord(words[base + 5 * k]).sender().0 as usize;
-        counts[x] = counts[x] + 1;
+        let x = MessageWord(words[base + 5 * k]).sender().index();
+        counts[x] += 1;
     }
 }
 
@@ -32,8 +36,8 @@ fn none_above(counts: &[u32], n: usize, most: u32) -> bool
     ensures value { result ≡ all n (λ x. leb (get_or counts.now x 0) most) }
 {
     let mut ok = true;
-    for x in 0..n {
-        ok = ok & (counts[x] <= most);
+    for count in &counts[..n] {
+        ok &= *count <= most;
     }
     ok
 }
@@ -44,7 +48,7 @@ pub fn senders_read(words: &[u32], base: usize, n: usize, m: usize) -> bool
     requires words { (base + 5 * m ≤ length words.now) × (n ≤ 64) × (m ≤ 1024) }
     ensures value { (t : Table) → size t ≡ n → result ≡ senders_read words.now base t m }
 {
-    if m <= limit::SENDER {
+    if m <= UNCOUNTED {
         return true;
     }
     let mut counts = [0; 64];

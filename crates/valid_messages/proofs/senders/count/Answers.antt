@@ -12,21 +12,21 @@ low : (x w : ℕ) → x ≡ bits 4 6 w → x < 64
 low x w e = rw e (bits< 4 6 w)
 
 pub bounds-counts-x : goal.bounds-counts-x
-bounds-counts-x c = rw c.loop-k.invariant.1.long (low _ _ c.sender-x.ensures.value)
+bounds-counts-x c = rw c.loop-k.invariant.1.long (low _ _ (c.index-x.ensures.value ∙ c.sender.ensures.value))
 
 pub overflow_add-counts : goal.overflow_add-counts
 overflow_add-counts c =
     let l = c.loop-k in
-    let high = count_high _ _ l.k l.counts l.invariant.1 _ (low _ _ c.sender-x.ensures.value) in
+    let high = count_high _ _ l.k l.counts l.invariant.1 _ (low _ _ (c.index-x.ensures.value ∙ c.sender.ensures.value)) in
     record { fits = omega (arith, high, l.invariant.0, c.requires.words.2) }
 
 pub bounds-counts-x-in-loop-k : goal.bounds-counts-x-in-loop-k
-bounds-counts-x-in-loop-k c = rw c.loop-k.invariant.1.long (low _ _ c.sender-x.ensures.value)
+bounds-counts-x-in-loop-k c = rw c.loop-k.invariant.1.long (low _ _ (c.index-x.ensures.value ∙ c.sender.ensures.value))
 
 pub loop-k-preserved : goal.loop-k-preserved
 loop-k-preserved c =
     let l = c.loop-k in
-    (search rules, one_counted _ _ l.k l.counts l.invariant.1 _ (low _ _ c.sender-x.ensures.value) c.sender-x.ensures.value)
+    (search rules, one_counted _ _ l.k l.counts l.invariant.1 _ (low _ _ (c.index-x.ensures.value ∙ c.sender.ensures.value)) (c.index-x.ensures.value ∙ c.sender.ensures.value))
 
 pub shape_of-counts : goal.shape_of-counts
 shape_of-counts c = c.loop-k.invariant.1.long ∙ sym c.requires.counts.long

@@ -1,26 +1,22 @@
-use mathlib.Core.Path.{◌≡◌, refl}
-use Prim.Native.Nat.{zero-le}
+use mathlib.Core.Path.{refl, ap}
+use Prim.Native.Nat.{ℕ, zero-le, ◌<◌}
 use native.Mathlib.Omega.{arith}
 use lib.Dec.{leb}
-use lib.ListN.{get_or}
-use borrow.Author.Rules.{rules}
+use lib.ListN.{get_or, length-take}
+use lib.Seq.{get_or-take}
 use Rattle.model.specs.Sets.{all}
 use Rattle.valid_nodes.proofs.Gather.{all_more}
 use Rattle.valid_messages.proofs.senders.none_above.Goals as goal
 
-pub loop-x-init : goal.loop-x-init
+pub loop-count-init : goal.loop-count-init
 unfolding all
-loop-x-init c = (zero-le, refl)
+loop-count-init c = (zero-le, refl)
 
-pub loop-x-preserved : goal.loop-x-preserved
-loop-x-preserved c =
-    let l = c.loop-x in
-    (search rules, all_more (λ y. leb (get_or c.args.counts.now y 0) c.args.most) l.x l.ok _ l.invariant.1 refl)
-
-pub returns : goal.returns
-returns c = record {
-  value =
-      let l = c.loop-x in
-      let done : l.x ≡ c.args.n = omega arith in
-      rw done at l.invariant.1;
-}
+pub loop-count-preserved : goal.loop-count-preserved
+loop-count-preserved c =
+    let l = c.loop-count in
+    let h : l.count-index < c.args.n = omega (arith, length-take {A = ℕ}) in (
+      omega arith,
+      all_more (λ y. leb (get_or c.args.counts.now y 0) c.args.most) l.count-index l.ok _ l.invariant.1
+          (ap (λ (k : ℕ). leb k c.args.most) (get_or-take c.args.n c.args.counts.now l.count-index 0 h)),
+    )

@@ -5,5 +5,5 @@ use lib.ListN.{get_or}
 use Rattle.model.specs.Sets.{all}
 use Rattle.valid_messages.proofs.senders.none_above.Given as goal
 
-abbrev pub invariant-loop-x : goal.invariant-loop-x
-invariant-loop-x l = (l.x ≤ l.n) × (l.ok ≡ all l.x (λ y. leb (get_or l.counts y 0) l.most))
+abbrev pub invariant-loop-count : goal.invariant-loop-count
+invariant-loop-count l = (l.count-index ≤ l.n) × (l.ok ≡ all l.count-index (λ y. leb (get_or l.counts y 0) l.most))

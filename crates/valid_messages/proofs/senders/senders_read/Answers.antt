@@ -5,8 +5,8 @@ use native.Mathlib.Omega.{arith}
 use Rattle.valid_messages.proofs.Counted.{no_counts, few_read, few_before, counts_read}
 use Rattle.valid_messages.proofs.senders.senders_read.Goals as goal
 
-pub returns-then-m-le-SENDER : goal.returns-then-m-le-SENDER
-returns-then-m-le-SENDER c = record { value = λ t e. let a = c.args in few_read a.words.now a.base t a.m c.if-m-le-SENDER.true }
+pub returns-then-m-le-UNCOUNTED : goal.returns-then-m-le-UNCOUNTED
+returns-then-m-le-UNCOUNTED c = record { value = λ t e. let a = c.args in few_read a.words.now a.base t a.m c.if-m-le-UNCOUNTED.true }
 
 pub count-requires : goal.count-requires
 count-requires c =
@@ -19,7 +19,7 @@ pub returns-then-none_above : goal.returns-then-none_above
 returns-then-none_above c = record {
   value = λ t e.
       few_before c.args.words.now c.args.base t (c.args.m - 224) c.args.m _
-      (omega (arith, c.requires.words.1, e)) (omega arith) (omega (arith, c.if-m-le-SENDER.false))
+      (omega (arith, c.requires.words.1, e)) (omega arith) (omega (arith, c.if-m-le-UNCOUNTED.false))
       c.count.ensures.counts
       (rw e (sym c.none_above.ensures.value ∙ c.if-none_above.true));
 }
