@@ -17,7 +17,7 @@ pub fn holds(words: &[u32], x: NodeNumber, z: NodeNumber) -> bool
     requires words { (length words.now ≡ ring_length) × (x.0 < 64) × (z.0 < 64) }
     ensures value { result ≡ held_at words.now x.0 z.0 }
 {
-    PairWord(words[place::PAIRS + 2 * (64 * (x.0 as usize) + (z.0 as usize))]).held()
+    PairWord(words[place::PAIRS + 2 * (64 * x.index() + z.index())]).held()
 }
 
 // The members of the set that x holds or that hold x.
@@ -29,19 +29,15 @@ fn neighbours(words: &[u32], x: NodeNumber, set: u64) -> u64
         ≡ (of_bits set z && (held_at words.now x.0 z || held_at words.now z x.0)) }
 {
     let mut out = 0;
-    let mut rest = set;
-    while rest != 0 {
-        let z = sets::lowest(rest);
-        let more = sets::with(out, z);
+    for z in sets::members(set) {
         if holds(words, x, z) | holds(words, z, x) {
-            out = more;
+            out = sets::with(out, z);
         }
-        rest = sets::rest(rest);
     }
     out
 }
 
-// The members of the set that are not connected to its member a.
+// The members of the set that are not connected to its member a. `todo` grows on the way.
 fn apart(words: &[u32], set: u64, a: NodeNumber) -> u64
     requires words { (length words.now ≡ ring_length) × Closed (decode words.now) (of_bits set)
         × (of_bits set a.0 ≡ true) }
