@@ -25,3 +25,12 @@ pub struct Entry {
     pub number: u64,
     pub word: u32,
 }
+
+// What is kept between two events of a ring: the account, the first of the events that its verdict would list, and the
+// group of each node by its number.
+#[derive(Clone, Copy, Debug, PartialEq, Eq)]
+pub struct Log {
+    pub account: Account,
+    pub listed: [Entry; 16],
+    pub groups: [u64; 64],
+}

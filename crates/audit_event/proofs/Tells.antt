@@ -10,14 +10,14 @@ use Rattle.bench_lines.specs.Put.{Put}
 use Rattle.bench_lines.proofs.Puts.{put_none, put_as}
 use Rattle.text_form.specs.Ascii.{ascii}
 use Rattle.text_form.specs.Describe.{word_text}
-use Rattle.std.specs.Prelude.{if◌then◌else◌}
+use Rattle.std.specs.Prelude.{Result, if◌then◌else◌}
 use Rattle.model.specs.Leafset.{size}
 use Rattle.model.specs.Ring.{Ring, is_running}
 use Rattle.model.specs.Words.{decode_table, decode}
-use Rattle.model.specs.Answers.{number_of, is_accepted}
+use Rattle.model.specs.Answers.{answer_number, is_accepted}
 use Rattle.model.specs.Events.{event_of}
 use Rattle.model.specs.Play.{play_answer, play_word}
-use Rattle.model.specs.declared.answer.Answer.{Answer}
+use Rattle.model.specs.declared.refusal.Refusal.{Refusal}
 use Rattle.model.proofs.Cases.{after_table}
 use Rattle.model.proofs.Laws.{decide, if_law, not_in, not_out}
 use Rattle.audit_account.specs.Points.{is_point}
@@ -25,7 +25,8 @@ use Rattle.audit_account.specs.Partings.{parts, sides_text}
 use Rattle.audit_account.specs.Accounts.{most, Standing, noted, counted, begun, entered, after_parting, played}
 use Rattle.audit_account.specs.Accounts.{parted_text, verdict_text, event_text, word_lines}
 use Rattle.audit_account.specs.declared.Account.{Account}
-use Rattle.audit_lines.specs.Seen.{entries_of}
+use Rattle.audit_account.specs.declared.Log.{Log}
+use lib.ListN.{length, take}
 use Rattle.audit_parting.specs.Groups.{AreGroups}
 use Rattle.audit_parting.specs.Groups as groups
 use Rattle.ring_connection.proofs.Linked.{running_low}
@@ -99,48 +100,51 @@ module _ (s : Standing) (w : ℕ) where
   uncovered_same =
       decide (parts r r') (λ e. ap (λ (b : Account). b.uncovered) (are_parted e).1) (λ e. ap (λ (b : Account). b.uncovered) (not_parted e).1)
 
-  module _ {ws counts words : List ℕ} (point : Bool) (told settled : Account) (is_point_lem : point ≡ is_point (decode ws)) (told_is : told ≡ after_parting s w)
-      (settled_is : settled ≡ (if point then begun told else told)) (few : Few settled) where
-    module _ {answer : _} {account : Account} (k : Noted s w ws counts words answer account) where
+  module _ {ws : List ℕ} (point : Bool) (told : Account) (log : Log) (is_point_lem : point ≡ is_point (decode ws)) (told_is : told ≡ after_parting s w)
+      (settled_is : log.account ≡ (if point then begun told else told)) (few : Few log.account) where
+    module _ {answer : _} {before : Log} (k : Noted s w ws before answer) (kept_listed : log.listed ≡ before.listed) where
       point_is : point ≡ is_point r'
       point_is = is_point_lem ∙ ap is_point k.ring
 
-      at_point_lem : is_point r' ≡ true → Kept (played s w) ws counts words settled
-      unfolding entries_of begun
+      listed_long : length log.listed ≡ most
+      listed_long = ap length kept_listed ∙ k.lists.long
+
+      at_point_lem : is_point r' ≡ true → Kept (played s w) ws log
+      unfolding begun
       at_point_lem e =
-          let b : settled ≡ begun (after_parting s w) = settled_is ∙ rw (point_is ∙ e) (ap begun told_is) in
-          subst (λ (q : Standing). Kept q ws counts words settled) (sym (settled_point e))
+          let b : log.account ≡ begun (after_parting s w) = settled_is ∙ rw (point_is ∙ e) (ap begun told_is) in
+          subst (λ (q : Standing). Kept q ws log) (sym (settled_point e))
           record {
             reads = k.reads;
             ring = k.ring;
             account = b;
             few = few;
             lists = record {
-              counts_long = k.lists.counts_long;
-              words_long = k.lists.words_long;
-              entries = ap (λ (q : Account). entries_of counts words (min q.uncovered most)) (sym b);
+              long = listed_long;
+              entries = ap (λ (q : Account). take (min q.uncovered most) log.listed) (sym b);
             };
           }
 
-      goes_on_lem : is_point r' ≡ false → Kept (played s w) ws counts words settled
+      goes_on_lem : is_point r' ≡ false → Kept (played s w) ws log
       goes_on_lem e =
-          let b : settled ≡ after_parting s w = settled_is ∙ rw (point_is ∙ e) told_is in
-          let u : account.uncovered ≡ settled.uncovered =
+          let b : log.account ≡ after_parting s w = settled_is ∙ rw (point_is ∙ e) told_is in
+          let u : before.account.uncovered ≡ log.account.uncovered =
           ap (λ (q : Account). q.uncovered) k.account ∙ sym uncovered_same ∙ ap (λ (q : Account). q.uncovered) (sym b) in
-          subst (λ (q : Standing). Kept q ws counts words settled) (sym (settled_on e))
+          subst (λ (q : Standing). Kept q ws log) (sym (settled_on e))
           record {
             reads = k.reads;
             ring = k.ring;
             account = b;
             few = few;
             lists = record {
-              counts_long = k.lists.counts_long;
-              words_long = k.lists.words_long;
-              entries = k.lists.entries ∙ ap (λ (j : ℕ). entries_of counts words (min j most)) u;
+              long = listed_long;
+              entries =
+                  k.lists.entries ∙ ap (λ (j : ℕ). take (min j most) before.listed) u
+                  ∙ ap (take (min log.account.uncovered most)) (sym kept_listed);
             };
           }
 
-      pub kept_after : Kept (played s w) ws counts words settled
+      pub kept_after : Kept (played s w) ws log
       kept_after = decide (is_point r') at_point_lem goes_on_lem
 
   -- ---- an event that is played and noted, told
@@ -149,7 +153,7 @@ module _ (s : Standing) (w : ℕ) where
   unfolding play_word
   table_kept = if_law (λ (q : Ring). q.table ≡ r.table) (is_accepted (play_answer r w)) _ _ (λ e. after_table r (event_of w)) (λ e. refl)
 
-  module _ {ws counts words : List ℕ} {answer : Answer} {account : Account} (k : Noted s w ws counts words answer account) where
+  module _ {ws : List ℕ} {answer : Result (Unit {0}) Refusal} {log : Log} (k : Noted s w ws log answer) where
     low_after : (x : ℕ) → is_running r' x ≡ true → x < size r'.table
     low_after = subst (λ (q : Ring). (x : ℕ) → is_running q x ≡ true → x < size q.table) k.ring (low_in_words ws)
 
@@ -172,6 +176,6 @@ module _ (s : Standing) (w : ℕ) where
     unfolding decode
     nodes_are e = e ∙ ap (λ (q : Ring). size q.table) k.ring ∙ ap size table_kept
 
-    pub lines_are : event_text account.count (word_text w) (number_of answer) (decode ws) ++ parting_text s w ≡ word_lines s w
+    pub lines_are : event_text log.account.count (word_text w) (answer_number answer) (decode ws) ++ parting_text s w ≡ word_lines s w
     unfolding word_lines parting_text noted
     lines_are = rw (k.account, k.answered, k.ring)

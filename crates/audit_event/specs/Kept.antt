@@ -1,19 +1,20 @@
--- An account in lent words: what is kept between two events.
-use Rattle.std.specs.Prelude.{◌≡◌, Bool, true, List, [], ◌∷◌, ◌++◌, ℕ, ◌+◌, ◌≤◌, ◌<◌, min, length, if◌then◌else◌}
+-- A log: what is kept between two events.
+use Rattle.std.specs.Prelude.{◌≡◌, Bool, true, List, [], ◌∷◌, ◌++◌, ℕ, ◌+◌, ◌≤◌, ◌<◌, min, length, take, Result, if◌then◌else◌}
 use Rattle.model.specs.Sets.{of_bits}
 use Rattle.model.specs.Leafset.{size}
 use Rattle.model.specs.Ring.{is_running}
-use Rattle.model.specs.Answers.{number_of}
+use Rattle.model.specs.Answers.{answer_number}
 use Rattle.model.specs.Words.{decode, reads_as_ring}
 use Rattle.model.specs.Play.{play_word}
-use Rattle.model.specs.declared.answer.Answer.{Answer}
+use Rattle.model.specs.declared.refusal.Refusal.{Refusal}
 use Rattle.bench_lines.specs.Put.{Put}
 use Rattle.audit_account.specs.Partings.{torn, parts}
-use Rattle.audit_account.specs.Accounts.{Entry, Standing, most, noted, entered, played, parted_text, verdict_text, word_lines}
+use Rattle.audit_account.specs.Accounts.{Standing, most, noted, entered, played, parted_text, verdict_text, word_lines}
 use Rattle.audit_parting.specs.Groups.{AreGroups}
 use Rattle.audit_parting.specs.Groups as groups
 use Rattle.audit_account.specs.declared.Account.{Account}
-use Rattle.audit_lines.specs.Seen.{entries_of}
+use Rattle.audit_account.specs.declared.Entry.{Entry}
+use Rattle.audit_account.specs.declared.Log.{Log}
 
 -- no number is above the count of events
 pub record Few (a : Account) : Type 0 where
@@ -33,34 +34,37 @@ pub record Fresh (a : Account) : Type 0 where
   pub offs : a.offs < a.count
   pub notices : a.notices < a.count
 
--- the counts and the words of the listed events, with room for `most`
-pub record Lists (a : Account) (counts words : List ℕ) (es : List Entry) : Type 0 where
-  pub counts_long : length counts ≡ most
-  pub words_long : length words ≡ most
-  pub entries : es ≡ entries_of counts words (min a.uncovered most)
+-- the lists of a log have room for `most` events and for every node
+pub record Long (log : Log) : Type 0 where
+  pub listed : length log.listed ≡ most
+  pub groups : length log.groups ≡ 64
+
+-- the listed events, with room for `most`
+pub record Lists (a : Account) (listed : List Entry) (es : List Entry) : Type 0 where
+  pub long : length listed ≡ most
+  pub entries : es ≡ take (min a.uncovered most) listed
 
 -- what is kept is that of the standing s
-pub record Kept (s : Standing) (ws counts words : List ℕ) (a : Account) : Type 0 where
+pub record Kept (s : Standing) (ws : List ℕ) (log : Log) : Type 0 where
   pub reads : reads_as_ring ws ≡ true
   pub ring : decode ws ≡ s.ring
-  pub account : a ≡ s.account
-  pub few : Few a
-  pub lists : Lists a counts words s.listed
+  pub account : log.account ≡ s.account
+  pub few : Few log.account
+  pub lists : Lists log.account log.listed s.listed
 
 -- the word w is played and noted, before anything is printed
-pub record Noted (s : Standing) (w : ℕ) (ws counts words : List ℕ) (answer : Answer) (a : Account) : Type 0 where
+pub record Noted (s : Standing) (w : ℕ) (ws : List ℕ) (log : Log) (answer : Result (Unit {0}) Refusal) : Type 0 where
   pub reads : reads_as_ring ws ≡ true
   pub ring : decode ws ≡ (play_word s.ring w).ring
-  pub answered : number_of answer ≡ (play_word s.ring w).answer
-  pub account : a ≡ noted s.account s.ring w
-  pub lists : Lists a counts words (entered s w)
+  pub answered : answer_number answer ≡ (play_word s.ring w).answer
+  pub account : log.account ≡ noted s.account s.ring w
+  pub lists : Lists log.account log.listed (entered s w)
 
 -- an event is listed where there is one, and where there is room
-pub record Listed (u : Bool) (k number word : ℕ) (counts words counts' words' : List ℕ) : Type 0 where
-  pub counts_long : length counts' ≡ most
-  pub words_long : length words' ≡ most
-  pub kept : (k' : ℕ) → k' ≤ k → entries_of counts' words' k' ≡ entries_of counts words k'
-  pub added : u ≡ true → k < most → entries_of counts' words' (k + 1) ≡ entries_of counts words k ++ record { number = number; word = word } ∷ []
+pub record Listed (u : Bool) (k : ℕ) (entry : Entry) (listed listed' : List Entry) : Type 0 where
+  pub long : length listed' ≡ most
+  pub kept : (k' : ℕ) → k' ≤ k → take k' listed' ≡ take k' listed
+  pub added : u ≡ true → k < most → take (k + 1) listed' ≡ take k listed ++ entry ∷ []
 
 -- the groups before and after the word w, the nodes that it parts, and how many nodes there are
 pub record Around (s : Standing) (w : ℕ) (old new : List ℕ) (t n : ℕ) : Type 0 where
@@ -83,7 +87,7 @@ parting_text s w =
     else []
 
 -- the word w is played on what is kept of s, and its lines are put
-pub record Audits (s : Standing) (w : ℕ) (ws counts words groups out out' : List ℕ) (at end : ℕ) (a : Account) : Type 0 where
-  pub kept : Kept (played s w) ws counts words a
-  pub grouped : Grouped (played s w) groups
+pub record Audits (s : Standing) (w : ℕ) (ws : List ℕ) (log : Log) (out out' : List ℕ) (at end : ℕ) : Type 0 where
+  pub kept : Kept (played s w) ws log
+  pub grouped : Grouped (played s w) log.groups
   pub put : Put out out' at end (word_lines s w)

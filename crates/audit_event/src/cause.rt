@@ -13,43 +13,19 @@ use word_event::word::EventWord;
 pub fn is_on(e: Event) -> bool
     ensures value { result ≡ is_on e }
 {
-    match e {
-        Event::On(_) => true,
-        Event::Off(_, _) => false,
-        Event::Notice(_, _) => false,
-        Event::Contact(_, _) => false,
-        Event::Timer(_, _) => false,
-        Event::Deliver(_, _) => false,
-        Event::Lose(_) => false,
-    }
+    matches!(e, Event::On(_))
 }
 
 pub fn is_off(e: Event) -> bool
     ensures value { result ≡ is_off e }
 {
-    match e {
-        Event::On(_) => false,
-        Event::Off(_, _) => true,
-        Event::Notice(_, _) => false,
-        Event::Contact(_, _) => false,
-        Event::Timer(_, _) => false,
-        Event::Deliver(_, _) => false,
-        Event::Lose(_) => false,
-    }
+    matches!(e, Event::Off(_, _))
 }
 
 pub fn is_notice(e: Event) -> bool
     ensures value { result ≡ is_notice e }
 {
-    match e {
-        Event::On(_) => false,
-        Event::Off(_, _) => false,
-        Event::Notice(_, _) => true,
-        Event::Contact(_, _) => false,
-        Event::Timer(_, _) => false,
-        Event::Deliver(_, _) => false,
-        Event::Lose(_) => false,
-    }
+    matches!(e, Event::Notice(_, _))
 }
 
 // An on, an off, or a notice that names a running node; `running` are the nodes that run before the event.
@@ -57,15 +33,10 @@ pub fn is_harmful(word: u32, running: u64) -> bool
     ensures value { (ρ : Ring) → ((x : ℕ) → of_bits running x ≡ is_running ρ x)
         → result ≡ not (is_harmless ρ (event_of word)) }
 {
-    let e = EventWord(word).event();
-    match e {
-        Event::On(_) => true,
-        Event::Off(_, _) => true,
+    match EventWord(word).event() {
+        Event::On(_) | Event::Off(_, _) => true,
         Event::Notice(_, z) => is_member(z, running),
-        Event::Contact(_, _) => false,
-        Event::Timer(_, _) => false,
-        Event::Deliver(_, _) => false,
-        Event::Lose(_) => false,
+        Event::Contact(_, _) | Event::Timer(_, _) | Event::Deliver(_, _) | Event::Lose(_) => false,
     }
 }
 
@@ -73,8 +44,5 @@ pub fn is_harmful(word: u32, running: u64) -> bool
 fn is_member(z: NodeNumber, set: u64) -> bool
     ensures value { result ≡ of_bits set z.0 }
 {
-    if z.0 >= 64 {
-        return false;
-    }
-    sets::has(set, z)
+    z.0 < 64 && sets::has(set, z)
 }

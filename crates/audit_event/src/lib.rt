@@ -1,4 +1,4 @@
-// An event of a script: played, noted in the account, and put as lines.
+// An event of a script: played, noted in the log, and put as lines.
 #![tactic(auto)]
 
 pub mod cause;
@@ -9,79 +9,57 @@ pub mod tell;
 ghost use Rattle.std.specs.Prelude.{◌≡◌, true, ◌+◌, ◌<◌, ◌≤◌, ◌^◌, length};
 ghost use Rattle.model.specs.Words.{reads_as_ring};
 ghost use Rattle.audit_account.specs.Accounts.{Standing};
-ghost use Rattle.audit_event.specs.Kept.{Few, Fresh, Kept, Noted, Grouped, Audits};
+ghost use Rattle.audit_event.specs.Kept.{Few, Fresh, Long, Kept, Noted, Grouped, Audits};
 
-use audit_account::Account;
-use model::answer::Answer;
+use audit_account::Log;
+use model::refusal::Refusal;
 
-// The account after an event, the groups after it, and where its lines end.
-#[derive(Clone, Copy)]
-pub struct Audited {
-    pub account: Account,
-    pub groups: [u64; 64],
-    pub end: usize,
-}
-
-// Plays the word on the ring and notes it, and puts its lines from `at` on. `groups` are those before it.
-pub fn audit_word(
-    words: &mut [u32],
-    word: u32,
-    account: Account,
-    groups: [u64; 64],
-    counts: &mut [u64],
-    listed: &mut [u32],
-    out: &mut [u8],
-    at: usize,
-) -> Audited
+// Plays the word on the ring and notes it in its log, and puts its lines from `at` on.
+pub fn audit_word(words: &mut [u32], word: u32, log: &mut Log, out: &mut [u8], at: usize) -> usize
     requires ring { reads_as_ring words.old ≡ true }
-    requires account { Few account × (account.count + 1 < 2 ^ 64) }
-    requires lists { (length counts.old ≡ 16) × (length listed.old ≡ 16) × (length groups ≡ 64) }
+    requires account { Few log.old.account × (log.old.account.count + 1 < 2 ^ 64) }
+    requires lists { Long log.old }
     requires room { at + 2914 ≤ length out.old }
-    ensures audits { (s : Standing)
-        → Kept s words.old counts.old listed.old account → Grouped s groups
-        → Audits s word words.new counts.new listed.new result.groups out.old
-        out.new at result.end result.account }
-    ensures end { (result.end ≤ at + 2914) × (length result.groups ≡ 64) }
+    ensures audits { (s : Standing) → Kept s words.old log.old → Grouped s log.old.groups
+        → Audits s word words.new log.new out.old out.new at result }
+    ensures end { (result ≤ at + 2914) × Long log.new }
 {
-    let playing = played::play(words, word, account, counts, listed);
-    let answer = playing.answer;
-    let noted = playing.account;
-    report(words, word, answer, noted, groups, counts, listed, out, at)
+    let answer = played::play(words, word, log);
+    report(words, word, answer, log, out, at)
 }
 
-// Puts the lines of an event that is played and noted. `old` are the groups before it.
+// Puts the lines of an event that is played and noted; the log has the groups before it still.
 fn report(
     words: &[u32],
     word: u32,
-    answer: Answer,
-    account: Account,
-    old: [u64; 64],
-    counts: &[u64],
-    listed: &[u32],
+    answer: Result<(), Refusal>,
+    log: &mut Log,
     out: &mut [u8],
     at: usize,
-) -> Audited
-    requires ring { (reads_as_ring words.now ≡ true) × Fresh account }
-    requires lists { (length counts.now ≡ 16) × (length listed.now ≡ 16) × (length old ≡ 64) }
+) -> usize
+    requires ring { (reads_as_ring words.now ≡ true) × Fresh log.old.account }
+    requires lists { Long log.old }
     requires room { at + 2914 ≤ length out.old }
-    ensures audits { (s : Standing)
-        → Noted s word words.now counts.now listed.now answer account → Grouped s old
-        → Audits s word words.now counts.now listed.now result.groups out.old
-        out.new at result.end result.account }
-    ensures end { (result.end ≤ at + 2914) × (length result.groups ≡ 64) }
+    ensures audits { (s : Standing) → Noted s word words.now log.old answer → Grouped s log.old.groups
+        → Audits s word words.now log.new out.old out.new at result }
+    ensures end { (result ≤ at + 2914) × Long log.new }
 {
-    let mut new = [0u64; 64];
-    let view = played::look(words, &mut new);
-    let sight = view.sight;
-    let first = audit_lines::put_event(out, at, account.count, word, answer, sight);
-    let torn = audit_parting::torn(&old, &new, view.running);
+    let mut groups = [0u64; 64];
+    let view = played::look(words, &mut groups);
+    let account = log.account;
+    let first = audit_lines::put_event(out, at, account.count, word, answer, view.sight);
+    let torn = audit_parting::torn(&log.groups, &groups, view.running);
     let told = tell::tell(
-        torn, &old, &new, view.nodes, account, counts, listed, out, first,
+        torn,
+        &log.groups,
+        &groups,
+        view.nodes,
+        account,
+        &log.listed,
+        out,
+        first,
     );
-    let noted = told.account;
-    Audited {
-        account: note::settled(noted, view.point),
-        groups: new,
-        end: told.end,
-    }
+    log.account = note::settled(told.account, view.point);
+    log.groups = groups;
+    told.end
 }

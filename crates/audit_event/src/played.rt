@@ -8,55 +8,37 @@ ghost use Rattle.audit_account.specs.Points.{is_point};
 ghost use Rattle.audit_account.specs.Accounts.{Standing};
 ghost use Rattle.audit_lines.specs.Seen.{Sees};
 ghost use Rattle.audit_parting.specs.Groups.{AreGroups};
-ghost use Rattle.audit_event.specs.Kept.{Few, Fresh, Kept, Noted};
+ghost use Rattle.audit_event.specs.Kept.{Few, Fresh, Long, Kept, Noted};
 
 use super::{cause, note};
-use audit_account::Account;
+use audit_account::{Entry, Log};
 use audit_lines::Sight;
-use model::answer::Answer;
+use model::refusal::Refusal;
 use word_event::word::EventWord;
 
-#[derive(Clone, Copy)]
-pub struct Playing {
-    pub answer: Answer,
-    pub account: Account,
-}
-
-// Plays the word, and notes and lists it.
-pub fn play(
-    words: &mut [u32],
-    word: u32,
-    account: Account,
-    counts: &mut [u64],
-    listed: &mut [u32],
-) -> Playing
+// Plays the word, and notes and lists it in the log.
+pub fn play(words: &mut [u32], word: u32, log: &mut Log) -> Result<(), Refusal>
     requires ring { reads_as_ring words.old ≡ true }
-    requires account { Few account × (account.count + 1 < 2 ^ 64) }
-    requires lists { (length counts.old ≡ 16) × (length listed.old ≡ 16) }
-    ensures noted { (s : Standing)
-        → Kept s words.old counts.old listed.old account
-        → Noted s word words.new counts.new listed.new result.answer result.account }
-    ensures bounds { Fresh result.account }
+    requires account { Few log.old.account × (log.old.account.count + 1 < 2 ^ 64) }
+    requires lists { Long log.old }
+    ensures noted { (s : Standing) → Kept s words.old log.old
+        → Noted s word words.new log.new result }
+    ensures bounds { Fresh log.new.account }
     ensures ring { reads_as_ring words.new ≡ true }
-    ensures lists { (length counts.new ≡ 16) × (length listed.new ≡ 16) }
+    ensures lists { Long log.new × (log.new.groups ≡ log.old.groups) }
 {
     let running = ring_nodes::running(words, ring_head::nodes(words));
     let harmful = cause::is_harmful(word, running);
     let answer = event_play::play_word(words, word);
-    let uncovered = !answers::is_refusal(answer) & harmful;
-    note::list(
-        counts,
-        listed,
-        uncovered,
-        account.uncovered,
-        account.count + 1,
+    let uncovered = answer.is_ok() & harmful;
+    let account = log.account;
+    let entry = Entry {
+        number: account.count + 1,
         word,
-    );
-    let event = EventWord(word).event();
-    Playing {
-        answer,
-        account: note::noted(account, event, uncovered),
-    }
+    };
+    note::list(&mut log.listed, uncovered, account.uncovered, entry);
+    log.account = note::noted(account, EventWord(word).event(), uncovered);
+    answer
 }
 
 // What is seen of a ring: its numbers, how many nodes it has, which of them run, and whether the promise may begin.
@@ -83,8 +65,8 @@ pub fn look(words: &[u32], groups: &mut [u64]) -> View
     View {
         sight: Sight {
             messages: ring_head::messages(words) as u64,
-            acknowledgements: flight.acknowledgements as u64,
-            groups: audit_parting::find(words, n, groups) as u64,
+            acknowledgements: u64::from(flight.acknowledgements),
+            groups: u64::from(audit_parting::find(words, n, groups)),
         },
         nodes: n,
         running,

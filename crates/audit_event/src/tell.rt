@@ -10,7 +10,7 @@ ghost use Rattle.audit_parting.specs.Groups as groups;
 ghost use Rattle.audit_event.specs.Kept.{Few, Fresh, Lists, Around, parting_text};
 
 use super::note;
-use audit_account::Account;
+use audit_account::{Account, Entry};
 
 const COLON: u8 = 58;
 
@@ -54,17 +54,16 @@ pub fn tell(
     new: &[u64],
     n: usize,
     account: Account,
-    counts: &[u64],
-    listed: &[u32],
+    listed: &[Entry],
     out: &mut [u8],
     at: usize,
 ) -> Told
     requires groups { (length old.now ≡ 64) × (length new.now ≡ 64) × (n ≤ 64) }
-    requires lists { (length counts.now ≡ 16) × (length listed.now ≡ 16) × Fresh account }
+    requires lists { (length listed.now ≡ 16) × Fresh account }
     requires room { at + 2690 ≤ length out.old }
     ensures told { (s : Standing) (w : ℕ) → Around s w old.now new.now torn n
         → account ≡ noted s.account s.ring w
-        → Lists account counts.now listed.now (entered s w)
+        → Lists account listed.now (entered s w)
         → Put out.old out.new at result.end (parting_text s w) × (result.account ≡ after_parting s w) }
     ensures bounds { Few result.account × (result.end ≤ at + 2690) }
 {
@@ -72,7 +71,7 @@ pub fn tell(
         return Told { account, end: at };
     }
     let first = put_parted(torn, old, new, n, account.count, out, at);
-    let end = audit_lines::put_verdict(out, first, account, counts, listed);
+    let end = audit_lines::put_verdict(out, first, account, listed);
     Told {
         account: note::counted(account),
         end,

@@ -1,4 +1,4 @@
-use mathlib.Core.Path.{ap, ◌∙◌}
+use mathlib.Core.Path.{refl, ap, ◌∙◌}
 use native.Mathlib.Omega.{arith}
 use Rattle.bench_lines.proofs.Puts.{put_as, put_more}
 use Rattle.model.specs.Ring.{Ring, is_running}
@@ -8,8 +8,8 @@ use Rattle.audit_event.proofs.report.Goals as goal
 pub tell-told-requires : goal.tell-told-requires
 tell-told-requires c =
     record {
-      groups = (c.requires.lists.2, c.look-view.ensures.groups.long, c.look-view.ensures.nodes.1);
-      lists = (c.requires.lists.0, c.requires.lists.1, c.requires.ring.1);
+      groups = (c.requires.lists.groups, c.look-view.ensures.groups.long, c.look-view.ensures.nodes.1);
+      lists = (c.requires.lists.listed, c.requires.ring.1);
       room = omega (arith, c.requires.room, c.put_event-first.ensures.end, (c.put_event-first.ensures.bytes _ c.look-view.ensures.sight).long);
     }
 
@@ -25,9 +25,12 @@ returns c =
             nodes = nodes_are s _ k c.look-view.ensures.nodes.0;
           } k.account k.lists in
           record {
-            kept = kept_after s _ _ _ _ c.look-view.ensures.point parted.1 c.settled.ensures.value c.settled.ensures.bounds k;
+            kept = kept_after s _ _ _ _ c.look-view.ensures.point parted.1 c.settled-log.ensures.value c.settled-log.ensures.bounds k refl;
             grouped = grouped_after s _ k g c.look-view.ensures.groups;
             put = put_as (put_more (c.put_event-first.ensures.bytes _ c.look-view.ensures.sight) parted.0) (lines_are s _ k);
           };
-      end = (omega (arith, c.tell-told.ensures.bounds.1, c.put_event-first.ensures.end), c.look-view.ensures.groups.long);
+      end = (
+        omega (arith, c.tell-told.ensures.bounds.1, c.put_event-first.ensures.end),
+        record { listed = c.requires.lists.listed; groups = c.look-view.ensures.groups.long },
+      );
     }

@@ -19,12 +19,10 @@ find-requires c =
       room = c.requires.ring.1;
     }
 
-pub returns : goal.returns
-returns c =
-    let nodes = counted_nodes _ c.requires.ring.0 c.nodes-n.ensures.value in record {
-      groups = c.find.ensures.groups;
-      sight = record { messages = c.messages.ensures.value; acknowledgements = c.look-flight.ensures.acknowledgements; groups = c.find.ensures.count };
-      running = c.running-running.ensures.members;
-      nodes = (nodes.1, nodes.2);
-      point = point_is _ c.look-flight.ensures.acknowledgements c.look-flight.ensures.leaves;
-    }
+pub returns-clause-nodes : goal.returns-clause-nodes
+returns-clause-nodes c =
+    let nodes = counted_nodes _ c.requires.ring.0 c.nodes-n.ensures.value in
+    (nodes.1, nodes.2)
+
+pub returns-clause-point : goal.returns-clause-point
+returns-clause-point c = point_is _ c.look-flight.ensures.acknowledgements c.look-flight.ensures.leaves

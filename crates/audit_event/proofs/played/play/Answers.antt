@@ -16,9 +16,9 @@ returns c =
     let harm = c.is_harmful-harmful.ensures.value (decode c.args.words.now) c.running-running.ensures.members in
     record {
       noted = λ s k.
-          noted_from s _ k c.play_word-answer.result c.play_word-answer.ensures.written _ refl c.is_refusal.ensures.value harm c.list.ensures.listed
-          (λ ρ v u e. c.noted.ensures.value ρ v u (c.event-event.ensures.value ∙ e));
-      bounds = c.noted.ensures.bounds;
+          noted_from s _ k c.play_word-answer.result c.play_word-answer.ensures.written _ refl c.is_ok.ensures.value harm c.list.ensures.listed
+          (λ ρ v u e. c.noted-log.ensures.value ρ v u (c.event.ensures.value ∙ e));
+      bounds = c.noted-log.ensures.bounds;
       ring = still _ c.requires.ring _ c.play_word-answer.result c.play_word-answer.ensures.written;
-      lists = (c.list.ensures.listed.counts_long, c.list.ensures.listed.words_long);
+      lists = (record { listed = c.list.ensures.listed.long; groups = c.requires.lists.groups }, refl);
     }

@@ -1,6 +1,7 @@
+use mathlib.Core.Path.{sym, ap}
 use native.Mathlib.Omega.{arith}
-use Rattle.bench_lines.proofs.Puts.{put_more}
-use Rattle.audit_account.specs.Accounts.{entered}
+use Rattle.bench_lines.proofs.Puts.{put_as, put_more}
+use Rattle.audit_account.specs.Accounts.{verdict_text}
 use Rattle.audit_event.proofs.Notes.{fresh_few}
 use Rattle.audit_event.proofs.Tells.{none_told, some_told}
 use Rattle.audit_event.proofs.tell.tell.Goals as goal
@@ -9,7 +10,7 @@ pub returns-then-torn-eq0 : goal.returns-then-torn-eq0
 returns-then-torn-eq0 c =
     record {
       told = λ s w a e l. none_told s w a c.ranges.torn.fits c.if-torn-eq0.true e;
-      bounds = (fresh_few c.requires.lists.2, omega arith);
+      bounds = (fresh_few c.requires.lists.1, omega arith);
     }
 
 pub returns : goal.returns
@@ -17,6 +18,6 @@ returns c =
     record {
       told = λ s w a e l.
           some_told s w a c.ranges.torn.fits c.if-torn-eq0.false e c.counted.ensures.value
-          (put_more (c.put_parted-first.ensures.bytes _ _ a.groups a.parted a.nodes) (c.put_verdict-end.ensures.bytes (entered s w) l.entries));
+          (put_more (c.put_parted-first.ensures.bytes _ _ a.groups a.parted a.nodes) (put_as c.put_verdict-end.ensures.bytes (ap (verdict_text c.args.account) (sym l.entries))));
       bounds = (c.counted.ensures.bounds, omega (arith, c.put_parted-first.ensures.end, c.put_verdict-end.ensures.end));
     }
