@@ -73,7 +73,6 @@ pub fn count(sends: Sends) -> usize
     match sends {
         Sends::Nothing => 0,
         Sends::One(_) => 1,
-        Sends::Each(_, to) => sets::size(to) as usize,
-        Sends::ToSpares(to) => sets::size(to) as usize,
+        Sends::Each(_, to) | Sends::ToSpares(to) => sets::size(to) as usize,
     }
 }

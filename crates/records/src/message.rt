@@ -44,11 +44,7 @@ pub fn viewing(tag: u8, x: NodeNumber, y: NodeNumber, set: u64) -> MessageRecord
     ensures message { Says result (steps.viewing tag x.0 y.0 (of_bits set)) }
 {
     MessageRecord {
-        tag,
-        sender: x,
-        receiver: y,
-        subject: NodeNumber::NONE,
-        stamp: Stamp(0),
         view: set,
+        ..plain(tag, x, y)
     }
 }

@@ -25,9 +25,10 @@ pub fn set_candidates(own: NodeRecord, set: u64) -> NodeRecord
     ensures record { (n : ℕ) → OwnFits n own → Within n set
         → Owns n result (steps.set_candidates (of_bits set) (own_of own)) }
 {
-    let mut next = own;
-    next.candidates = set;
-    next
+    NodeRecord {
+        candidates: set,
+        ..own
+    }
 }
 
 pub fn add_candidate(own: NodeRecord, y: NodeNumber) -> NodeRecord
@@ -44,28 +45,24 @@ pub fn add_candidates(own: NodeRecord, set: u64) -> NodeRecord
     set_candidates(own, own.candidates | set)
 }
 
-pub fn set_commit(own: NodeRecord, z: NodeNumber, time: Stamp) -> NodeRecord
+pub fn set_commit(mut own: NodeRecord, z: NodeNumber, time: Stamp) -> NodeRecord
     requires record { (z.0 < 64) × (time.0 < 2 ^ 24) × RoomNode own }
     ensures record { (n : ℕ) → OwnFits n own → Owns n result (steps.set_commit z.0 time.0 (own_of own)) }
 {
-    let at = z.0 as usize;
-    let mut next = own;
-    next.commit[at] = time;
-    next
+    own.commit[z.index()] = time;
+    own
 }
 
-pub fn set_spare(own: NodeRecord, z: NodeNumber, y: NodeNumber) -> NodeRecord
+pub fn set_spare(mut own: NodeRecord, z: NodeNumber, y: NodeNumber) -> NodeRecord
     requires record { (z.0 < 64) × (y.0 < 2 ^ 7) × RoomNode own }
     ensures record { (n : ℕ) → OwnFits n own → Owns n result (steps.set_spare z.0 y.0 (own_of own)) }
 {
-    let at = z.0 as usize;
-    let mut next = own;
-    next.spare[at] = y;
-    next
+    own.spare[z.index()] = y;
+    own
 }
 
 // The record with another held set, and with a commit stamp and no spare for z.
-fn set_held(own: NodeRecord, held: u64, z: NodeNumber, commit: Stamp) -> NodeRecord
+fn set_held(mut own: NodeRecord, held: u64, z: NodeNumber, commit: Stamp) -> NodeRecord
     requires record { (z.0 < 64) × (commit.0 < 2 ^ 24) × RoomNode own }
     ensures record { (n : ℕ) → OwnFits n own → Within n held
         → Owns n result
@@ -77,12 +74,10 @@ fn set_held(own: NodeRecord, held: u64, z: NodeNumber, commit: Stamp) -> NodeRec
           spare = put (spare_at own) z.0 none_node;
         }) }
 {
-    let at = z.0 as usize;
-    let mut next = own;
-    next.held = held;
-    next.commit[at] = commit;
-    next.spare[at] = NodeNumber::NONE;
-    next
+    own.held = held;
+    own.commit[z.index()] = commit;
+    own.spare[z.index()] = NodeNumber::NONE;
+    own
 }
 
 // "if not held, it becomes held with commit now and no spare; if held, nothing changes"

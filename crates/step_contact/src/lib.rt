@@ -7,13 +7,12 @@ ghost use Rattle.model.specs.Structs.{own_of, RoomNode, message_of};
 ghost use Rattle.model.specs.Steps as steps;
 ghost use Rattle.records.specs.Effects.{OwnFits, Leaves};
 
-use model::message::MessageRecord;
+use model::message::{MessageRecord, MessageType};
 use model::node::NodeRecord;
 use model::values::{NodeNumber, Stamp};
 use records::effect::EffectRecord;
 use records::message::plain;
 use records::own::{forget, hold};
-use word_ring::MessageWord;
 
 // "Contact y: send type 1 to y"
 pub fn contact(me: NodeNumber, own: NodeRecord, y: NodeNumber) -> EffectRecord
@@ -21,7 +20,7 @@ pub fn contact(me: NodeNumber, own: NodeRecord, y: NodeNumber) -> EffectRecord
     ensures effect { (t : Table) (time n : ℕ) → OwnFits n own
         → Leaves n me.0 time result (steps.contact t me.0 time (own_of own) y.0) }
 {
-    EffectRecord::replying(own, plain(MessageWord::PING_CONTACT, me, y))
+    EffectRecord::replying(own, plain(MessageType::PingContact as u8, me, y))
 }
 
 // A notice: its subject is forgotten.
@@ -40,7 +39,7 @@ pub fn on_ping_contact(me: NodeNumber, own: NodeRecord, message: MessageRecord) 
     ensures effect { (t : Table) (time n : ℕ) → OwnFits n own
         → Leaves n me.0 time result (steps.on_ping_contact t me.0 time (own_of own) (message_of message)) }
 {
-    EffectRecord::replying(own, plain(MessageWord::PONG_CONTACT, me, message.sender))
+    EffectRecord::replying(own, plain(MessageType::PongContact as u8, me, message.sender))
 }
 
 // "on type 2, take the sender in"

@@ -10,13 +10,12 @@ ghost use Rattle.records.specs.Lent.{Lent};
 ghost use Rattle.sets.specs.Within.{Within};
 
 use leafset::leafset;
-use model::message::MessageRecord;
+use model::message::{MessageRecord, MessageType};
 use model::node::NodeRecord;
 use model::values::{NodeNumber, Sides, Stamp};
 use records::effect::{EffectRecord, Sends};
 use records::message::{plain, viewing};
 use records::own::{add_candidate, add_candidates, hold, set_candidates};
-use word_ring::MessageWord;
 
 // "type 5 to each candidate not held that is in my leafset of candidates and held together", then "type 3 to each held
 // stand"; no candidate is left.
@@ -29,8 +28,8 @@ pub fn timer0(keys: &[u32], sides: Sides, me: NodeNumber, own: NodeRecord) -> Ef
     let invited = sets::minus(own.candidates, own.held) & near;
     EffectRecord::sending_both(
         set_candidates(own, 0),
-        Sends::Each(MessageWord::PING_INVITE, invited),
-        Sends::Each(MessageWord::PING_ASK_INV, own.held),
+        Sends::Each(MessageType::PingInvite as u8, invited),
+        Sends::Each(MessageType::PingAskInv as u8, own.held),
     )
 }
 
@@ -52,7 +51,7 @@ pub fn on_ping_ask_inv(
     let next = add_candidate(own, message.sender);
     EffectRecord::replying(
         next,
-        viewing(MessageWord::PONG_ASK_INV, me, message.sender, view),
+        viewing(MessageType::PongAskInv as u8, me, message.sender, view),
     )
 }
 
@@ -70,7 +69,7 @@ pub fn on_ping_invite(me: NodeNumber, own: NodeRecord, message: MessageRecord) -
     ensures effect { (t : Table) (time n : ℕ) → OwnFits n own
         → Leaves n me.0 time result (steps.on_ping_invite t me.0 time (own_of own) (message_of message)) }
 {
-    EffectRecord::replying(own, plain(MessageWord::PONG_INVITE, me, message.sender))
+    EffectRecord::replying(own, plain(MessageType::PongInvite as u8, me, message.sender))
 }
 
 // "On 6: take the sender in if it lies in my leafset of held plus sender."

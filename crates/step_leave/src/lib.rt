@@ -7,18 +7,17 @@ ghost use Rattle.model.specs.Structs.{own_of, RoomNode, message_of};
 ghost use Rattle.model.specs.Steps as steps;
 ghost use Rattle.records.specs.Effects.{OwnFits, Leaves};
 
-use model::message::MessageRecord;
+use model::message::{MessageRecord, MessageType};
 use model::node::NodeRecord;
 use records::effect::{EffectRecord, Sends};
 use records::own::forget;
-use word_ring::MessageWord;
 
 // "first sends type 13 to each held stand, rising"
 pub fn leaving(own: NodeRecord) -> EffectRecord
     ensures effect { (t : Table) (me time : ℕ) → size t ≤ 64 → OwnFits (size t) own
         → Leaves (size t) me time result (steps.leaving t me time (own_of own)) }
 {
-    EffectRecord::sending(own, Sends::Each(MessageWord::LEAVE, own.held))
+    EffectRecord::sending(own, Sends::Each(MessageType::Leave as u8, own.held))
 }
 
 // "lets go of the sender and strikes it from the candidates"
