@@ -10,13 +10,12 @@ ghost use Rattle.records.specs.Effects.{OwnFits, Leaves, Owns};
 ghost use Rattle.records.specs.Lent.{Lent};
 
 use leafset::{leafset, outside};
-use model::message::MessageRecord;
+use model::message::{MessageRecord, MessageType};
 use model::node::NodeRecord;
 use model::values::{NodeNumber, Sides, Stamp};
 use records::effect::{EffectRecord, Sends};
 use records::message::stamped;
 use records::own::{hold, release, set_commit};
-use word_ring::MessageWord;
 
 // "for each held z outside my leafset with a spare, type 9 to the spare, subject z, stamp now"
 pub fn timer3(keys: &[u32], sides: Sides, me: NodeNumber, own: NodeRecord) -> EffectRecord
@@ -34,15 +33,10 @@ fn spared(own: NodeRecord, set: u64) -> u64
     ensures members { (z : ℕ) → of_bits result z ≡ (of_bits set z && not (eqb (spare_at own z) none_node)) }
 {
     let mut out = 0;
-    let mut rest = set;
-    while rest != 0 {
-        let z = sets::lowest(rest);
-        let at = z.0 as usize;
-        let more = sets::with(out, z);
-        if own.spare[at].0 != NodeNumber::NONE.0 {
-            out = more;
+    for z in sets::members(set) {
+        if own.spare[z.index()] != NodeNumber::NONE {
+            out = sets::with(out, z);
         }
-        rest = sets::rest(rest);
     }
     out
 }
@@ -64,20 +58,13 @@ pub fn on_ping_replace(
     }
     let next = set_commit(own, message.subject, time);
     let answer = stamped(
-        MessageWord::PONG_REPLACE,
+        MessageType::PongReplace as u8,
         me,
         message.sender,
         message.subject,
         message.stamp,
     );
     EffectRecord::replying(next, answer)
-}
-
-// Whether a stamp is earlier than another of the same clock.
-fn is_before(stamp: Stamp, other: Stamp) -> bool
-    ensures value { result ≡ ltb stamp.0 other.0 }
-{
-    stamp.0 < other.0
 }
 
 // "take y in; then, if z's commit is below the message's stamp, let go of z and set y's commit to now"
@@ -90,12 +77,11 @@ fn replaced(time: Stamp, own: NodeRecord, y: NodeNumber, z: NodeNumber, stamp: S
         else steps.hold time.0 y.0 (own_of own)) }
 {
     let next = hold(own, time, y);
-    let at = z.0 as usize;
-    let commit = own.commit[at];
-    if !is_before(commit, stamp) {
-        return next;
+    if own.commit[z.index()] < stamp {
+        set_commit(release(next, z), y, time)
+    } else {
+        next
     }
-    set_commit(release(next, z), y, time)
 }
 
 // "On 10 from y: if z is held, outside my leafset, and its spare is y, .." replaced.
@@ -114,9 +100,10 @@ pub fn on_pong_replace(
         (steps.on_pong_replace (table_of sides keys.now) me.0 time.0 (own_of own) (message_of message)) }
 {
     let outside = outside(keys, sides, me, own.held);
-    let at = message.subject.0 as usize;
-    if !(sets::has(outside, message.subject) & (own.spare[at].0 == message.sender.0)) {
-        return EffectRecord::quiet(own);
+    let z = message.subject;
+    if sets::has(outside, z) && own.spare[z.index()] == message.sender {
+        EffectRecord::quiet(replaced(time, own, message.sender, z, message.stamp))
+    } else {
+        EffectRecord::quiet(own)
     }
-    EffectRecord::quiet(replaced(time, own, message.sender, message.subject, message.stamp))
 }

@@ -1,38 +1,39 @@
-use mathlib.Core.Path.{sym, ap, ◌∙◌}
 use mathlib.Core.Bool.{not}
 use Prim.Native.Nat.{ℕ}
 use lib.Dec.{eqb}
-use borrow.Author.Tests.{eq-eqb, ne_eqb}
-use Rattle.model.proofs.Laws.{not_in}
-use Rattle.model.proofs.Bits.{bit_below}
-use Rattle.sets.proofs.Bits.{rising_below}
-use Rattle.sets.proofs.Collect.{collect_none, collect_kept, collect_passed, collect_end}
 use Rattle.sets.proofs.Arrays.{spare_read}
+use mathlib.Core.Path.{refl, sym, ap, ◌∙◌}
+use Rattle.model.proofs.Bits.{bit_below}
+use Rattle.sets.proofs.Turns.{begins, turn, turn_below, turn_first, no_more}
+use Rattle.sets.proofs.Collect.{collect_begins, turn_kept, turn_passed, collect_end}
 use Rattle.step_replace.proofs.spared.Goals as goal
-use Rattle.step_replace.proofs.spared.Goals.{then-own-at, else-own-at}
 
-pub loop-rest-init : goal.loop-rest-init
-loop-rest-init c = collect_none c.ranges.set.fits (λ y. bit_below 64 c.args.set y c.ranges.set.fits)
+pub loop-z-init : goal.loop-z-init
+loop-z-init c =
+    collect_begins (begins c.members-z-items.ensures.all c.into_iter-z-iterator.ensures.into_iter_gives) c.ranges.set.fits (λ y. bit_below 64 c.args.set y c.ranges.set.fits)
 
-pub with-more-requires : goal.with-more-requires
-with-more-requires c = record { bounds = rising_below c.loop-rest.invariant.rising c.loop-rest-test.true _ c.lowest-z.ensures.value }
+pub bounds-own-index : goal.bounds-own-index
+bounds-own-index c =
+    rw c.index.ensures.value (turn_below c.loop-z.invariant.rising (turn c.loop-z.z-iterator c.next.new.self c.in-Some.ensures.steps))
 
-pub bounds-own-at : goal.bounds-own-at
-bounds-own-at c =
-    rising_below c.loop-rest.invariant.rising c.loop-rest-test.true _ c.lowest-z.ensures.value
+pub with-out-requires : goal.with-out-requires
+with-out-requires c = record {
+  bounds = (turn_first c.loop-z.invariant.rising (turn c.loop-z.z-iterator c.next.new.self c.in-Some.ensures.steps)).below;
+}
 
-pub loop-rest-preserved : goal.loop-rest-preserved
-loop-rest-preserved c =
-    let a = c.args in
-    let l = c.loop-rest in
-    let y = c.lowest-z.result.0 in
-    let test = ap (λ (s : ℕ). not (eqb s 64)) (spare_read a.own y c.requires.record (rising_below l.invariant.rising c.loop-rest-test.true y c.lowest-z.ensures.value)) in
-    elim c.if-own-at.branch [
-      | then-own-at w ↦
-          collect_kept l.invariant c.loop-rest-test.true y c.lowest-z.ensures.value c.rest-rest.ensures.rest c.with-more.ensures.members w.out-is (sym test ∙ not_in (ne_eqb _ 64 w.if-own-at.true))
-      | else-own-at w ↦
-          collect_passed l.invariant c.loop-rest-test.true y c.lowest-z.ensures.value c.rest-rest.ensures.rest w.out-is (sym test ∙ ap not (eq-eqb _ 64 w.if-own-at.false))
-    ]
+pub loop-z-preserved-then-ne : goal.loop-z-preserved-then-ne
+loop-z-preserved-then-ne c =
+    let t = turn c.loop-z.z-iterator c.next.new.self c.in-Some.ensures.steps in
+    turn_kept c.loop-z.invariant t c.with-out.ensures.members
+    (ap (λ (s : ℕ). not (eqb s 64)) (sym (spare_read c.args.own _ c.requires.record (turn_below c.loop-z.invariant.rising t)))
+    ∙ sym (rw c.index.ensures.value at c.ne.ensures) ∙ c.if-ne.true)
+
+pub loop-z-preserved : goal.loop-z-preserved
+loop-z-preserved c =
+    let t = turn c.loop-z.z-iterator c.next.new.self c.in-Some.ensures.steps in
+    turn_passed c.loop-z.invariant t refl
+    (ap (λ (s : ℕ). not (eqb s 64)) (sym (spare_read c.args.own _ c.requires.record (turn_below c.loop-z.invariant.rising t)))
+    ∙ sym (rw c.index.ensures.value at c.ne.ensures) ∙ c.if-ne.false)
 
 pub returns : goal.returns
-returns c = record { members = collect_end c.loop-rest.invariant c.loop-rest-test.false }
+returns c = record { members = collect_end c.loop-z.invariant (no_more c.loop-z.z-iterator c.in-None.ensures.steps) }

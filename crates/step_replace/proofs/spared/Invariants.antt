@@ -5,8 +5,5 @@ use Rattle.model.specs.Structs.{spare_at}
 use Rattle.sets.proofs.Collect.{Collecting}
 use Rattle.step_replace.proofs.spared.Given as goal
 
-abbrev pub invariant-loop-rest : goal.invariant-loop-rest
-invariant-loop-rest l = Collecting 64 l.set (λ z. not (eqb (spare_at l.own z) none_node)) l.out l.rest
-
-abbrev pub decreases-loop-rest : goal.decreases-loop-rest
-decreases-loop-rest l = l.rest
+abbrev pub invariant-loop-z : goal.invariant-loop-z
+invariant-loop-z l = Collecting 64 l.set (λ y. not (eqb (spare_at l.own y) none_node)) l.out l.z-iterator.rest
