@@ -7,11 +7,11 @@ ghost use Rattle.model.specs.Steps as steps;
 ghost use Rattle.records.specs.Effects.{Leaves, Delivered};
 ghost use Rattle.records.specs.Lent.{Lent};
 
-use model::message::MessageRecord;
+use model::message::{MessageRecord, MessageType};
 use model::node::NodeRecord;
+use model::timer::TimerKind;
 use model::values::{NodeNumber, Sides, Stamp};
 use records::effect::EffectRecord;
-use word_ring::MessageWord;
 
 // The step of timer k; 1 and above 4 no timer has one.
 pub fn timer(keys: &[u32], sides: Sides, me: NodeNumber, own: NodeRecord, k: u8) -> EffectRecord
@@ -19,12 +19,12 @@ pub fn timer(keys: &[u32], sides: Sides, me: NodeNumber, own: NodeRecord, k: u8)
     ensures effect { (time : ℕ) → Leaves (length keys.now) me.0 time result
         (steps.timer (table_of sides keys.now) me.0 time (own_of own) k) }
 {
-    match k {
-        0 => step_invite::timer0(keys, sides, me, own),
-        2 => step_spare::timer2(keys, sides, me, own),
-        3 => step_replace::timer3(keys, sides, me, own),
-        4 => step_deloopy::timer4(keys, me, own),
-        _ => EffectRecord::quiet(own),
+    match TimerKind::try_from(k) {
+        Ok(TimerKind::Invite) => step_invite::timer0(keys, sides, me, own),
+        Ok(TimerKind::AskReplacement) => step_spare::timer2(keys, sides, me, own),
+        Ok(TimerKind::Replace) => step_replace::timer3(keys, sides, me, own),
+        Ok(TimerKind::Deloopy) => step_deloopy::timer4(keys, me, own),
+        Err(_) => EffectRecord::quiet(own),
     }
 }
 
@@ -42,25 +42,24 @@ pub fn deliver(
     ensures effect { Leaves (length keys.now) me.0 time.0 result
         (steps.deliver (table_of sides keys.now) me.0 time.0 (own_of own) (message_of message)) }
 {
-    let tag = message.tag;
-    match tag {
-        MessageWord::PING_CONTACT => step_contact::on_ping_contact(me, own, message),
-        MessageWord::PONG_CONTACT => step_contact::on_pong_contact(time, own, message),
-        MessageWord::PING_ASK_INV => step_invite::on_ping_ask_inv(keys, sides, me, own, message),
-        MessageWord::PONG_ASK_INV => step_invite::on_pong_ask_inv(own, message),
-        MessageWord::PING_INVITE => step_invite::on_ping_invite(me, own, message),
-        MessageWord::PONG_INVITE => step_invite::on_pong_invite(
+    match MessageType::try_from(message.tag) {
+        Ok(MessageType::PingContact) => step_contact::on_ping_contact(me, own, message),
+        Ok(MessageType::PongContact) => step_contact::on_pong_contact(time, own, message),
+        Ok(MessageType::PingAskInv) => step_invite::on_ping_ask_inv(keys, sides, me, own, message),
+        Ok(MessageType::PongAskInv) => step_invite::on_pong_ask_inv(own, message),
+        Ok(MessageType::PingInvite) => step_invite::on_ping_invite(me, own, message),
+        Ok(MessageType::PongInvite) => step_invite::on_pong_invite(
             keys, sides, me, time, own, message,
         ),
-        MessageWord::PING_ASK_REPL => step_spare::on_ping_ask_repl(keys, sides, me, own, message),
-        MessageWord::PONG_ASK_REPL => step_spare::on_pong_ask_repl(own, message),
-        MessageWord::PING_REPLACE => step_replace::on_ping_replace(me, time, own, message),
-        MessageWord::PONG_REPLACE => step_replace::on_pong_replace(
+        Ok(MessageType::PingAskRepl) => step_spare::on_ping_ask_repl(keys, sides, me, own, message),
+        Ok(MessageType::PongAskRepl) => step_spare::on_pong_ask_repl(own, message),
+        Ok(MessageType::PingReplace) => step_replace::on_ping_replace(me, time, own, message),
+        Ok(MessageType::PongReplace) => step_replace::on_pong_replace(
             keys, sides, me, time, own, message,
         ),
-        MessageWord::PING_DELOOPY => step_deloopy::on_ping_deloopy(keys, me, own, message),
-        MessageWord::PONG_DELOOPY => step_deloopy::on_pong_deloopy(own, message),
-        MessageWord::LEAVE => step_leave::on_leave(own, message),
-        _ => EffectRecord::quiet(own),
+        Ok(MessageType::PingDeloopy) => step_deloopy::on_ping_deloopy(keys, me, own, message),
+        Ok(MessageType::PongDeloopy) => step_deloopy::on_pong_deloopy(own, message),
+        Ok(MessageType::Leave) => step_leave::on_leave(own, message),
+        Err(_) => EffectRecord::quiet(own),
     }
 }

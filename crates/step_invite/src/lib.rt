@@ -69,7 +69,10 @@ pub fn on_ping_invite(me: NodeNumber, own: NodeRecord, message: MessageRecord) -
     ensures effect { (t : Table) (time n : ℕ) → OwnFits n own
         → Leaves n me.0 time result (steps.on_ping_invite t me.0 time (own_of own) (message_of message)) }
 {
-    EffectRecord::replying(own, plain(MessageType::PongInvite as u8, me, message.sender))
+    EffectRecord::replying(
+        own,
+        plain(MessageType::PongInvite as u8, me, message.sender),
+    )
 }
 
 // "On 6: take the sender in if it lies in my leafset of held plus sender."

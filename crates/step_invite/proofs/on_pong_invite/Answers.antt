@@ -1,5 +1,4 @@
 use mathlib.Core.Path.{sym, ◌∙◌}
-use borrow.Author.Tests.{not-true, not-false}
 use Rattle.model.specs.Steps as steps
 use Rattle.records.proofs.Changes.{unchanged}
 use Rattle.step_invite.proofs.Invited.{with_table, near_test}
