@@ -1,3 +1,4 @@
 pub mod Formats
 pub mod Gather
 pub mod NodeTests
+pub mod Chunks

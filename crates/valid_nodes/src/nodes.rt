@@ -13,10 +13,9 @@ pub fn nodes_read(words: &[u32], n: usize) -> bool
 {
     let mut keys = 0;
     let mut clocks = 0;
-    for s in 0..n {
-        let at = place::NODES + 2 * s;
-        keys = keys | (words[at] ^ KeyWord::EMPTY);
-        clocks = clocks | (words[at + 1] ^ ClockWord::EMPTY);
+    for node in words[place::NODES..place::NODES + 2 * n].chunks_exact(2) {
+        keys |= node[0] ^ KeyWord::EMPTY;
+        clocks |= node[1] ^ ClockWord::EMPTY;
     }
     (keys >> 25 == 0) & (clocks >> 24 == 0)
 }
@@ -26,8 +25,8 @@ fn hash(words: &[u32], x: usize) -> usize
     requires words { (1 + 2 * x < length words.now) × (x < 64) }
     ensures value { result ≡ hash_of (key_of words.now x) }
 {
-    let key = words[place::NODES + 2 * x] % KeyWord::RUNNING;
-    (((key as u64) * 0x9E37_79B1 >> 23) % 512) as usize
+    let key = KeyWord(words[place::NODES + 2 * x]).key();
+    ((u64::from(key.0) * 0x9E37_79B1 >> 23) % 512) as usize
 }
 
 // The key of node x is not met before x.
@@ -35,10 +34,10 @@ fn key_is_new(words: &[u32], x: usize) -> bool
     requires words { (1 + 2 * x < length words.now) × (x < 64) }
     ensures value { result ≡ is_new words.now x }
 {
-    let key = words[place::NODES + 2 * x] % KeyWord::RUNNING;
+    let key = KeyWord(words[place::NODES + 2 * x]).key();
     let mut ok = true;
     for y in 0..x {
-        ok = ok & !(words[place::NODES + 2 * y] % KeyWord::RUNNING == key);
+        ok &= KeyWord(words[place::NODES + 2 * y]).key() != key;
     }
     ok
 }

@@ -1,4 +1,4 @@
-use mathlib.Core.Path.{◌≡◌, refl}
+use mathlib.Core.Path.{◌≡◌, refl, sym}
 use native.Mathlib.Omega.{arith}
 use mathlib.Core.Bool.{not}
 use lib.Dec.{eqb}
@@ -7,7 +7,6 @@ use Rattle.model.specs.Sets.{all}
 use Rattle.model.specs.Fields.{bits}
 use Rattle.valid_nodes.specs.Hashes.{is_new}
 use Rattle.valid_nodes.specs.Nodes.{key_at}
-use Rattle.valid_nodes.proofs.Formats.{lowest}
 use Rattle.valid_nodes.proofs.Gather.{all_more}
 use Rattle.valid_nodes.proofs.nodes.key_is_new.Goals as goal
 
@@ -21,7 +20,7 @@ loop-y-preserved c =
     let ws = c.args.words.now in (
       search rules,
       all_more (λ k. not (eqb (bits 0 24 (key_at ws k)) (bits 0 24 (key_at ws c.args.x)))) l.y _ _ l.invariant.1
-          (rw (lowest 24 (key_at ws l.y), lowest 24 (key_at ws c.args.x))),
+          (rw (sym c.key.ensures.value, sym c.key-key.ensures.value) c.ne-ok.ensures),
     )
 
 pub returns : goal.returns
