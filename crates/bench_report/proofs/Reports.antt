@@ -6,7 +6,7 @@ use Prim.Native.Nat.{ℕ, zero, suc, ◌+◌, ◌*◌, ◌≤◌, ◌<◌}
 use native.Mathlib.Nat.{zero-add}
 use native.Mathlib.Numerals.{add-one}
 use native.Mathlib.Omega.{arith}
-use borrow.Author.Tests.{ltb-true, eq-eqb}
+use borrow.Author.Tests.{ltb-true}
 use lib.Dec.{ltb}
 use lib.ListN.{length, get_or}
 use Rattle.bench_lines.specs.Decimal.{decimal, spaced, newline, line_bytes, lines_bytes}
@@ -18,10 +18,7 @@ use Rattle.model.specs.Leafset.{Table, size, key}
 use Rattle.model.specs.Ring.{Own}
 use Rattle.model.specs.Words.{is_pair, pair_place, decode_table, decode_own, decode_node, decode, ring_length, reads_as_ring}
 use Rattle.model.specs.Fields.{bit, flag}
-use Rattle.model.specs.Answers.{first_of}
 use Rattle.model.specs.Connection.{groups}
-use Rattle.model.specs.Buffer.{ring_answer}
-use Rattle.model.specs.Questions.{groups_of}
 use Rattle.model.specs.Bench.{node_line}
 use Rattle.model.specs.declared.node.NodeRecord.{NodeRecord}
 use Rattle.model.proofs.Laws.{and_left, and_right, count_le}
@@ -101,11 +98,7 @@ module _ (ws : List ℕ) (reads : reads_as_ring ws ≡ true) where
   unfolding decode
   few = (read_sizes ws reads).nodes_high
 
-  groups_are : groups_of ws ≡ groups (decode ws)
-  unfolding groups_of ring_answer first_of
-  groups_are = rw (eq-eqb (length ws) ring_length long, reads)
-
-  pub end_of_ring : {n g : ℕ} → n ≡ size (decode_table ws) → g ≡ groups_of ws
+  pub end_of_ring : {n g : ℕ} → n ≡ size (decode_table ws) → g ≡ groups (decode ws)
       → lines_bytes (tabulate n (node_line (decode ws))) ++ groups_bytes g ≡ end_bytes (decode ws)
   unfolding end_bytes decode
-  end_of_ring e f = rw (e, f ∙ groups_are)
+  end_of_ring e f = rw (e, f)

@@ -12,7 +12,7 @@ ghost use Rattle.bench_report.specs.Report.{groups_bytes, end_bytes, state_bytes
 
 use model::values::NodeNumber;
 
-const NEWLINE: u8 = 10;
+const NEWLINE: u8 = b'\n';
 
 // Puts the line of each node, and "groups" with their number.
 pub fn put_end(words: &[u32], out: &mut [u8], at: usize) -> usize
@@ -21,9 +21,9 @@ pub fn put_end(words: &[u32], out: &mut [u8], at: usize) -> usize
     ensures bytes { Put out.old out.new at result (end_bytes (decode words.now)) }
     ensures end { result ≤ at + 93000 }
 {
-    let end = put_nodes(words, ring_head::nodes(words), out, at);
-    let reply = call_questions::groups(words);
-    put_groups(out, end, reply.groups)
+    let n = ring_head::nodes(words);
+    let end = put_nodes(words, n, out, at);
+    put_groups(out, end, ring_connection::groups(words, n))
 }
 
 // Puts "groups" and their number.
@@ -33,7 +33,7 @@ fn put_groups(out: &mut [u8], at: usize, groups: u32) -> usize
     ensures end { result ≤ at + 28 }
 {
     let first = bench_lines::put_bytes(out, at, b"groups");
-    let second = bench_lines::put_next(out, first, groups as u64);
+    let second = bench_lines::put_next(out, first, u64::from(groups));
     bench_lines::put_byte(out, second, NEWLINE)
 }
 
@@ -74,10 +74,10 @@ fn put_state(words: &[u32], x: NodeNumber, out: &mut [u8], at: usize) -> usize
         (state_bytes (decode words.now) x.0) }
     ensures end { result ≤ at + 84 }
 {
-    let first = bench_lines::put_number(out, at, x.0 as u64);
-    let second = bench_lines::put_next(out, first, ring_head::key(words, x).0 as u64);
-    let third = bench_lines::put_next(out, second, ring_nodes::is_running(words, x) as u64);
-    bench_lines::put_next(out, third, ring_nodes::clock(words, x).0 as u64)
+    let first = bench_lines::put_number(out, at, u64::from(x.0));
+    let second = bench_lines::put_next(out, first, u64::from(ring_head::key(words, x).0));
+    let third = bench_lines::put_next(out, second, u64::from(ring_nodes::is_running(words, x)));
+    bench_lines::put_next(out, third, u64::from(ring_nodes::clock(words, x).0))
 }
 
 // Puts how many are held, and each of them.
@@ -87,6 +87,6 @@ fn put_held(out: &mut [u8], at: usize, held: u64) -> usize
         (spaced (count 64 (of_bits held) ∷ members 64 (of_bits held))) }
     ensures end { result ≤ at + 1365 }
 {
-    let first = bench_lines::put_next(out, at, sets::size(held) as u64);
+    let first = bench_lines::put_next(out, at, u64::from(sets::size(held)));
     bench_sets::put_members(out, first, held)
 }

@@ -52,14 +52,13 @@ fn begin(script: &[u32], size: usize, words: &mut [u32], out: &mut [u8]) -> Sess
     ensures turn { Stepped (first_turn script.now size) words.new out.old
         out.new result }
 {
-    let answer = bench_open::open_script(script, words);
-    let refusal = answers::number(answer);
-    if refusal != 0 {
+    let opened = bench_open::open_script(script, words);
+    if opened.is_err() {
         return Session {
             more: false,
             opened: false,
             count: 0,
-            end: bench_lines::put_three(out, 0, 0, refusal as u64, 0),
+            end: bench_lines::put_three(out, 0, 0, u64::from(answers::number(opened)), 0),
         };
     }
     let first = 1 + ring_head::nodes(words);

@@ -3,8 +3,6 @@ ghost use Rattle.std.specs.Prelude.{◌≡◌, true, ◌+◌, ◌*◌, ◌^◌, 
 ghost use Rattle.model.specs.Words.{reads_as_ring};
 ghost use Rattle.bench_session.specs.Playing.{OnePlayed, AllPlayed};
 
-use bench_script::Next;
-
 // Plays the word, event `number`, and puts its line from `at` on. Where the line ends.
 fn play_word(words: &mut [u32], word: u32, number: u64, out: &mut [u8], at: usize) -> usize
     requires ring { reads_as_ring words.old ≡ true }
@@ -17,7 +15,7 @@ fn play_word(words: &mut [u32], word: u32, number: u64, out: &mut [u8], at: usiz
         out,
         at,
         number,
-        answers::number(answer) as u64,
+        u64::from(answers::number(answer)),
         ring_head::messages(words) as u64,
     )
 }
@@ -30,15 +28,11 @@ pub fn play_all(words: &mut [u32], script: &[u32], count: u64, out: &mut [u8]) -
     ensures played { AllPlayed words.old script.now count words.new
         out.old out.new result }
 {
-    let mut at = 0;
+    let mut number = count;
     let mut end = 0;
-    loop {
-        let reading = bench_script::read(script, at);
-        let next = reading.next;
-        let Next::Word(word) = next else {
-            return end;
-        };
-        at = reading.after;
-        end = play_word(words, word, count + at as u64, out, end);
+    for word in script {
+        number += 1;
+        end = play_word(words, *word, number, out, end);
     }
+    end
 }

@@ -6,7 +6,7 @@ ghost use Rattle.bench_lines.specs.Put.{Put};
 ghost use Rattle.bench_session.specs.Turns.{tail_lines, end_of, played_turn, Stepped};
 
 use super::play;
-use model::answer::Answer;
+use model::refusal::Refusal;
 
 // How a session stands: whether there is more to come, whether a ring is open, how many events were played, and where
 // the bytes end that the last chunk put out.
@@ -72,12 +72,12 @@ fn put_tail(words: &[u32], size: usize, count: u64, out: &mut [u8], at: usize) -
     if size % 4 == 0 {
         return at;
     }
-    let refusal = answers::number(Answer::NotAnEvent) as u64;
+    let refusal = answers::number::<()>(Err(Refusal::NotAnEvent));
     bench_lines::put_three(
         out,
         at,
         count + 1,
-        refusal,
+        u64::from(refusal),
         ring_head::messages(words) as u64,
     )
 }

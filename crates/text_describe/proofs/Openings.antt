@@ -1,17 +1,20 @@
 -- The opening of a script, read from its words.
-use mathlib.Core.Path.{◌≡◌, refl, ap, ◌∙◌}
-use mathlib.Core.Bool.{Bool, true, false, not}
+use mathlib.Core.Path.{◌≡◌, refl, sym, ap, ◌∙◌}
+use mathlib.Core.Bool.{true}
 use mathlib.Core.List.{List, [], ◌∷◌, ◌++◌}
 use Prim.Native.Nat.{ℕ, ◌+◌, ◌≤◌}
 use lib.ListN.{length, get_or}
 use Rattle.bench_lines.specs.Decimal.{spaced}
 use Rattle.model.specs.Leafset.{size}
-use Rattle.model.specs.Answers.{is_accepted, number_of}
+use Rattle.model.specs.Answers.{is_accepted}
 use Rattle.model.specs.Fields.{bits}
 use Rattle.model.specs.Words.{sides_of}
 use Rattle.model.specs.Buffer.{Written}
 use Rattle.model.specs.Bench.{script_table, script_answer}
-use Rattle.model.specs.declared.answer.Answer.{Answer}
+use Rattle.std.specs.Prelude.{Result, Ok, Err}
+use Rattle.std.specs.Result.{is_ok}
+use Rattle.model.proofs.Cases.{number_high}
+use Rattle.model.specs.declared.refusal.Refusal.{Refusal}
 use Rattle.model.specs.declared.values.Sides.{Sides}
 use Rattle.model.proofs.Answers.{accepted_is}
 use Rattle.answers.specs.Applied.{written}
@@ -20,14 +23,10 @@ use Rattle.bench_open.proofs.Begins.{head_is, sizes_are, enough, few, keys_long}
 use Rattle.text_form.specs.Names.{sides_name}
 use Rattle.text_form.specs.Describe.{keys_text, opening_text}
 
-twice : (b : Bool) → not (not b) ≡ b
-twice true = refl
-twice false = refl
-
-pub opens_as : (a : Answer) (old ws : List ℕ) {new : List ℕ} {refusal : Bool} → written a new ≡ open_script old ws → refusal ≡ not (is_accepted (number_of a))
-    → not refusal ≡ is_accepted (script_answer ws)
+pub opens_as : {A : Type 0} (a : Result A Refusal) (old ws : List ℕ) {new : List ℕ} → written a new ≡ open_script old ws → is_ok a ≡ is_accepted (script_answer ws)
 unfolding open_script
-opens_as a old ws e r = ap not r ∙ twice (is_accepted (number_of a)) ∙ ap (λ (w : Written). is_accepted w.answer) e
+opens_as (Ok x) old ws e = ap (λ (w : Written). is_accepted w.answer) e
+opens_as (Err x) old ws e = sym (number_high x) ∙ ap (λ (w : Written). is_accepted w.answer) e
 
 module _ (ws : List ℕ) (accepted : is_accepted (script_answer ws) ≡ true) where
   ok : script_answer ws ≡ 0

@@ -17,7 +17,7 @@ use bench_lines::{put_byte, put_bytes};
 use bench_script::loading;
 use text_event::{put_raw, put_word};
 
-const NEWLINE: u8 = 10;
+const NEWLINE: u8 = b'\n';
 
 // How a session stands: whether there is more to come, whether there was a chunk, whether the script opens a ring, and
 // where the text ends that the last chunk gave.
@@ -122,8 +122,8 @@ fn put_words(out: &mut [u8], at: usize, script: &[u32], opened: bool) -> usize
     ensures end { result ≤ at + 17 * length script.now }
 {
     let mut end = at;
-    for i in 0..script.len() {
-        end = put_line(out, end, script[i], opened);
+    for word in script {
+        end = put_line(out, end, *word, opened);
     }
     end
 }
@@ -155,7 +155,7 @@ fn put_tail(out: &mut [u8], at: usize, tail: &[u8]) -> usize
     requires room { (at + 40 ≤ length out.old) × (length tail.now < 4) }
     ensures bytes { Put out.old out.new at result (tail_text tail.now) }
 {
-    if tail.len() == 0 {
+    if tail.is_empty() {
         return at;
     }
     let first = put_bytes(out, at, b"tail ");
@@ -170,8 +170,8 @@ pub fn put_hex(out: &mut [u8], at: usize, bytes: &[u8]) -> usize
     ensures end { result ≤ at + 2 * length bytes.now }
 {
     let mut end = at;
-    for i in 0..bytes.len() {
-        end = put_pair(out, end, bytes[i]);
+    for byte in bytes {
+        end = put_pair(out, end, *byte);
     }
     end
 }
@@ -183,6 +183,6 @@ fn put_pair(out: &mut [u8], at: usize, byte: u8) -> usize
     ensures end { result ≤ at + 2 }
 {
     let mut pair = [0u8; 16];
-    let k = io::hex(byte as u64, 2, &mut pair);
+    let k = io::hex(u64::from(byte), 2, &mut pair);
     put_bytes(out, at, &pair[..k])
 }

@@ -12,15 +12,14 @@ use bench_lines::{put_byte, put_bytes, put_next};
 use model::values::Sides;
 use word_ring::{HeadWord, place};
 
-const NEWLINE: u8 = 10;
+const NEWLINE: u8 = b'\n';
 
 // Whether the words open a ring.
 pub fn opens(script: &[u32]) -> bool
     ensures value { result ≡ is_accepted (script_answer script.now) }
 {
     let mut ring = [0u32; place::LENGTH];
-    let answer = bench_open::open_script(script, &mut ring);
-    !answers::is_refusal(answer)
+    bench_open::open_script(script, &mut ring).is_ok()
 }
 
 // How many nodes the ring has.
@@ -55,8 +54,8 @@ fn put_sides(out: &mut [u8], sides: Sides) -> usize
     ensures end { result ≤ 47 }
 {
     let first = put_bytes(out, 0, b"sides");
-    let second = put_next(out, first, sides.ahead as u64);
-    put_next(out, second, sides.behind as u64)
+    let second = put_next(out, first, u64::from(sides.ahead));
+    put_next(out, second, u64::from(sides.behind))
 }
 
 // Puts the keys, eight to a line.
@@ -66,8 +65,8 @@ fn put_keys(out: &mut [u8], at: usize, keys: &[u32]) -> usize
     ensures end { result ≤ at + 26 * length keys.now + 1 }
 {
     let mut end = at;
-    for s in 0..keys.len() {
-        end = put_key(out, end, s, keys[s]);
+    for (s, key) in keys.iter().enumerate() {
+        end = put_key(out, end, s, *key);
     }
     put_byte(out, end, NEWLINE)
 }
@@ -81,7 +80,7 @@ fn put_key(out: &mut [u8], at: usize, s: usize, key: u32) -> usize
 {
     if s % 8 == 0 {
         let first = put_bytes(out, at, b"\nkeys");
-        return put_next(out, first, key as u64);
+        return put_next(out, first, u64::from(key));
     }
-    put_next(out, at, key as u64)
+    put_next(out, at, u64::from(key))
 }

@@ -12,7 +12,13 @@ use borrow.Author.Tests.{ltb-false}
 use Rattle.io.specs.Digits.{last_digits, IsDigitCount}
 use Rattle.bench_lines.specs.Decimal.{decimal_in, decimal, spaced, space}
 use Rattle.bench_lines.proofs.Decimals.{spaced_append}
-use Rattle.model.specs.Answers.{first_of}
+use denote.Enum.Bare.{sameb}
+use Rattle.model.specs.contracts.refusal.Refusal.{the_type}
+use Rattle.model.specs.Answers.{first_of, number_of}
+use Rattle.model.specs.declared.refusal.Refusal.{Refusal}
+use Rattle.model.specs.declared.refusal.Refusal.TheVariants.{WrongLength, OpeningOutOfRange, BadKey, NotAnEvent, SameNode, NotARing, OutOfTable}
+use Rattle.model.specs.declared.refusal.Refusal.TheVariants.{NodeOff, AlreadyRunning, ClockSpent, PoolFull, KeyOutOfRange, ListTooShort, SidesDiffer}
+use Rattle.model.specs.declared.refusal.Refusal.TheVariants.{TablesClash, TooManyMessages, SenderFull, NotWatched, NotShort, PlaceTooSmall}
 use Rattle.model.specs.Events.{word_answer, is_event_word, event_of, same_node}
 use Rattle.model.specs.declared.event.Event.{Event}
 use Rattle.text_form.specs.Names.{word_name}
@@ -65,6 +71,28 @@ not_four false same = refl
 pub read_as_event : (w answer : ℕ) → answer ≡ word_answer w → not (eqb answer 4) ≡ is_event_word w
 unfolding word_answer
 read_as_event w answer e = rw e (not_four (is_event_word w) (same_node (event_of w)))
+
+pub not_an_event : (e : Refusal) → not (sameb the_type e NotAnEvent) ≡ not (eqb (number_of e) 4)
+not_an_event WrongLength = refl
+not_an_event OpeningOutOfRange = refl
+not_an_event BadKey = refl
+not_an_event NotAnEvent = refl
+not_an_event SameNode = refl
+not_an_event NotARing = refl
+not_an_event OutOfTable = refl
+not_an_event NodeOff = refl
+not_an_event AlreadyRunning = refl
+not_an_event ClockSpent = refl
+not_an_event PoolFull = refl
+not_an_event KeyOutOfRange = refl
+not_an_event ListTooShort = refl
+not_an_event SidesDiffer = refl
+not_an_event TablesClash = refl
+not_an_event TooManyMessages = refl
+not_an_event SenderFull = refl
+not_an_event NotWatched = refl
+not_an_event NotShort = refl
+not_an_event PlaceTooSmall = refl
 
 pub as_event : (w : ℕ) (e : Event) → is_event_word w ≡ true → e ≡ event_of w → event_text e ≡ word_text w
 unfolding word_text

@@ -9,7 +9,8 @@ ghost use Rattle.bench_lines.specs.Put.{Put};
 ghost use Rattle.text_form.specs.Describe.{event_text, raw_text, word_text};
 
 use bench_lines::{put_bytes, put_next};
-use model::event::{Event, Reading};
+use model::event::Event;
+use model::refusal::Refusal;
 use model::values::NodeNumber;
 use word_event::word::EventWord;
 
@@ -29,10 +30,9 @@ pub fn put_word(out: &mut [u8], at: usize, word: u32) -> usize
 fn is_event(word: u32) -> bool
     ensures value { result ≡ is_event_word word }
 {
-    let reading = word_event::read_event(word);
-    match reading {
-        Reading::Read(_) => true,
-        Reading::Refused(answer) => answers::number(answer) != 4,
+    match word_event::read_event(word) {
+        Ok(_) => true,
+        Err(refusal) => refusal != Refusal::NotAnEvent,
     }
 }
 
@@ -44,7 +44,7 @@ pub fn put_raw(out: &mut [u8], at: usize, word: u32) -> usize
 {
     let start = put_bytes(out, at, b"word ");
     let mut digits = [0u8; 16];
-    let k = io::hex(word as u64, 8, &mut digits);
+    let k = io::hex(u64::from(word), 8, &mut digits);
     put_bytes(out, start, &digits[..k])
 }
 
@@ -55,7 +55,7 @@ pub fn put_event(out: &mut [u8], at: usize, event: Event) -> usize
     ensures end { result ≤ at + 16 }
 {
     match event {
-        Event::On(x) => put_one(out, at, b"on", x.0 as u16),
+        Event::On(x) => put_one(out, at, b"on", u16::from(x.0)),
         Event::Off(x, polite) => put_off(out, at, x, polite),
         Event::Notice(x, z) => put_two(out, at, b"notice", x, z),
         Event::Contact(x, y) => put_two(out, at, b"contact", x, y),
@@ -72,7 +72,7 @@ fn put_one(out: &mut [u8], at: usize, name: &[u8], n: u16) -> usize
     ensures end { result ≤ at + 16 }
 {
     let first = put_bytes(out, at, name);
-    put_next(out, first, n as u64)
+    put_next(out, first, u64::from(n))
 }
 
 // Puts a name and two nodes.
@@ -93,7 +93,7 @@ fn put_node(out: &mut [u8], at: usize, x: NodeNumber) -> usize
     ensures bytes { Put out.old out.new at result (spaced (x.0 ∷ [])) }
     ensures end { result ≤ at + 4 }
 {
-    put_next(out, at, x.0 as u64)
+    put_next(out, at, u64::from(x.0))
 }
 
 // Puts an off, polite or not.
@@ -103,9 +103,9 @@ fn put_off(out: &mut [u8], at: usize, x: NodeNumber, polite: bool) -> usize
     ensures end { result ≤ at + 16 }
 {
     if polite {
-        return put_one(out, at, b"leave", x.0 as u16);
+        return put_one(out, at, b"leave", u16::from(x.0));
     }
-    put_one(out, at, b"off", x.0 as u16)
+    put_one(out, at, b"off", u16::from(x.0))
 }
 
 // Puts a delivery, or an echo.

@@ -1,3 +1,4 @@
+use mathlib.Core.Path.{◌∙◌}
 use borrow.Author.Rules.{rules}
 use Rattle.bench_lines.proofs.Puts.{put_as, put_more}
 use Rattle.model.specs.Sets.{of_bits}
@@ -12,6 +13,6 @@ pub returns : goal.returns
 returns c =
     let h = count_le 64 (of_bits c.args.held) in
     record {
-      bytes = put_as (put_more c.put_next-first.ensures.bytes c.put_members.ensures.bytes) (held_list _ c.size.ensures.value);
+      bytes = put_as (put_more c.put_next-first.ensures.bytes c.put_members.ensures.bytes) (held_list _ (c.from.ensures ∙ c.size.ensures.value));
       end = search rules;
     }

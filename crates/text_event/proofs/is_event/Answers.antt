@@ -1,20 +1,18 @@
 use mathlib.Core.Path.{sym, ap, ◌∙◌}
-use Rattle.model.specs.Events.{reading_of, read_event}
-use Rattle.text_event.proofs.Texts.{read_as_event}
+use Rattle.model.specs.Events.{read_event, reading_of}
+use Rattle.text_event.proofs.Texts.{not_an_event, read_as_event}
 use Rattle.text_event.proofs.is_event.Goals as goal
 
-pub returns-in-Read : goal.returns-in-Read
+pub returns-in-Ok : goal.returns-in-Ok
 unfolding read_event
-returns-in-Read c = record {
-  value = read_as_event _ 0 (ap (λ r. (reading_of r).answer) (sym c.in-Read.is) ∙ ap (λ r. r.answer) c.read_event-reading.ensures.value);
+returns-in-Ok c = record {
+  value = read_as_event _ 0 (ap (λ r. (reading_of r).answer) (sym c.in-Ok.is) ∙ ap (λ r. r.answer) c.read_event.ensures.value);
 }
 
-pub returns-in-Refused : goal.returns-in-Refused
+pub returns-in-Err : goal.returns-in-Err
 unfolding read_event
-returns-in-Refused c = record {
+returns-in-Err c = record {
   value =
-      read_as_event _ _
-      (c.number.ensures.answer
-      ∙ ap (λ r. (reading_of r).answer) (sym c.in-Refused.is)
-      ∙ ap (λ r. r.answer) c.read_event-reading.ensures.value);
+      c.ne.ensures ∙ not_an_event c.in-Err.refusal
+      ∙ read_as_event _ _ (ap (λ r. (reading_of r).answer) (sym c.in-Err.is) ∙ ap (λ r. r.answer) c.read_event.ensures.value);
 }

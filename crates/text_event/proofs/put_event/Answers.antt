@@ -8,7 +8,7 @@ pub returns-in-On : goal.returns-in-On
 unfolding event_text
 returns-in-On c =
     record {
-      bytes = put_as c.put_one.ensures.bytes (ap event_text (sym c.in-On.is));
+      bytes = put_as (rw c.from.ensures at c.put_one.ensures.bytes) (ap event_text (sym c.in-On.is));
       end = c.put_one.ensures.end;
     }
 

@@ -5,7 +5,8 @@ use Rattle.text_event.proofs.put_node.Goals as goal
 pub returns : goal.returns
 returns c =
     let short = spaced_short 2 c.args.x.0 (omega arith) in
+    let number = rw c.from.ensures at c.put_next.ensures.bytes in
     record {
-      bytes = c.put_next.ensures.bytes;
-      end = omega (arith, c.put_next.ensures.bytes.ends, short);
+      bytes = number;
+      end = omega (arith, number.ends, short);
     }

@@ -7,12 +7,12 @@ use Rattle.text_describe.proofs.opening.put_key.Goals as goal
 pub returns-then-s-eq0 : goal.returns-then-s-eq0
 returns-then-s-eq0 c =
     record {
-      bytes = put_as (put_more c.put_bytes-first.ensures.bytes c.put_next.ensures.bytes) (first_key _ _ c.if-s-eq0.true);
+      bytes = put_as (put_more c.put_bytes-first.ensures.bytes (rw c.from.ensures at c.put_next.ensures.bytes)) (first_key _ _ c.if-s-eq0.true);
       end = omega (arith, c.put_bytes-first.ensures.bytes.ends);
     }
 
 pub returns : goal.returns
 returns c = record {
-  bytes = put_as c.put_next-2.ensures.bytes (further_key _ _ c.if-s-eq0.false);
+  bytes = put_as (rw c.from-2.ensures at c.put_next-2.ensures.bytes) (further_key _ _ c.if-s-eq0.false);
   end = search rules;
 }
