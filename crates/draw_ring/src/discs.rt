@@ -15,10 +15,11 @@ use model::values::NodeNumber;
 fn radius(n: usize) -> u32
     ensures bound { result ≤ 44 }
 {
-    if n <= 16 {
-        return 44;
+    match n {
+        0..=16 => 44,
+        17..=32 => 28,
+        _ => 17,
     }
-    if n <= 32 { 28 } else { 17 }
 }
 
 // Puts the disc of node x at an angle.
@@ -56,11 +57,11 @@ fn put_each(
     ensures room { Room out.old out.new at result 19200 }
 {
     let mut end = at;
-    for x in 0..discs.len() {
+    for (x, angle) in discs.iter().enumerate() {
         end = put_node(
             words,
             NodeNumber(x as u8),
-            discs[x],
+            *angle,
             radius,
             groups[x],
             out,
@@ -84,7 +85,7 @@ pub fn put_discs(
     ensures room { Room out.old out.new at result 19250 }
 {
     let radius = radius(keys.len());
-    let size = (radius + radius / 4) as u64;
+    let size = u64::from(radius + radius / 4);
     let start = put_filled(out, at, b"<g font-size='%'>\n", &[size]);
     let end = put_each(words, discs, radius, groups, out, start);
     put_bytes(out, end, b"</g>\n")

@@ -1,4 +1,5 @@
-// The drawing of a ring, from words that read as one: leads, links, discs, and what is written beside them.
+// The drawing of a ring, from words that read as one: leads, links, discs, and what is written beside them. The words,
+// the keys, the angles and the groups stay slices of their own: each part draws from some of them.
 #![tactic(auto)]
 
 pub mod discs;
@@ -58,8 +59,8 @@ fn put_leads(keys: &[u32], discs: &[u32], out: &mut [u8], at: usize) -> usize
     ensures room { Room out.old out.new at result (225 * length keys.now) }
 {
     let mut end = at;
-    for x in 0..keys.len() {
-        end = node::put_lead(out, end, discs[x], draw_places::angle(keys[x]));
+    for (disc, key) in discs.iter().zip(keys) {
+        end = node::put_lead(out, end, *disc, draw_places::angle(*key));
     }
     end
 }

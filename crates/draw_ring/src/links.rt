@@ -47,10 +47,8 @@ fn put_link(
     if !sets::has(holder.held, z) {
         return at;
     }
-    let x = holder.x;
-    let me = x.0 as usize;
-    let other = z.0 as usize;
-    put_halves(words, holder, z, discs[me], discs[other], out, at)
+    let own = discs[holder.x.index()];
+    put_halves(words, holder, z, own, discs[z.index()], out, at)
 }
 
 // Puts the link of the holder to z, between discs at two angles: the holder's half, and that of z if z does not hold
@@ -117,8 +115,8 @@ pub fn put_links(
     ensures room { Room out.old out.new at result (26368 * length keys.now) }
 {
     let mut end = at;
-    for x in 0..keys.len() {
-        let holder = as_holder(words, keys, NodeNumber(x as u8), groups[x]);
+    for (x, group) in groups[..keys.len()].iter().enumerate() {
+        let holder = as_holder(words, keys, NodeNumber(x as u8), *group);
         end = put_links_of(words, discs, holder, out, end);
     }
     end

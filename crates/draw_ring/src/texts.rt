@@ -17,8 +17,8 @@ pub fn put_title(words: &[u32], n: usize, groups: u32, out: &mut [u8], at: usize
     let running = sets::size(ring_nodes::running(words, n));
     let numbers = [
         n as u64,
-        running as u64,
-        groups as u64,
+        u64::from(running),
+        u64::from(groups),
         ring_head::messages(words) as u64,
     ];
     put_filled(
@@ -57,12 +57,12 @@ pub fn put_lines(words: &[u32], keys: &[u32], groups: &[u8], out: &mut [u8], at:
     ensures room { Room out.old out.new at result 12800 }
 {
     let mut end = at;
-    for x in 0..keys.len() {
+    for (x, key) in keys.iter().enumerate() {
         end = put_line(
             words,
             keys.len(),
             NodeNumber(x as u8),
-            keys[x],
+            *key,
             groups[x],
             out,
             end,

@@ -3,5 +3,5 @@ use Prim.Native.Nat.{◌+◌, ◌*◌, ◌≤◌}
 use lib.ListN.{length}
 use Rattle.draw_ring.proofs.put_leads.Given as goal
 
-abbrev pub invariant-loop-x : goal.invariant-loop-x
-invariant-loop-x l = (l.x ≤ length l.keys) × (l.end ≤ l.at + 225 * l.x) × (length l.out ≡ length l.initial.out)
+abbrev pub invariant-loop-disc : goal.invariant-loop-disc
+invariant-loop-disc l = (l.end ≤ l.at + 225 * length l.yielded) × (length l.out ≡ length l.initial.out)
