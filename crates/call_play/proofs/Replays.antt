@@ -10,11 +10,12 @@ use native.Mathlib.Decide.{ℕ_discrete}
 use lib.ListN.{length, get_or, take, set, length-set}
 use lib.Seq.{take-length, get_or-set_same, get_or-set_other}
 use Rattle.model.specs.Leafset.{Table}
-use Rattle.model.specs.Answers.{number_of, first_of, is_accepted}
+use Rattle.model.specs.Answers.{answer_number, first_of, is_accepted}
 use Rattle.model.specs.Words.{reads_as_ring}
 use Rattle.model.specs.Buffer.{ring_refusals, ring_answer, Written, open_buffer, play_buffer, play_buffer_all}
 use Rattle.model.specs.ConnectivityPreserved.{words_at, answer_at}
-use Rattle.model.specs.declared.answer.Answer.{Answer}
+use Rattle.std.specs.Prelude.{Result}
+use Rattle.model.specs.declared.refusal.Refusal.{Refusal}
 use Rattle.model.proofs.Laws.{clash}
 use Rattle.model.proofs.Theorems.{opening_reads, playing_reads, refused_opening, connectivity_preserved, opening_preserves}
 use Rattle.answers.specs.Applied.{written}
@@ -59,9 +60,9 @@ more_placed {n} {a} {answers' = v} p e =
 
 -- one more word, answered a
 pub one_more_lem :
-    (a : Answer) {n : ℕ} {ws script answers u v ws' : List ℕ} → PlayedUpTo n ws script answers u v → n < length script
+    {A : Type 0} (a : Result A Refusal) {n : ℕ} {ws script answers u v ws' : List ℕ} → PlayedUpTo n ws script answers u v → n < length script
     → written a ws' ≡ play_buffer u (get_or script n 0)
-    → PlayedUpTo (n + 1) ws script answers ws' (set v n (number_of a))
+    → PlayedUpTo (n + 1) ws script answers ws' (set v n (answer_number a))
 one_more_lem a {n} {ws} {script} {u = u} {ws' = ws'} p h e =
     record {
       words = ap (λ (q : Written). q.words) given ∙ sym (next ws script n h) ∙ rw add-one;
@@ -74,12 +75,12 @@ one_more_lem a {n} {ws} {script} {u = u} {ws' = ws'} p h e =
 
 -- ---- a script on a ring that is there, by the answer of its words
 
-module _ (ws : List ℕ) (r : Answer) (asked : number_of r ≡ ring_answer ws) where
-  of_buffer : number_of r ≡ first_of (ring_refusals ws)
+module _ (ws : List ℕ) {A : Type 0} (r : Result A Refusal) (asked : answer_number r ≡ ring_answer ws) where
+  of_buffer : answer_number r ≡ first_of (ring_refusals ws)
   unfolding ring_answer
   of_buffer = asked
 
-  pub none_read : (script answers : List ℕ) → is_accepted (number_of r) ≡ false → PlayedAll ws script answers (number_of r) ws answers
+  pub none_read : (script answers : List ℕ) → is_accepted (answer_number r) ≡ false → PlayedAll ws script answers (answer_number r) ws answers
   none_read script answers n =
       record {
         answer = of_buffer;
@@ -90,13 +91,13 @@ module _ (ws : List ℕ) (r : Answer) (asked : number_of r ≡ ring_answer ws) w
         connectivity_preserved = λ ρ reached. connectivity_preserved ws ρ reached script;
       }
 
-  module _ (ok : number_of r ≡ 0) where
+  module _ (ok : answer_number r ≡ 0) where
     pub read_as_ring : reads_as_ring ws ≡ true
     read_as_ring = ring_reads ws (sym asked ∙ ok)
 
     pub all_played :
         {script answers ws' answers' : List ℕ} → PlayedUpTo (length script) ws script answers ws' answers'
-        → PlayedAll ws script answers (number_of r) ws' answers'
+        → PlayedAll ws script answers (answer_number r) ws' answers'
     all_played {script} p =
         record {
           answer = of_buffer;
@@ -109,22 +110,22 @@ module _ (ws : List ℕ) (r : Answer) (asked : number_of r ≡ ring_answer ws) w
 
 -- ---- a replay, by the answer of its opening
 
-module _ (old : List ℕ) (t : Table) (r : Answer) {u : List ℕ} (opened : written r u ≡ open_buffer old t) where
-  answered : number_of r ≡ (open_buffer old t).answer
+module _ (old : List ℕ) (t : Table) {A : Type 0} (r : Result A Refusal) {u : List ℕ} (opened : written r u ≡ open_buffer old t) where
+  answered : answer_number r ≡ (open_buffer old t).answer
   answered = ap (λ (q : Written). q.answer) opened
 
-  pub not_opened : (script answers : List ℕ) → is_accepted (number_of r) ≡ false → Replayed old t script answers (number_of r) u answers
+  pub not_opened : (script answers : List ℕ) → is_accepted (answer_number r) ≡ false → Replayed old t script answers (answer_number r) u answers
   unfolding replay_buffer
   not_opened script answers n =
       let refused = ap is_accepted (sym answered) ∙ n in
       record {
-        answer_and_words = rw (ap (λ (q : Written). q.words) opened ∙ refused_opening old t refused) (refuses old _ r _ refused answered);
+        answer_and_words = rw (ap (λ (q : Written). q.words) opened ∙ refused_opening old t refused) (refuses r old _ _ refused answered);
         places = λ a. clash (ap is_accepted a) n;
         refused_keeps_places = λ f. refl;
         connectivity_preserved = λ a. clash (ap is_accepted a) n;
       }
 
-  module _ (ok : number_of r ≡ 0) where
+  module _ (ok : answer_number r ≡ 0) where
     accepted_opening : (open_buffer old t).answer ≡ 0
     accepted_opening = sym answered ∙ ok
 
@@ -133,11 +134,11 @@ module _ (old : List ℕ) (t : Table) (r : Answer) {u : List ℕ} (opened : writ
 
     pub replayed :
         {script answers ws' answers' : List ℕ} → PlayedUpTo (length script) u script answers ws' answers'
-        → Replayed old t script answers (number_of r) ws' answers'
+        → Replayed old t script answers (answer_number r) ws' answers'
     unfolding replay_buffer
     replayed {script} {answers} {ws'} {answers'} p =
         record {
-          answer_and_words = accepts old ws' _ r _ accepted_opening answered (p.words ∙ ap₂ play_buffer_all opened_words (take-length script));
+          answer_and_words = accepts r old ws' _ _ accepted_opening answered (p.words ∙ ap₂ play_buffer_all opened_words (take-length script));
           places = λ a. subst (λ (ws : List ℕ). AnswersPlaced (length script) ws script answers answers') opened_words p.places;
           refused_keeps_places = λ n. clash (ap is_accepted ok) n;
           connectivity_preserved = λ a. opening_preserves old t accepted_opening script;

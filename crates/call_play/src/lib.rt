@@ -4,30 +4,26 @@
 
 ghost use Rattle.std.specs.Prelude.{◌≡◌, true, length, set};
 ghost use Rattle.model.specs.Buffer.{play_buffer};
-ghost use Rattle.model.specs.Answers.{number_of};
+ghost use Rattle.model.specs.Answers.{answer_number};
 ghost use Rattle.model.specs.Words.{reads_as_ring};
 ghost use Rattle.model.specs.Structs.{table_of};
 ghost use Rattle.answers.specs.Applied.{written};
 ghost use Rattle.call_play.specs.Replay.{PlayedUpTo, PlayedAll, Replayed};
 
 use call_open::open;
-use model::answer::Answer;
-use model::event::Reading;
+use model::refusal::Refusal;
 
 // 1; 4 and 5 of the word; 6; then those of the event.
-pub fn play(words: &mut [u32], word: u32) -> Answer
+pub fn play(words: &mut [u32], word: u32) -> Result<(), Refusal>
     ensures written { written result words.new ≡ play_buffer words.old word }
 {
-    let reading = call_refusals::of_event(words, word);
-    match reading {
-        Reading::Refused(answer) => answer,
-        Reading::Read(e) => event_play::play_event(words, e),
-    }
+    let event = call_refusals::of_event(words, word)?;
+    event_play::play_event(words, event)
 }
 
 // Writes the answer's number to place i, if there is one.
-fn note(answers: &mut [u8], i: usize, answer: Answer)
-    ensures answer { answers.new ≡ set answers.old i (number_of answer) }
+fn note(answers: &mut [u8], i: usize, answer: Result<(), Refusal>)
+    ensures answer { answers.new ≡ set answers.old i (answer_number answer) }
 {
     if i < answers.len() {
         answers[i] = answers::number(answer) as u8;
@@ -40,24 +36,21 @@ fn play_each(words: &mut [u32], script: &[u32], answers: &mut [u8])
     ensures played { PlayedUpTo (length script.now) words.old script.now
         answers.old words.new answers.new }
 {
-    for i in 0..script.len() {
-        let answer = event_play::play_word(words, script[i]);
+    for (i, word) in script.iter().enumerate() {
+        let answer = event_play::play_word(words, *word);
         note(answers, i, answer);
     }
 }
 
 // Plays a list of words on a ring that is there: 1; 6. The words are read as a ring once. Each answer's number is
 // written to its place; those past the places are dropped.
-pub fn play_all(words: &mut [u32], script: &[u32], answers: &mut [u8]) -> Answer
-    ensures played { PlayedAll words.old script.now answers.old (number_of result)
+pub fn play_all(words: &mut [u32], script: &[u32], answers: &mut [u8]) -> Result<(), Refusal>
+    ensures played { PlayedAll words.old script.now answers.old (answer_number result)
         words.new answers.new }
 {
-    let read = call_refusals::of_words(words);
-    if answers::is_refusal(read) {
-        return read;
-    }
+    call_refusals::of_words(words)?;
     play_each(words, script, answers);
-    read
+    Ok(())
 }
 
 // Opens a ring and plays a list of words on it. Each answer's number is written to its place; those past the places
@@ -69,15 +62,12 @@ pub fn replay(
     keys: &[u32],
     script: &[u32],
     answers: &mut [u8],
-) -> Answer
+) -> Result<(), Refusal>
     ensures replayed { Replayed words.old
         (table_of (record { ahead = clockwise; behind = counter_clockwise }) keys.now)
-        script.now answers.old (number_of result) words.new answers.new }
+        script.now answers.old (answer_number result) words.new answers.new }
 {
-    let opened = open(words, clockwise, counter_clockwise, keys);
-    if answers::is_refusal(opened) {
-        return opened;
-    }
+    open(words, clockwise, counter_clockwise, keys)?;
     play_each(words, script, answers);
-    opened
+    Ok(())
 }

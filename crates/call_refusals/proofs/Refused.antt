@@ -11,6 +11,7 @@ use Rattle.model.specs.WellFormed.{Each, nil, cons}
 use Rattle.model.specs.Play.{node_off}
 use Rattle.model.specs.Buffer.{ring_refusals, ring_answer}
 use Rattle.model.specs.Questions.{nodes_refusals, connection_answer}
+use Rattle.model.proofs.Cases.{number_high}
 use Rattle.model.proofs.Given.{passed_on}
 use Rattle.model.proofs.Laws.{not_out_false}
 use Rattle.model.proofs.Lists.{first, rest}
@@ -19,6 +20,9 @@ use Rattle.model.proofs.Answers.{none_applies, stays, passes}
 -- the answer of a call that `?` ends
 pub passed_answer : {A : Type 0} (r : Result A Kind) (e : Kind) → IsErrAnd r (λ d. d ≡ e) → {k : ℕ} → number_of e ≡ k → answer_number r ≡ k
 passed_answer r e i n = ap answer_number (passed_on r e i) ∙ n
+
+pub passed_refusal : {A : Type 0} (r : Result A Kind) (e : Kind) → IsErrAnd r (λ d. d ≡ e) → is_accepted (answer_number r) ≡ false
+passed_refusal r e i = ap (λ (q : Result _ Kind). is_accepted (answer_number q)) (passed_on r e i) ∙ number_high e
 
 module _ (ws : List ℕ) where
   -- ---- refusals 1 and 6 come first

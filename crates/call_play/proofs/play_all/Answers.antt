@@ -1,21 +1,19 @@
 use mathlib.Core.Path.{refl}
-use Rattle.answers.proofs.Answered.{refused, accepted}
+use Rattle.std.specs.Prelude.{Ok}
+use Rattle.call_refusals.proofs.Refused.{passed_answer, passed_refusal}
 use Rattle.call_play.proofs.Replays.{none_read, read_as_ring, all_played}
 use Rattle.call_play.proofs.play_all.Goals as goal
 
-pub returns-then-is_refusal : goal.returns-then-is_refusal
-returns-then-is_refusal c = record { played = none_read _ c.of_words-read.result c.of_words-read.ensures.answer _ _ (refused c.of_words-read.result _ refl c.is_refusal.ensures.value c.if-is_refusal.true) }
+pub returns-in_err-of_words : goal.returns-in_err-of_words
+returns-in_err-of_words c = record {
+  played =
+      let r = c.from_residual.result in
+      let passed = c.from_residual.ensures.1 in
+      none_read _ r (passed_answer r _ passed c.in_err-of_words.ensures.answer) _ _ (passed_refusal r _ passed);
+}
 
 pub play_each-requires : goal.play_each-requires
-play_each-requires c = record {
-  ring =
-      let ok = accepted c.of_words-read.result _ refl c.is_refusal.ensures.value c.if-is_refusal.false in
-      read_as_ring _ c.of_words-read.result c.of_words-read.ensures.answer ok;
-}
+play_each-requires c = record { ring = read_as_ring _ (Ok (tt {0})) c.in_ok-of_words.ensures.answer refl }
 
 pub returns : goal.returns
-returns c = record {
-  played =
-      let ok = accepted c.of_words-read.result _ refl c.is_refusal.ensures.value c.if-is_refusal.false in
-      all_played _ c.of_words-read.result c.of_words-read.ensures.answer ok c.play_each.ensures.played;
-}
+returns c = record { played = all_played _ (Ok (tt {0})) c.in_ok-of_words.ensures.answer refl c.play_each.ensures.played }
