@@ -36,8 +36,8 @@ fn key_is_new(words: &[u32], x: usize) -> bool
 {
     let key = KeyWord(words[place::NODES + 2 * x]).key();
     let mut ok = true;
-    for y in 0..x {
-        ok &= KeyWord(words[place::NODES + 2 * y]).key() != key;
+    for node in words[place::NODES..place::NODES + 2 * x].chunks_exact(2) {
+        ok &= KeyWord(node[0]).key() != key;
     }
     ok
 }

@@ -18,7 +18,7 @@ fn rest_reads(short: &[u32], n: usize, m: usize) -> bool
     ensures value { result ≡ reads_as_short short.now }
 {
     let messages = 1 + 2 * (n * n);
-    if !(short.len() == messages + 5 * m) {
+    if short.len() != messages + 5 * m {
         return false;
     }
     nodes::nodes_read(short, n)
@@ -31,7 +31,7 @@ fn rest_reads(short: &[u32], n: usize, m: usize) -> bool
 pub fn reads_as_short(short: &[u32]) -> bool
     ensures value { result ≡ reads_as_short short.now }
 {
-    if short.len() == 0 {
+    if short.is_empty() {
         return false;
     }
     let w = short[0];
