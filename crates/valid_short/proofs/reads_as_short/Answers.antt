@@ -1,12 +1,13 @@
 use mathlib.Core.Path.{sym, ◌∙◌}
 use native.Mathlib.Omega.{arith}
+use borrow.Author.Tests.{eqb-true}
 use Rattle.model.specs.Words.{at}
 use Rattle.valid_ring.proofs.Regions.{head_ranges}
 use Rattle.valid_short.proofs.ShortRegions.{empty_fails, short_head_fails}
 use Rattle.valid_short.proofs.reads_as_short.Goals as goal
 
-pub returns-then-short-eq0 : goal.returns-then-short-eq0
-returns-then-short-eq0 c = record { value = empty_fails c.args.short.now c.if-short-eq0.true }
+pub returns-then-is_empty : goal.returns-then-is_empty
+returns-then-is_empty c = record { value = empty_fails c.args.short.now (eqb-true _ _ (sym c.is_empty.ensures ∙ c.if-is_empty.true)) }
 
 pub returns-then-not-head_reads : goal.returns-then-not-head_reads
 returns-then-not-head_reads c = record {

@@ -20,13 +20,13 @@ overflow_add-messages c = let h = square_high c.args.n c.requires.bounds.1 in se
 pub overflow_add-messages-2 : goal.overflow_add-messages-2
 overflow_add-messages-2 c = let h = square_high c.args.n c.requires.bounds.1 in search rules
 
-pub returns-then-not-short-messages : goal.returns-then-not-short-messages
-returns-then-not-short-messages c = record {
+pub returns-then-short-messages : goal.returns-then-short-messages
+returns-then-short-messages c = record {
   value =
       let a = c.args in
       let ws = a.short.now in
       wrong_length_lem ws a.n a.m c.requires.head.1 c.requires.head.2 c.requires.bounds.1 c.requires.bounds.2
-      (ne_eqb _ _ c.if-not-short-messages.true);
+      (ne_eqb _ _ c.if-short-messages.true);
 }
 
 pub nodes_read-requires : goal.nodes_read-requires
@@ -34,7 +34,7 @@ nodes_read-requires c = record {
   words =
       let a = c.args in
       let ws = a.short.now in
-      let long = c.if-not-short-messages.false in
+      let long = c.if-short-messages.false in
       let w = square_low a.n c.requires.bounds.0 in
       (omega (arith, long, w), c.requires.bounds.1);
 }
@@ -44,7 +44,7 @@ keys_differ-requires c = record {
   words =
       let a = c.args in
       let ws = a.short.now in
-      let long = c.if-not-short-messages.false in
+      let long = c.if-short-messages.false in
       let w = square_low a.n c.requires.bounds.0 in
       (omega (arith, long, w), c.requires.bounds.1, c.requires.head.1);
 }
@@ -54,7 +54,7 @@ short_pairs_read-requires c = record {
   words =
       let a = c.args in
       let ws = a.short.now in
-      let long = c.if-not-short-messages.false in
+      let long = c.if-short-messages.false in
       (omega (arith, long), c.requires.bounds.0, c.requires.bounds.1);
 }
 
@@ -63,7 +63,7 @@ messages_read-requires c = record {
   words =
       let a = c.args in
       let ws = a.short.now in
-      let long = c.if-not-short-messages.false in
+      let long = c.if-short-messages.false in
       (omega (arith, long), c.requires.bounds.0, c.requires.bounds.1, c.requires.bounds.2);
 }
 
@@ -72,7 +72,7 @@ returns c = record {
   value =
       let a = c.args in
       let ws = a.short.now in
-      let long = c.if-not-short-messages.false in
+      let long = c.if-short-messages.false in
       ap₂ ◌&&◌ (ap₂ ◌&&◌ (ap₂ ◌&&◌
       c.nodes_read.ensures.value c.keys_differ.ensures.value) c.short_pairs_read.ensures.value)
       (c.messages_read.ensures.value (decode_table ws) (size_is ws ∙ sym c.requires.head.1))
