@@ -118,8 +118,8 @@ module _ (fs ss : List ℕ) where
 -- ---- what acceptance says
 
 pub record Joinable (first second third : List ℕ) : Type 0 where
-  pub first_reads_lem : reads_as_ring first ≡ true
-  pub second_reads : reads_as_ring second ≡ true
+  pub first_is_ring : reads_as_ring first ≡ true
+  pub second_is_ring : reads_as_ring second ≡ true
   pub third_long : length third ≡ ring_length
   pub few_nodes : size (decode_table first) + size (decode_table second) ≤ 64
   pub few_messages : length (decode first).messages + length (decode second).messages ≤ 1024
@@ -131,8 +131,8 @@ joinable fs ss ts a =
     let reads = rest (rest (rest each)) in
     let joins = rest (rest reads) in
     record {
-      first_reads_lem = not_out_false (reads_as_ring fs) (first reads);
-      second_reads = not_out_false (reads_as_ring ss) (first (rest reads));
+      first_is_ring = not_out_false (reads_as_ring fs) (first reads);
+      second_is_ring = not_out_false (reads_as_ring ss) (first (rest reads));
       third_long = eqb-true (length ts) ring_length (not_out_false _ (first (rest (rest each))));
       few_nodes = ltb-false 64 (size (decode_table fs) + size (decode_table ss)) (or_none_left _ (shares_key (decode fs) (decode ss)) (first (rest joins)));
       few_messages = ltb-false 1024 (length (decode fs).messages + length (decode ss).messages) (first (rest (rest joins)));

@@ -3,7 +3,7 @@
 #![tactic(auto)]
 
 ghost use Rattle.std.specs.Prelude.{◌≡◌, true, ◌≤◌, length, eqb};
-ghost use Rattle.model.specs.Answers.{number_of, first_of};
+ghost use Rattle.model.specs.Answers.{answer_number, first_of};
 ghost use Rattle.model.specs.Leafset.{size};
 ghost use Rattle.model.specs.Leafset as model;
 ghost use Rattle.model.specs.Sets.{some};
@@ -12,7 +12,7 @@ ghost use Rattle.model.specs.Join.{shares_key, joining_refusals, join_answer, jo
 ghost use Rattle.answers.specs.Applied.{written};
 
 use call_refusals::as_long;
-use model::answer::Answer;
+use model::refusal::Refusal;
 use model::values::{Key, NodeNumber};
 use word_ring::limit;
 
@@ -23,7 +23,7 @@ fn has_key(words: &[u32], n: usize, key: Key) -> bool
 {
     let mut found = false;
     for y in 0..n {
-        found = found | (key.0 == ring_head::key(words, NodeNumber(y as u8)).0);
+        found |= key.0 == ring_head::key(words, NodeNumber(y as u8)).0;
     }
     found
 }
@@ -37,61 +37,58 @@ fn shares_key(first: &[u32], second: &[u32]) -> bool
     let k = ring_head::nodes(second);
     let mut found = false;
     for x in 0..ring_head::nodes(first) {
-        found = found | has_key(second, k, ring_head::key(first, NodeNumber(x as u8)));
+        found |= has_key(second, k, ring_head::key(first, NodeNumber(x as u8)));
     }
     found
 }
 
 // 14, 15 and 16.
-fn of_rings(first: &[u32], second: &[u32]) -> Answer
+fn of_rings(first: &[u32], second: &[u32]) -> Result<(), Refusal>
     requires rings { (reads_as_ring first.now ≡ true) × (reads_as_ring second.now ≡ true) }
-    ensures answer { number_of result
+    ensures answer { answer_number result
         ≡ first_of (joining_refusals (decode first.now) (decode second.now)) }
 {
     let ours = ring_head::sides(first);
     let theirs = ring_head::sides(second);
     if !((ours.ahead == theirs.ahead) & (ours.behind == theirs.behind)) {
-        return Answer::SidesDiffer;
+        return Err(Refusal::SidesDiffer);
     }
     if 64 < ring_head::nodes(first) + ring_head::nodes(second) {
-        return Answer::TablesClash;
+        return Err(Refusal::TablesClash);
     }
     if shares_key(first, second) {
-        return Answer::TablesClash;
+        return Err(Refusal::TablesClash);
     }
     if limit::MESSAGES < ring_head::messages(first) + ring_head::messages(second) {
-        return Answer::TooManyMessages;
+        return Err(Refusal::TooManyMessages);
     }
-    Answer::Accepted
+    Ok(())
 }
 
 // 1 of any of the three; 6 of the first, then of the second; those of two rings.
-fn refusal(first: &[u32], second: &[u32], joined: &[u32]) -> Answer
-    ensures answer { number_of result
+fn refusal(first: &[u32], second: &[u32], joined: &[u32]) -> Result<(), Refusal>
+    ensures answer { answer_number result
         ≡ join_answer first.now second.now joined.now }
 {
     if !(as_long(first) & as_long(second) & as_long(joined)) {
-        return Answer::WrongLength;
+        return Err(Refusal::WrongLength);
     }
     if !valid_ring::reads_as_ring(first) {
-        return Answer::NotARing;
+        return Err(Refusal::NotARing);
     }
     if !valid_ring::reads_as_ring(second) {
-        return Answer::NotARing;
+        return Err(Refusal::NotARing);
     }
     of_rings(first, second)
 }
 
 // The first's nodes keep their numbers, the second's rise.
-pub fn join(first: &[u32], second: &[u32], joined: &mut [u32]) -> Answer
+pub fn join(first: &[u32], second: &[u32], joined: &mut [u32]) -> Result<(), Refusal>
     ensures written { written result joined.new
         ≡ join_buffer first.now second.now joined.old }
     ensures sources { (first.now ≡ first.now) × (second.now ≡ second.now) }
 {
-    let answer = refusal(first, second, joined);
-    if answers::is_refusal(answer) {
-        return answer;
-    }
+    refusal(first, second, joined)?;
     ring_join::write(first, second, joined);
-    answer
+    Ok(())
 }

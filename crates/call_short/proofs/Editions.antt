@@ -9,12 +9,13 @@ use lib.ListN.{length, get_or, drop, length-append, length-drop, get_or-append}
 use lib.Seq.{ext_get_or, get_or-append-add, get_or-drop}
 use lib.Dec.{ltb, eqb}
 use borrow.Author.Tests.{ltb-true, lt-ltb, le-ltb}
-use Rattle.model.specs.Answers.{first_of, is_accepted, number_of}
+use Rattle.model.specs.Answers.{first_of, is_accepted, answer_number}
 use Rattle.model.specs.Words.{ring_length, at, node_place, decode_table, decode_message, decode, reads_as_ring, size_in, count_in}
 use Rattle.model.specs.Buffer.{Written, ring_refusals, ring_answer}
 use Rattle.model.specs.WellFormed.{nil, cons}
-use Rattle.model.specs.declared.answer.Answer.{Answer}
-use Rattle.model.specs.declared.answer.Answer.TheVariants.{Accepted, WrongLength, NotShort}
+use Rattle.std.specs.Prelude.{Result, Ok, Err}
+use Rattle.model.specs.declared.refusal.Refusal.{Refusal}
+use Rattle.model.specs.declared.refusal.Refusal.TheVariants.{WrongLength, NotShort}
 use Rattle.model.proofs.Lists.{first, rest}
 use Rattle.model.proofs.Laws.{not_out_false, every_out, length_tabulate}
 use Rattle.model.proofs.Words.{reads_out}
@@ -135,22 +136,22 @@ not_empty short e =
     (first (every_out (ltb 0 (length short) ∷ eqb (length short) (short_length (size_in short) (count_in short)) ∷ reads_as_ring (lengthened short) ∷ []) e))
 
 module _ (short ws : List ℕ) where
-  pub not_as_long : eqb (length ws) ring_length ≡ false → written WrongLength ws ≡ lengthen_buffer short ws
+  pub not_as_long : eqb (length ws) ring_length ≡ false → written {A = Unit {0}} (Err WrongLength) ws ≡ lengthen_buffer short ws
   unfolding lengthen_buffer lengthen_answer first_of
   not_as_long e = rw e
 
   module _ (long : eqb (length ws) ring_length ≡ true) where
-    pub not_short_lem : reads_as_short short ≡ false → written NotShort ws ≡ lengthen_buffer short ws
+    pub not_short_lem : reads_as_short short ≡ false → written {A = Unit {0}} (Err NotShort) ws ≡ lengthen_buffer short ws
     unfolding lengthen_buffer lengthen_answer first_of
     not_short_lem e = rw (long, e)
 
     pub lengthens : {n m : ℕ} {ws' : List ℕ} → reads_as_short short ≡ true → n ≡ size_in short → m ≡ count_in short
-        → ws' ≡ tabulate ring_length (long_word n m short) → written Accepted ws' ≡ lengthen_buffer short ws
+        → ws' ≡ tabulate ring_length (long_word n m short) → written {A = Unit {0}} (Ok tt) ws' ≡ lengthen_buffer short ws
     unfolding lengthen_buffer lengthen_answer first_of lengthened
     lengthens e size count is = rw (long, e, is, size, count)
 
   -- what an accepted call leaves reads as a ring
-  pub lengthened_reads : (a : Answer) {ws' : List ℕ} → written a ws' ≡ lengthen_buffer short ws → number_of a ≡ 0 → reads_as_ring ws' ≡ true
+  pub lengthened_reads : {A : Type 0} (a : Result A Refusal) {ws' : List ℕ} → written a ws' ≡ lengthen_buffer short ws → answer_number a ≡ 0 → reads_as_ring ws' ≡ true
   unfolding lengthen_buffer lengthen_answer
   lengthened_reads a e z =
       let ok : first_of (lengthen_refusals short ws) ≡ 0 = sym (ap (λ (w : Written). w.answer) e) ∙ z in

@@ -7,15 +7,8 @@ ghost use Rattle.model.specs.Short.{shorten_buffer, lengthen_buffer};
 ghost use Rattle.answers.specs.Applied.{written};
 ghost use Rattle.call_short.specs.Shortening.{shortened};
 
-use model::answer::Answer;
+use model::refusal::Refusal;
 use word_ring::HeadWord;
-
-// The answer, and how many words were written.
-#[derive(Clone, Copy)]
-pub struct Shortened {
-    pub answer: Answer,
-    pub written: u32,
-}
 
 // The words of a short ring of n nodes and m messages.
 fn words_of(n: usize, m: usize) -> usize
@@ -26,41 +19,32 @@ fn words_of(n: usize, m: usize) -> usize
     1 + 2 * (n * n) + 5 * m
 }
 
-// 1 and 6 of the ring; 20.
-pub fn shorten(words: &[u32], short: &mut [u32]) -> Shortened
+// 1 and 6 of the ring; 20. How many words were written.
+pub fn shorten(words: &[u32], short: &mut [u32]) -> Result<u32, Refusal>
     ensures short { shortened result short.new
         ≡ shorten_buffer words.now short.old }
 {
-    let answer = call_refusals::of_words(words);
-    if answers::is_refusal(answer) {
-        return Shortened { answer, written: 0 };
-    }
+    call_refusals::of_words(words)?;
     let n = ring_head::nodes(words);
     let m = ring_head::messages(words);
     let count = words_of(n, m);
     if short.len() < count {
-        return Shortened {
-            answer: Answer::PlaceTooSmall,
-            written: 0,
-        };
+        return Err(Refusal::PlaceTooSmall);
     }
     ring_short::shorten(words, n, m, short);
-    Shortened {
-        answer,
-        written: count as u32,
-    }
+    Ok(count as u32)
 }
 
 // 1 of the long buffer; 19 of the short one.
-pub fn lengthen(short: &[u32], words: &mut [u32]) -> Answer
+pub fn lengthen(short: &[u32], words: &mut [u32]) -> Result<(), Refusal>
     ensures written { written result words.new
         ≡ lengthen_buffer short.now words.old }
 {
     if !call_refusals::as_long(words) {
-        return Answer::WrongLength;
+        return Err(Refusal::WrongLength);
     }
     if !valid_short::reads_as_short(short) {
-        return Answer::NotShort;
+        return Err(Refusal::NotShort);
     }
     let head = HeadWord(short[0]);
     ring_short::lengthen(
@@ -69,5 +53,5 @@ pub fn lengthen(short: &[u32], words: &mut [u32]) -> Answer
         head.messages() as usize,
         words,
     );
-    Answer::Accepted
+    Ok(())
 }

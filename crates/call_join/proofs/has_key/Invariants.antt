@@ -1,6 +1,6 @@
 -- What was found below y, by one more test.
 use mathlib.Core.Path.{◌≡◌}
-use Prim.Native.Nat.{◌-◌, ◌≤◌}
+use Prim.Native.Nat.{◌≤◌}
 use Rattle.model.specs.Sets.{some}
 use Rattle.call_join.proofs.Refused.{is_key}
 use Rattle.call_join.proofs.has_key.Given as goal

@@ -1,31 +1,35 @@
 -- Refused, nothing is written; accepted, what acceptance says is what the writing requires.
-use mathlib.Core.Path.{refl}
+use mathlib.Core.Path.{refl, sym, ap, ◌∙◌}
+use Rattle.std.specs.Prelude.{Ok}
+use Rattle.model.specs.Answers.{answer_number}
 use Rattle.model.specs.Join.{join_buffer}
-use Rattle.answers.proofs.Answered.{refused, accepted, refuses, accepts}
+use Rattle.model.proofs.Given.{passed_on, refuses_with}
+use Rattle.answers.proofs.Answered.{refuses, accepts}
 use Rattle.call_join.proofs.Refused.{joinable}
 use Rattle.call_join.proofs.join.Goals as goal
 
-pub returns-then-is_refusal : goal.returns-then-is_refusal
+pub returns-in_err-refusal : goal.returns-in_err-refusal
 unfolding join_buffer
-returns-then-is_refusal c =
+returns-in_err-refusal c =
+    let number = c.in_err-refusal.ensures.answer in
     record {
-      written = refuses _ _ c.refusal-answer.result _ (refused c.refusal-answer.result _ c.refusal-answer.ensures.answer c.is_refusal.ensures.value c.if-is_refusal.true) c.refusal-answer.ensures.answer;
+      written = refuses _ _ _ _ (refuses_with _ number) (ap answer_number (passed_on _ _ c.from_residual.ensures.1) ∙ number);
       sources = (refl, refl);
     }
 
 pub write-requires : goal.write-requires
 write-requires c =
-    let j = joinable _ _ _ (accepted c.refusal-answer.result _ c.refusal-answer.ensures.answer c.is_refusal.ensures.value c.if-is_refusal.false) in
+    let j = joinable _ _ _ (sym c.in_ok-refusal.ensures.answer) in
     record {
-      rings = (j.first_reads_lem, j.second_reads, j.third_long);
+      rings = (j.first_is_ring, j.second_is_ring, j.third_long);
       room = (j.few_nodes, j.few_messages);
     }
 
 pub returns : goal.returns
 unfolding join_buffer
 returns c =
-    let none = accepted c.refusal-answer.result _ c.refusal-answer.ensures.answer c.is_refusal.ensures.value c.if-is_refusal.false in
+    let none = sym c.in_ok-refusal.ensures.answer in
     record {
-      written = accepts _ _ _ c.refusal-answer.result _ none c.refusal-answer.ensures.answer c.write.ensures.words;
+      written = accepts (Ok (tt {0})) _ _ _ _ none (sym none) c.write.ensures.words;
       sources = (refl, refl);
     }

@@ -1,6 +1,5 @@
 -- Each test in the order of the refusals: the first that holds gives its number.
 use mathlib.Core.Path.{sym, ◌∙◌}
-use borrow.Author.Tests.{not-true, not-false}
 use Rattle.model.proofs.Answers.{here, next, no_more}
 use Rattle.answers.proofs.Valid.{long, few}
 use Rattle.call_join.proofs.Refused.{sides_differ_lem, same_sides, many_nodes, key_shared_lem, no_clash, many_messages, few_messages}

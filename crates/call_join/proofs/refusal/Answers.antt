@@ -1,6 +1,5 @@
 -- The lengths, then each source, then both as rings: the first that applies gives its number.
 use mathlib.Core.Path.{sym, ◌∙◌}
-use borrow.Author.Tests.{not-true, not-false}
 use Rattle.model.proofs.Answers.{here, next}
 use Rattle.answers.proofs.Refusals.{no_ring, a_ring}
 use Rattle.call_join.proofs.Refused.{wrong_length_lem, first_long, second_long, lengths_pass}

@@ -1,6 +1,6 @@
 -- What was found of the first's nodes below x, by one more search among the second's.
 use mathlib.Core.Path.{◌≡◌}
-use Prim.Native.Nat.{◌-◌, ◌≤◌}
+use Prim.Native.Nat.{◌≤◌}
 use Rattle.model.specs.Leafset.{size}
 use Rattle.model.specs.Sets.{some}
 use Rattle.model.specs.Words.{decode_table}

@@ -1,7 +1,7 @@
 -- 1 of the long buffer; then 19; then the runs are put back.
 use mathlib.Core.Path.{sym, ◌∙◌}
 use native.Mathlib.Omega.{arith}
-use borrow.Author.Tests.{not-true, not-false, eqb-true}
+use borrow.Author.Tests.{eqb-true}
 use Rattle.call_short.proofs.Editions.{stored, not_empty, not_as_long, not_short_lem, lengthens}
 use Rattle.call_short.proofs.lengthen.Goals as goal
 
