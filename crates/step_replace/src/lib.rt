@@ -67,6 +67,13 @@ pub fn on_ping_replace(
     EffectRecord::replying(next, answer)
 }
 
+// Whether a stamp is earlier than another of the same clock.
+fn is_before(stamp: Stamp, other: Stamp) -> bool
+    ensures value { result ≡ ltb stamp.0 other.0 }
+{
+    stamp < other
+}
+
 // "take y in; then, if z's commit is below the message's stamp, let go of z and set y's commit to now"
 fn replaced(time: Stamp, own: NodeRecord, y: NodeNumber, z: NodeNumber, stamp: Stamp) -> NodeRecord
     requires record { (time.0 < 2 ^ 24) × (y.0 < 64) × (z.0 < 64) × OwnFits 64 own }
@@ -77,7 +84,7 @@ fn replaced(time: Stamp, own: NodeRecord, y: NodeNumber, z: NodeNumber, stamp: S
         else steps.hold time.0 y.0 (own_of own)) }
 {
     let next = hold(own, time, y);
-    if own.commit[z.index()] < stamp {
+    if is_before(own.commit[z.index()], stamp) {
         set_commit(release(next, z), y, time)
     } else {
         next
