@@ -50,8 +50,8 @@ fn raised(set: u64, b: bool) -> u64
     2 * set + u64::from(b)
 }
 
-// Writes the pairs of x and each z from a up to b. Bit 0 of the two sets is z's. z counts, since it has a place in each of
-// three arrays.
+// Writes the pairs of x and each z from a up to b. Bit 0 of the two sets is z's. z counts, since it has a place in each
+// of three arrays.
 pub fn store(words: &mut [u32], x: usize, a: usize, b: usize, own: NodeRecord)
     requires words { (length words.old ≡ ring_length) × (x < 64) × (a ≤ b) × (b ≤ 64) × RoomNode own }
     ensures value { Stored words.old words.new x a b (own_of own) }
@@ -70,8 +70,8 @@ pub fn store(words: &mut [u32], x: usize, a: usize, b: usize, own: NodeRecord)
     }
 }
 
-// Clears the pairs of x and each z from a up to b: `store` of an empty record, with no record to read. z counts, since a
-// proof knows nothing of what is written through `chunks_exact_mut`.
+// Clears the pairs of x and each z from a up to b: `store` of an empty record, with no record to read. z counts, since
+// a proof knows nothing of what is written through `chunks_exact_mut`.
 pub fn clear(words: &mut [u32], x: usize, a: usize, b: usize)
     requires words { (length words.old ≡ ring_length) × (x < 64) × (a ≤ b) × (b ≤ 64) }
     ensures value { Stored words.old words.new x a b cleared }

@@ -23,7 +23,7 @@ fn shorten_row(words: &[u32], n: usize, x: usize, short: &mut [u32], at: usize)
     copy_span(words, row + 2 * x + 2, short, at + 2 * x, 2 * (n - 1 - x));
 }
 
-// Copies the rows of n nodes, and answers where they end.
+// Copies the rows of n nodes, and answers where they end. A row has no words where n is 1, so it is no chunk of them.
 fn shorten_rows(words: &[u32], n: usize, short: &mut [u32]) -> usize
     requires words { (length words.now ≡ ring_length) × (n ≤ 64) × (1 ≤ n)
         × (short_row n n ≤ length short.old) }
@@ -53,7 +53,8 @@ pub fn shorten(words: &[u32], n: usize, m: usize, short: &mut [u32])
     copy_span(words, place::MESSAGES, short, end, 5 * m);
 }
 
-// Puts the row of x back, with 0 for x itself and for what is no node.
+// Puts the row of x back, with 0 for x itself and for what is no node: the way back of `shorten_row`, which only
+// copies.
 fn lengthen_row(short: &[u32], at: usize, n: usize, x: usize, words: &mut [u32])
     requires words { (length words.old ≡ ring_length) × (n ≤ 64) × (x < n)
         × (at + 2 * (n - 1) ≤ length short.now) }

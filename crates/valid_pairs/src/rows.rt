@@ -1,5 +1,5 @@
 // The row of a running node in one pass, spares and all: the quicker way where it has spares.
-ghost use Rattle.std.specs.Prelude.{◌≡◌, ◌+◌, ◌*◌, ◌^◌, ◌<◌, ◌≤◌, ◌&&◌, length, if◌then◌else◌};
+ghost use Rattle.std.specs.Prelude.{◌≡◌, ◌+◌, ◌*◌, ◌^◌, ◌<◌, ◌≤◌, ◌&&◌, length};
 ghost use Rattle.model.specs.Words.{ring_length};
 ghost use Rattle.model.specs.Sets.{count, all};
 ghost use Rattle.valid_pairs.specs.Pairs.{link_at, link_reads, spare_reads, run_reads, others_read};

@@ -7,7 +7,8 @@ ghost use Rattle.valid_pairs.specs.Rows.{nothing_at};
 use super::rows::fitting;
 use word_ring::{KeyWord, PairWord, SpareWord, place};
 
-// The k pairs from `row` on have neither a link nor a spare. i counts, since `chunks_exact(2)` takes a tenth longer.
+// The k pairs from `row` on have neither a link nor a spare: `off_row`, where no pair is of x with itself. i counts,
+// since `chunks_exact(2)` takes a tenth longer.
 fn nothing(words: &[u32], row: usize, k: usize) -> bool
     requires words { (row + 2 * k ≤ length words.now) × (k ≤ 64) }
     ensures value { result ≡ all k (λ i. nothing_at words.now (row + 2 * i)) }

@@ -1,6 +1,6 @@
-// The ring's words as types: kinds and message types, constructors and readers. Beside a kind, EMPTY is its word with
-// every named bit 0; a field that does not begin at bit 0 has the value of its lowest bit. A word type each, though some
-// differ in no more than their kind: an alias of a generic type would be no constructor.
+// The ring's words as types: kinds, constructors and readers. Beside a kind, EMPTY is its word with every named bit 0;
+// a field that does not begin at bit 0 has the value of its lowest bit. A word type each, though some differ in no more
+// than their kind: an alias of a generic type would be no constructor.
 #![tactic(auto)]
 
 pub mod limit;
@@ -216,29 +216,7 @@ impl MessageWord {
 
     pub const SUBJECT: u32 = 0x1_0000;
 
-    pub const PING_CONTACT: u8 = 1;
-
-    pub const PONG_CONTACT: u8 = 2;
-
-    pub const PING_ASK_INV: u8 = 3;
-
-    pub const PONG_ASK_INV: u8 = 4;
-
-    pub const PING_INVITE: u8 = 5;
-
-    pub const PONG_INVITE: u8 = 6;
-
-    pub const PING_ASK_REPL: u8 = 7;
-
-    pub const PONG_ASK_REPL: u8 = 8;
-
-    pub const PING_REPLACE: u8 = 9;
-
     pub const PONG_REPLACE: u8 = 10;
-
-    pub const PING_DELOOPY: u8 = 11;
-
-    pub const PONG_DELOOPY: u8 = 12;
 
     pub const LEAVE: u8 = 13;
 
