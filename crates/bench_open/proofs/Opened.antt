@@ -1,5 +1,5 @@
 -- A script's first words have opened a ring.
-use mathlib.Core.Path.{◌≡◌, sym, ap, ◌∙◌}
+use mathlib.Core.Path.{◌≡◌, refl, sym, ap, ◌∙◌}
 use mathlib.Core.Bool.{true, false}
 use mathlib.Core.List.{List}
 use Prim.Native.Nat.{ℕ, ◌+◌, ◌≤◌}
@@ -12,7 +12,10 @@ use Rattle.model.specs.declared.refusal.Refusal.{Refusal}
 use Rattle.model.specs.Words.{encode, decode_table, decode, reads_as_ring}
 use Rattle.model.specs.Buffer.{Written}
 use Rattle.model.specs.Bench.{script_table, script_answer}
-use Rattle.std.specs.Prelude.{Result}
+use Rattle.std.specs.Prelude.{Result, Ok, Err}
+use Rattle.std.specs.Result.{is_err}
+use Rattle.model.proofs.Laws.{clash}
+use Rattle.model.proofs.Cases.{number_high}
 use Rattle.model.proofs.Answers.{accepted_is}
 use Rattle.answers.specs.Applied.{written}
 use Rattle.bench_open.specs.Beginning.{open_script}
@@ -57,3 +60,13 @@ module _ {ws script : List ℕ} (o : Opened ws script) where
   pub nodes_are : size (decode_table ws) ≡ size (script_table script)
   unfolding decode initial
   nodes_are = ap (λ (r : Ring). size r.table) o.ring
+
+-- what the answer says
+module _ (ws script : List ℕ) {ws' : List ℕ} {A : Type 0} where
+  pub ring_opened : (a : Result A Refusal) → written a ws' ≡ open_script ws script → is_err a ≡ false → Opened ws' script
+  ring_opened (Ok x) e f = opened_ring ws script {A = A} (Ok x) e refl refl
+  ring_opened (Err x) e f = clash refl f
+
+  pub ring_refused : (a : Result A Refusal) → written a ws' ≡ open_script ws script → is_err a ≡ true → Refused ws ws' script
+  ring_refused (Ok x) e f = clash f refl
+  ring_refused (Err x) e f = refused_ring ws script {A = A} (Err x) e refl (λ z. clash (ap is_accepted z) (number_high x))

@@ -21,7 +21,7 @@ use Rattle.model.specs.Answers.{number_of, is_accepted}
 use Rattle.model.specs.Connection.{groups}
 use Rattle.model.specs.Bench.{Line, little_endian, event_lines, script_table, script_answer, node_line, bench}
 use Rattle.bench_report.specs.Report.{groups_bytes, end_bytes}
-use Rattle.model.specs.declared.answer.Answer.TheVariants.{NotAnEvent}
+use Rattle.model.specs.declared.refusal.Refusal.TheVariants.{NotAnEvent}
 use Rattle.model.proofs.Cases.{after_table}
 use Rattle.model.proofs.Laws.{decide, if_law}
 use Rattle.bench_script.specs.Chunks.{Cut, chunk_size, chunks, tail_of}

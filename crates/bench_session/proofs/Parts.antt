@@ -13,7 +13,7 @@ use Rattle.bench_lines.proofs.Puts.{put_none, put_more}
 use Rattle.model.specs.Ring.{Ring}
 use Rattle.model.specs.Answers.{number_of}
 use Rattle.model.specs.Words.{decode}
-use Rattle.model.specs.declared.answer.Answer.TheVariants.{NotAnEvent}
+use Rattle.model.specs.declared.refusal.Refusal.TheVariants.{NotAnEvent}
 use Rattle.model.proofs.Words.{reads_out}
 use Rattle.bench_report.specs.Report.{end_bytes}
 use Rattle.bench_session.specs.Playing.{AllPlayed}

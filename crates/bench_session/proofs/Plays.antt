@@ -1,36 +1,31 @@
 -- Words played one after the other, each with its line.
 use mathlib.Core.Path.{◌≡◌, refl, sym, ap, ◌∙◌}
-use mathlib.Core.Bool.{true, false}
+use mathlib.Core.Bool.{true}
 use mathlib.Core.List.{List, [], ◌∷◌, ◌++◌, append_assoc, append-nil}
-use Prim.Native.Nat.{ℕ, suc, ◌+◌, ◌*◌, ◌≤◌, ◌<◌}
+use Prim.Native.Nat.{ℕ, ◌+◌, ◌*◌, ◌≤◌, ◌<◌}
 use native.Mathlib.Numerals.{add-one}
 use native.Mathlib.Omega.{arith}
-use borrow.Author.Tests.{ltb-true, ltb-false}
-use lib.Dec.{ltb}
 use lib.ListN.{length, get_or, drop, drop_of_length-le}
 use lib.Seq.{drop-cons}
 use Rattle.bench_lines.specs.Decimal.{line_bytes, lines_bytes}
 use Rattle.bench_lines.specs.Put.{Put}
 use Rattle.bench_lines.proofs.Puts.{put_none, put_more, put_as}
 use Rattle.model.specs.Ring.{Ring}
-use Rattle.model.specs.Answers.{number_of}
+use Rattle.model.specs.Answers.{answer_number}
 use Rattle.model.specs.Words.{decode, reads_as_ring}
 use Rattle.model.specs.Play.{play_word, play_all}
 use Rattle.model.specs.Buffer.{play_buffer}
 use Rattle.model.specs.Bench.{event_lines}
-use Rattle.model.specs.declared.answer.Answer.{Answer}
-use Rattle.model.proofs.Laws.{decide}
+use Rattle.std.specs.Prelude.{Result}
+use Rattle.model.specs.declared.refusal.Refusal.{Refusal}
 use Rattle.answers.specs.Applied.{written}
 use Rattle.event_play.proofs.Played.{still, ring_after, answer_is}
-use Rattle.bench_script.specs.Position.{read_at}
-use Rattle.bench_script.specs.declared.Next.TheVariants.{Word, End}
-use Rattle.bench_script.specs.declared.Reading.{Reading}
 use Rattle.bench_session.specs.Playing.{OnePlayed, AllPlayed}
 
 -- ---- one word
 
-module _ (ws : List ℕ) (reads : reads_as_ring ws ≡ true) (w : ℕ) {ws' : List ℕ} (a : Answer) (e : written a ws' ≡ play_buffer ws w) where
-  pub one_played : {k n m at end : ℕ} {out out' : List ℕ} → n ≡ number_of a → m ≡ length (decode ws').messages
+module _ (ws : List ℕ) (reads : reads_as_ring ws ≡ true) (w : ℕ) {ws' : List ℕ} {A : Type 0} (a : Result A Refusal) (e : written a ws' ≡ play_buffer ws w) where
+  pub one_played : {k n m at end : ℕ} {out out' : List ℕ} → n ≡ answer_number a → m ≡ length (decode ws').messages
       → Put out out' at end (line_bytes (k ∷ n ∷ m ∷ [])) → end ≤ at + 63 → OnePlayed ws w k ws' out out' at end
   one_played {k} {n} {m} g h p l =
       record {
@@ -39,37 +34,6 @@ module _ (ws : List ℕ) (reads : reads_as_ring ws ≡ true) (w : ℕ) {ws' : Li
         put = put_as p (rw (g ∙ answer_is ws reads w a e, h ∙ ap (λ (ρ : Ring). length ρ.messages) (ring_after ws reads w a e)));
         room = l;
       }
-
--- ---- what the reader gives
-
-pub record WordThere (script : List ℕ) (at w after : ℕ) : Type 0 where
-  pub below : at < length script
-  pub word : w ≡ get_or script at 0
-  pub next : after ≡ at + 1
-
-module _ (script : List ℕ) (at : ℕ) (R : Reading) (e : R ≡ read_at script at) where
-  pub word_there : (w : ℕ) → R.next ≡ Word w → WordThere script at w R.after
-  word_there w f = decide (ltb at (length script)) there nothing
-    where
-      there : ltb at (length script) ≡ true → WordThere script at w R.after
-      there t =
-          let n : R.next ≡ Word (get_or script at 0) = ap (λ (q : Reading). q.next) e ∙ rw t in
-          record { below = ltb-true at (length script) t; word = cc; next = ap (λ (q : Reading). q.after) e ∙ rw t }
-
-      nothing : ltb at (length script) ≡ false → WordThere script at w R.after
-      nothing t =
-          let n : R.next ≡ End = ap (λ (q : Reading). q.next) e ∙ rw t in
-          let z : ◌≡◌ {A = ℕ} 0 1 = cc in
-          absurd (omega arith)
-
-  pub end_there : R.next ≡ End → length script ≤ at
-  end_there f = decide (ltb at (length script)) there (ltb-false at (length script))
-    where
-      there : ltb at (length script) ≡ true → length script ≤ at
-      there t =
-          let n : R.next ≡ Word (get_or script at 0) = ap (λ (q : Reading). q.next) e ∙ rw t in
-          let z : ◌≡◌ {A = ℕ} 0 1 = cc in
-          absurd (omega arith)
 
 -- ---- the words, one after the other
 
@@ -96,24 +60,21 @@ none_played ws script k out reads =
     }
 
 module _ {ws script : List ℕ} {k : ℕ} {ws' out out' : List ℕ} {at end : ℕ} (p : PlayedTo ws script k ws' out out' at end) where
-  pub more_played : {w after n : ℕ} {ws'' out'' : List ℕ} {end' : ℕ} → WordThere script at w after → n ≡ k + after
-      → OnePlayed ws' w n ws'' out' out'' end end' → PlayedTo ws script k ws'' out out'' after end'
+  pub more_played : {n : ℕ} {ws'' out'' : List ℕ} {end' : ℕ} → at < length script → n ≡ k + at
+      → OnePlayed ws' (get_or script at 0) (n + 1) ws'' out' out'' end end' → PlayedTo ws script k ws'' out out'' (at + 1) end'
   unfolding event_lines play_all lines_bytes
-  more_played {w} {after} {n} {ws''} {out''} {end'} t e q =
-      let rest : drop at script ≡ w ∷ drop after script =
-      drop-cons script at 0 t.below
-      ∙ ap (λ (v : ℕ). v ∷ drop (suc at) script) (sym t.word)
-      ∙ ap (λ (j : ℕ). w ∷ drop j script) (sym (add-one at) ∙ sym t.next) in
-      let number : n ≡ k + at + 1 = omega (arith, t.next) in
-      let later : k + after + 1 ≡ k + at + 1 + 1 = omega (arith, t.next) in
+  more_played {n} {ws''} {out''} {end'} h e q =
+      let w : ℕ = get_or script at 0 in
+      let rest : drop at script ≡ w ∷ drop (at + 1) script = rw (add-one at) (drop-cons script at 0 h) in
+      let later : k + (at + 1) + 1 ≡ k + at + 1 + 1 = omega arith in
       record {
         reads = q.reads;
-        within = omega (arith, t.below, t.next);
+        within = omega arith;
         ring = rw q.ring (rw rest at p.ring);
-        bytes = p.bytes ++ line_bytes (n ∷ (play_word (decode ws') w).answer ∷ length (play_word (decode ws') w).ring.messages ∷ []);
+        bytes = p.bytes ++ line_bytes ((n + 1) ∷ (play_word (decode ws') w).answer ∷ length (play_word (decode ws') w).ring.messages ∷ []);
         put = put_more p.put q.put;
-        lines = rw (q.ring, later, number) (append_assoc p.bytes _ _ ∙ (rw rest at p.lines));
-        room = omega (arith, p.room, q.room, t.next);
+        lines = rw (q.ring, later, e) (append_assoc p.bytes _ _ ∙ (rw rest at p.lines));
+        room = omega (arith, p.room, q.room);
       }
 
   pub all_played : length script ≤ at → AllPlayed ws script k ws' out out' end

@@ -9,14 +9,16 @@ use Rattle.bench_lines.specs.Decimal.{line_bytes}
 use Rattle.bench_lines.specs.Put.{Put}
 use Rattle.model.specs.Leafset.{size}
 use Rattle.model.specs.Ring.{Ring}
-use Rattle.model.specs.Answers.{number_of, is_accepted}
+use Rattle.model.specs.Answers.{answer_number, is_accepted}
 use Rattle.model.specs.Words.{ring_length, decode_table, decode}
 use Rattle.model.specs.Bench.{little_endian, script_answer}
-use Rattle.model.specs.declared.answer.Answer.{Answer}
+use Rattle.std.specs.Prelude.{Result}
+use Rattle.std.specs.Result.{is_err}
+use Rattle.model.specs.declared.refusal.Refusal.{Refusal}
 use Rattle.model.proofs.Laws.{clash, if_law}
 use Rattle.answers.specs.Applied.{written}
 use Rattle.bench_open.specs.Beginning.{open_script}
-use Rattle.bench_open.proofs.Opened.{Opened, the_answer, refused_ring, nodes_are}
+use Rattle.bench_open.proofs.Opened.{Opened, the_answer, ring_refused, nodes_are}
 use Rattle.bench_script.specs.Chunks.{chunk_size}
 use Rattle.bench_script.proofs.Chunks.{few_words}
 use Rattle.bench_session.specs.Turns.{Turn, Ready, played_turn, first_turn, words_turn, turn, Stepped}
@@ -24,22 +26,23 @@ use Rattle.bench_session.specs.declared.turn.Session.{Session}
 
 -- ---- the first chunk
 
-module _ (ws script : List ℕ) {ws' : List ℕ} {n : ℕ} (a : Answer) (e : written a ws' ≡ open_script ws script) (number : n ≡ number_of a) where
-  pub refused_script : (bytes : ℕ) {out out' : List ℕ} {end : ℕ} → (n ≡ 0 → ⊥) → length ws ≡ ring_length → Put out out' 0 end (line_bytes (0 ∷ n ∷ 0 ∷ []))
-      → Stepped (first_turn script bytes) ws' out out' (record { more = false; opened = false; count = 0; end = end })
-  unfolding first_turn
-  refused_script bytes d long p =
-      let r = refused_ring ws script a e number d in
-      rw r.refused
-      record {
-        more = refl;
-        opened = refl;
-        count = refl;
-        put = rw (← the_answer ws script a e number, ← number) p;
-        long = ap length r.kept ∙ long;
-        reads = λ h. clash h refl;
-        ring = λ h. clash h refl;
-      }
+pub refused_script :
+    (ws script : List ℕ) {ws' out out' : List ℕ} {n end : ℕ} {A : Type 0} (a : Result A Refusal) → written a ws' ≡ open_script ws script → n ≡ answer_number a
+    → (bytes : ℕ) → is_err a ≡ true → length ws ≡ ring_length → Put out out' 0 end (line_bytes (0 ∷ n ∷ 0 ∷ []))
+    → Stepped (first_turn script bytes) ws' out out' (record { more = false; opened = false; count = 0; end = end })
+unfolding first_turn
+refused_script ws script a e number bytes d long p =
+    let r = ring_refused ws script a e d in
+    rw r.refused
+    record {
+      more = refl;
+      opened = refl;
+      count = refl;
+      put = rw (← the_answer ws script a e number, ← number) p;
+      long = ap length r.kept ∙ long;
+      reads = λ h. clash h refl;
+      ring = λ h. clash h refl;
+    }
 
 module _ {ws script : List ℕ} (o : Opened ws script) where
   pub first_played : (bytes : ℕ) {out out' ws' part : List ℕ} {s : Session} → part ≡ drop (1 + size (decode_table ws)) script

@@ -8,7 +8,7 @@ use Rattle.model.specs.Answers.{number_of, is_accepted}
 use Rattle.model.specs.Words.{ring_length, decode, reads_as_ring}
 use Rattle.model.specs.Play.{play_all}
 use Rattle.model.specs.Bench.{Line, little_endian, event_lines, script_table, script_answer}
-use Rattle.model.specs.declared.answer.Answer.TheVariants.{NotAnEvent}
+use Rattle.model.specs.declared.refusal.Refusal.TheVariants.{NotAnEvent}
 use Rattle.bench_script.specs.Chunks.{chunk_size}
 use Rattle.bench_report.specs.Report.{end_bytes}
 use Rattle.bench_session.specs.declared.turn.Session.{Session}

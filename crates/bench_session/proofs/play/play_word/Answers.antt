@@ -1,3 +1,4 @@
+use mathlib.Core.Path.{◌∙◌}
 use Rattle.model.proofs.Words.{reads_out}
 use Rattle.event_play.proofs.Played.{still}
 use Rattle.bench_session.proofs.Plays.{one_played}
@@ -10,5 +11,5 @@ pub returns : goal.returns
 returns c = record {
   played =
       one_played _ c.requires.ring _ c.play_word-answer.result c.play_word-answer.ensures.written
-      c.number.ensures.answer c.messages.ensures.value c.put_three.ensures.bytes c.put_three.ensures.end;
+      (c.from.ensures ∙ c.number.ensures.answer) c.messages.ensures.value c.put_three.ensures.bytes c.put_three.ensures.end;
 }
