@@ -79,7 +79,8 @@ fn halve(words: &[u32], base: usize, from: usize, count: usize, lows: &mut [u16]
     }
 }
 
-// The halves of so many first words fit. The loop has no branch, so that it is done eight messages at a time.
+// The halves of so many first words fit. The loop has no branch, so that it is done eight messages at a time. k counts,
+// since it has a place in both.
 fn halves_fit(lows: &[u16; 64], highs: &[u16; 64], n: u16, count: usize) -> bool
     requires bounds { count ≤ 64 }
     ensures value { (ws : List ℕ) (base : ℕ) (t : Table) (from : ℕ) → size t ≡ n

@@ -1,7 +1,6 @@
 // Whether the rests of the messages read: the stamp and the view. Each type and each receiver has four words of bits
 // that have to be those of an empty rest, so that a message is tested without a branch, its four words at once.
 ghost use Rattle.std.specs.Prelude.{◌≡◌, ℕ, ◌+◌, ◌*◌, ◌-◌, ◌^◌, ◌<◌, ◌≤◌, length};
-ghost use Rattle.std.specs.Int.Bits.{bit_xor};
 ghost use Rattle.model.specs.Sets.{all};
 ghost use Rattle.model.specs.Leafset.{Table, size};
 ghost use Rattle.valid_messages.specs.Rests.{rest_reads};
@@ -70,13 +69,6 @@ fn of_receivers() -> [u32; 288]
     table
 }
 
-// The bits in which two words differ.
-fn apart(word: u32, empty: u32) -> u32
-    ensures value { result ≡ bit_xor word empty }
-{
-    word ^ empty
-}
-
 // What is wrong in word i of the rest of message k.
 fn wrong(
     words: &[u32],
@@ -94,7 +86,7 @@ fn wrong(
 {
     let at = base + 5 * k;
     let first = words[at];
-    let met = apart(words[at + (1 + i)], empty);
+    let met = words[at + (1 + i)] ^ empty;
     (met & types[4 * ((first % 16) as usize) + i])
         | (met & receivers[4 * (((first >> 10) % 64) as usize) + i])
 }

@@ -26,7 +26,8 @@ bounds-counts-x-in-loop-k c = rw c.loop-k.invariant.1.long (low _ _ (c.index-x.e
 pub loop-k-preserved : goal.loop-k-preserved
 loop-k-preserved c =
     let l = c.loop-k in
-    (search rules, one_counted _ _ l.k l.counts l.invariant.1 _ (low _ _ (c.index-x.ensures.value ∙ c.sender.ensures.value)) (c.index-x.ensures.value ∙ c.sender.ensures.value))
+    let sender = c.index-x.ensures.value ∙ c.sender.ensures.value in
+    (search rules, one_counted _ _ l.k l.counts l.invariant.1 _ (low _ _ sender) sender)
 
 pub shape_of-counts : goal.shape_of-counts
 shape_of-counts c = c.loop-k.invariant.1.long ∙ sym c.requires.counts.long
