@@ -12,7 +12,7 @@ use borrow.Author.Tests.{lt-ltb, le-ltb}
 use Rattle.std.specs.Prelude.{if◌then◌else◌}
 use Rattle.model.specs.Sets.{Set, of_bits, to_bits, tabulate}
 use Rattle.model.specs.Leafset.{size, key, leafset}
-use Rattle.model.specs.Ring.{Own, Ring, holds, is_running}
+use Rattle.model.specs.Ring.{Own, holds, is_running}
 use Rattle.model.specs.WellFormed.{WellFormedNode}
 use Rattle.model.specs.Words.{is_pair, decode_table, decode_own, decode_node, decode, reads_as_ring}
 use Rattle.model.specs.Structs.{stamp_at, spare_at}
@@ -24,7 +24,7 @@ use Rattle.model.specs.declared.screen.ConductorScreen.{ConductorScreen}
 use Rattle.model.specs.declared.screen.TechnicianScreen.{TechnicianScreen}
 use Rattle.model.specs.declared.node.NodeRecord.{NodeRecord}
 use Rattle.model.specs.declared.values.Sides.{Sides}
-use Rattle.model.proofs.Laws.{decide, is_false, not_out}
+use Rattle.model.proofs.Laws.{decide, is_false}
 use Rattle.model.proofs.Decoded.{reads_well}
 use Rattle.leafset.proofs.Leaves.{from_set}
 use Rattle.ring_ranges.specs.Spans.{Patched}
@@ -83,9 +83,9 @@ no_bits (suc k) S e = rw (no_bits k S e, e k)
 module _ (ws : List ℕ) where
   module _ (x : ℕ) {b : Bool} (is : b ≡ (decode_node ws x).running) where
     -- of a node that is off, none
-    pub leafset_off : not b ≡ true → 0 ≡ shown_leafset (seen (decode ws)) x
+    pub leafset_off : b ≡ false → 0 ≡ shown_leafset (seen (decode ws)) x
     unfolding decode
-    leafset_off e = rw (sym is ∙ not_out b e)
+    leafset_off e = rw (sym is ∙ e)
 
   module _ (reads : reads_as_ring ws ≡ true) where
     -- from n on nobody runs

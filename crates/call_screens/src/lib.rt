@@ -1,55 +1,34 @@
-// Public: the conductor's and the technician's screens. The calls require nothing; a refused one gives the empty
-// answer, and writes zeros into what it is lent.
+// Public: the conductor's and the technician's screens. The calls require nothing; a refused one writes zeros into what
+// it is lent.
 #![tactic(auto)]
 
 ghost use Rattle.std.specs.Prelude.{◌≡◌, true, ◌<◌, ◌≤◌, length, if◌then◌else◌};
 ghost use Rattle.model.specs.Sets.{tabulate, to_bits};
-ghost use Rattle.model.specs.Answers.{number_of};
+ghost use Rattle.model.specs.Answers.{answer_number, given_or};
 ghost use Rattle.model.specs.Words.{decode_table, decode, reads_as_ring};
 ghost use Rattle.model.specs.Buffer.{ring_answer};
 ghost use Rattle.model.specs.Structs.{RoomNode, spare_at, stamp_at};
 ghost use Rattle.model.specs.Screens.{seen, shown_leafset, conductor_screen, empty_conductor, conductor_of};
 ghost use Rattle.model.specs.Screens.{technician_screen, shown_stamps, shown_spares};
-ghost use Rattle.model.specs.Screens.{technician_of, stamps_of, spares_of, messages_of};
+ghost use Rattle.model.specs.Screens.{technician_of, empty_technician, stamps_of, spares_of, messages_of};
 ghost use Rattle.model.specs.Leafset as model;
 ghost use Rattle.ring_ranges.specs.Spans.{Patched};
 ghost use Rattle.call_screens.specs.Rows.{RowPut, spare_in, RowsPut};
 
 use leafset::leafset;
-use model::answer::Answer;
 use model::node::NodeRecord;
+use model::refusal::Refusal;
 use model::screen::{ConductorScreen, TechnicianScreen};
 use model::values::{NodeNumber, Sides};
 use word_ring::place;
 
-#[derive(Clone, Copy)]
-pub struct ConductorAnswer {
-    pub answer: Answer,
-    pub screen: ConductorScreen,
-}
-
-#[derive(Clone, Copy)]
-pub struct TechnicianAnswer {
-    pub answer: Answer,
-    pub screen: TechnicianScreen,
-}
-
 // "A, B, the table, who is running and each running stand's leafset of its held set"
-pub fn conductor(words: &[u32]) -> ConductorAnswer
-    ensures answer { number_of result.answer ≡ ring_answer words.now }
-    ensures screen { result.screen ≡ conductor_of words.now }
+pub fn conductor(words: &[u32]) -> Result<ConductorScreen, Refusal>
+    ensures answer { answer_number result ≡ ring_answer words.now }
+    ensures screen { given_or empty_conductor result ≡ conductor_of words.now }
 {
-    let answer = call_refusals::of_words(words);
-    if answers::is_refusal(answer) {
-        return ConductorAnswer {
-            answer,
-            screen: empty(),
-        };
-    }
-    ConductorAnswer {
-        answer,
-        screen: conductor_of(words),
-    }
+    call_refusals::of_words(words)?;
+    Ok(conductor_of(words))
 }
 
 // "also shows candidates, stamps, spares": of the pair (x, z) at 64 x + z. The messages are `messages`.
@@ -57,42 +36,32 @@ pub fn technician(
     words: &[u32],
     stamps: &mut [u32; 4096],
     spares: &mut [u8; 4096],
-) -> TechnicianAnswer
-    ensures answer { number_of result.answer ≡ ring_answer words.now }
-    ensures shown { (result.screen ≡ technician_of words.now)
+) -> Result<TechnicianScreen, Refusal>
+    ensures answer { answer_number result ≡ ring_answer words.now }
+    ensures shown { (given_or empty_technician result ≡ technician_of words.now)
         × (stamps.new ≡ stamps_of words.now)
         × (spares.new ≡ spares_of words.now) }
 {
-    let answer = call_refusals::of_words(words);
-    if answers::is_refusal(answer) {
+    if let Err(refusal) = call_refusals::of_words(words) {
         clear(stamps, spares, 0);
-        return TechnicianAnswer {
-            answer,
-            screen: TechnicianScreen {
-                conductor: empty(),
-                candidates: [0; 64],
-            },
-        };
+        return Err(refusal);
     }
-    TechnicianAnswer {
-        answer,
-        screen: technician_of(words, stamps, spares),
-    }
+    Ok(technician_of(words, stamps, spares))
 }
 
 // "the travelling messages as a part of the ring's own words"; empty where refused
 pub fn messages(words: &[u32]) -> &[u32]
     ensures part { result.now ≡ messages_of words.now }
 {
-    let answer = call_refusals::of_words(words);
-    if answers::is_refusal(answer) {
+    let Ok(()) = call_refusals::of_words(words) else {
         return &words[..0];
-    }
+    };
     let end = place::MESSAGES + 5 * ring_head::messages(words);
     &words[place::MESSAGES..end]
 }
 
-fn empty() -> ConductorScreen
+// What is shown where a call is refused.
+pub fn empty() -> ConductorScreen
     ensures value { result ≡ empty_conductor }
 {
     ConductorScreen {
@@ -155,7 +124,7 @@ fn with_leafsets(words: &[u32], n: usize, keys: [u32; 64], leafsets: [u64; 64]) 
     }
 }
 
-// The leafset of each running node; of the others, none.
+// The leafset of each running node; of the others, none. x is the number of a node.
 fn leafsets(words: &[u32], keys: &[u32], sides: Sides) -> [u64; 64]
     requires ring { reads_as_ring words.now ≡ true }
     requires table { (keys.now ≡ (decode_table words.now).keys) × (sides ≡ (decode_table words.now).sides) }

@@ -1,4 +1,4 @@
-use Prim.Native.Nat.{◌-◌, ◌≤◌}
+use Prim.Native.Nat.{◌≤◌}
 use Rattle.ring_ranges.specs.Spans.{Patched}
 use Rattle.call_screens.proofs.clear.Given as goal
 

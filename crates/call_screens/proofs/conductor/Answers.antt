@@ -1,23 +1,16 @@
-use Rattle.answers.proofs.Answered.{refused, accepted}
+use mathlib.Core.Path.{refl, sym, ap, ◌∙◌}
+use Rattle.model.specs.Answers.{given_or}
+use Rattle.model.specs.Screens.{empty_conductor}
+use Rattle.model.proofs.Given.{passed_on, refuses_with}
 use Rattle.call_refusals.proofs.Refused.{ring_reads}
 use Rattle.call_screens.proofs.Shown.{conductor_refused, conductor_given}
 use Rattle.call_screens.proofs.conductor.Goals as goal
 
-pub returns-then-is_refusal : goal.returns-then-is_refusal
-returns-then-is_refusal c =
-    let no = refused c.of_words-answer.result _ c.of_words-answer.ensures.answer c.is_refusal.ensures.value c.if-is_refusal.true in
-    record {
-      answer = c.of_words-answer.ensures.answer;
-      screen = conductor_refused _ no c.empty.ensures.value;
-    }
+pub returns-in_err-of_words-clause-screen : goal.returns-in_err-of_words-clause-screen
+returns-in_err-of_words-clause-screen c = ap (given_or empty_conductor) (passed_on _ _ c.from_residual.ensures.1) ∙ conductor_refused _ (refuses_with _ c.in_err-of_words.ensures.answer) refl
 
 pub conductor_of-requires : goal.conductor_of-requires
-conductor_of-requires c = record { ring = ring_reads _ (accepted c.of_words-answer.result _ c.of_words-answer.ensures.answer c.is_refusal.ensures.value c.if-is_refusal.false) }
+conductor_of-requires c = record { ring = ring_reads _ (sym c.in_ok-of_words.ensures.answer) }
 
-pub returns : goal.returns
-returns c =
-    let ok = accepted c.of_words-answer.result _ c.of_words-answer.ensures.answer c.is_refusal.ensures.value c.if-is_refusal.false in
-    record {
-      answer = c.of_words-answer.ensures.answer;
-      screen = conductor_given _ ok c.conductor_of.ensures.value;
-    }
+pub returns-clause-screen : goal.returns-clause-screen
+returns-clause-screen c = conductor_given _ (sym c.in_ok-of_words.ensures.answer) c.conductor_of.ensures.value

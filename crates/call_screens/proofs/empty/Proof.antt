@@ -1,4 +1,3 @@
-use borrow.Author.Rules.{rules}
 use mathlib.Core.Path.{refl}
 use Rattle.model.specs.Screens.{empty_conductor}
 use Rattle.call_screens.proofs.empty.Statement.{statement}

@@ -1,4 +1,4 @@
-use Prim.Native.Nat.{◌-◌, ◌≤◌}
+use Prim.Native.Nat.{◌≤◌}
 use lib.ListN.{length, replicate}
 use Rattle.model.specs.Words.{decode}
 use Rattle.model.specs.Screens.{seen, shown_leafset}

@@ -16,7 +16,7 @@ is_running-requires c = record {
 }
 
 pub returns-then-not-is_running : goal.returns-then-not-is_running
-returns-then-not-is_running c = record { value = leafset_off _ _ c.is_running.ensures.value c.if-not-is_running.true-raw }
+returns-then-not-is_running c = record { value = leafset_off _ _ c.is_running.ensures.value c.if-not-is_running.true }
 
 pub load-own-requires : goal.load-own-requires
 load-own-requires c = record {
