@@ -9,39 +9,31 @@ ghost use Rattle.answers.specs.Applied.{written, event_on};
 ghost use Rattle.call_preview.specs.Shown.{shown_in};
 
 use event_act::write;
-use model::answer::Answer;
-use model::event::{Event, Reading};
+use model::event::Event;
+use model::refusal::Refusal;
 
 // Decides on the words, then writes on a copy of them.
-fn preview_event(words: &[u32], e: Event, second: &mut [u32]) -> Answer
+fn preview_event(words: &[u32], e: Event, second: &mut [u32]) -> Result<(), Refusal>
     requires ring { reads_as_ring words.now ≡ true }
     requires length { length second.old ≡ ring_length }
     ensures written { written result second.new
         ≡ shown_in second.old (event_on words.now e) }
 {
-    let decision = event_play::decide(words, e);
-    let answer = decision.answer;
-    if answers::is_refusal(answer) {
-        return answer;
-    }
-    let change = decision.change;
+    let change = event_play::decide(words, e)?;
     ring_ranges::copy(words, second);
     write::write(second, change);
-    answer
+    Ok(())
 }
 
 // 1 of either buffer; 4 and 5 of the word; 6; then those of the event.
-pub fn preview(words: &[u32], word: u32, second: &mut [u32]) -> Answer
+pub fn preview(words: &[u32], word: u32, second: &mut [u32]) -> Result<(), Refusal>
     ensures written { written result second.new
         ≡ preview_buffer words.now word second.old }
     ensures ring { words.now ≡ words.now }
 {
     if !call_refusals::as_long(second) {
-        return Answer::WrongLength;
+        return Err(Refusal::WrongLength);
     }
-    let reading = call_refusals::of_event(words, word);
-    match reading {
-        Reading::Refused(answer) => answer,
-        Reading::Read(e) => preview_event(words, e, second),
-    }
+    let event = call_refusals::of_event(words, word)?;
+    preview_event(words, event, second)
 }
