@@ -4,10 +4,9 @@ use mathlib.Core.Bool.{Bool, true, false, ◌&&◌, ◌||◌, or-false}
 use Prim.Native.Nat.{ℕ, ◌^◌, ◌<◌}
 use native.Mathlib.Decide.{ℕ_discrete}
 use borrow.Author.Tests.{eq-eqb, ne_eqb}
-use Rattle.model.specs.Sets.{Set, with, without, lowest, of_bits}
-use Rattle.sets.specs.Rest.{IsRest}
+use Rattle.model.specs.Sets.{Set, with, without, of_bits}
 use Rattle.sets.specs.Within.{Within}
-use Rattle.sets.proofs.Bits.{Rising, rising_first, rising_rest, rising_set, of_none, none_left}
+use Rattle.sets.proofs.Bits.{Rising, of_none, none_left}
 use Rattle.sets.proofs.Turns.{Turn, turn_first, turn_rising, turn_set}
 
 -- what is kept, with what is yet to be kept of the rest, is what is to be kept of S
@@ -62,41 +61,28 @@ module _ {S p out rest : Set} (i : Collected S p out rest) where
               | no d ↦ rw (ne_eqb y s d) (there (out y) (rest y) (p y) ∙ i.all y)
             ]
 
--- ---- the same, in a loop `while rest != 0 { let y = lowest(rest); if .. { out = with(out, y); } rest = rest(rest); }`
+-- ---- the same, in a loop `for y in sets::members(set) { if .. { out = with(out, y); } }`
 
 pub record Collecting (n set : ℕ) (p : Set) (out rest : ℕ) : Type 0 where
   pub rising : Rising n rest
   pub collected : Collected (of_bits set) p (of_bits out) (of_bits rest)
 
-pub collect_none : {n set : ℕ} {p : Set} → set < 2 ^ 64 → Within n set → Collecting n set p 0 set
-collect_none {set = set} {p} h w = record { rising = record { fits = h; low = w }; collected = collected_none (of_bits set) p of_none }
+pub collect_begins : {n set rest : ℕ} {p : Set} → rest ≡ set → set < 2 ^ 64 → Within n set → Collecting n set p 0 rest
+collect_begins {n} {set} {p = p} e h w =
+    subst (Collecting n set p 0) (sym e)
+    (record { rising = record { fits = h; low = w }; collected = collected_none (of_bits set) p of_none })
 
 module _ {n set : ℕ} {p : Set} {out rest : ℕ} (i : Collecting n set p out rest) where
   pub collect_end : rest ≡ 0 → (y : ℕ) → of_bits out y ≡ (of_bits set y && p y)
   collect_end e = collected_end i.collected (none_left e)
 
   -- the next member passes, or does not; `out'` is what the code then has
-  module _ (d : rest ≡ 0 → ⊥) (y : ℕ) (is : y ≡ lowest 64 (of_bits rest)) {r out' : ℕ} (q : IsRest rest r) where
-    next : {O : Set} → of_bits out' ≡ O → Collected (of_bits set) p O (without (of_bits rest) y) → Collecting n set p out' r
-    next e c = record { rising = rising_rest i.rising q; collected = subst₂ (Collected (of_bits set) p) (sym e) (sym (rising_set i.rising q y is)) c }
+  module _ {y r : ℕ} (t : Turn rest y r) {out' : ℕ} where
+    follows : {O : Set} → of_bits out' ≡ O → Collected (of_bits set) p O (without (of_bits rest) y) → Collecting n set p out' r
+    follows e c = record { rising = turn_rising i.rising t; collected = subst₂ (Collected (of_bits set) p) (sym e) (sym (turn_set i.rising t)) c }
 
-    pub collect_kept : {more : ℕ} → of_bits more ≡ with (of_bits out) y → out' ≡ more → p y ≡ true → Collecting n set p out' r
-    collect_kept e f t = next (ap of_bits f ∙ e) (collected_kept i.collected y (rising_first i.rising d y is).member t)
+    pub turn_kept : of_bits out' ≡ with (of_bits out) y → p y ≡ true → Collecting n set p out' r
+    turn_kept e f = follows e (collected_kept i.collected y (turn_first i.rising t).member f)
 
-    pub collect_passed : out' ≡ out → p y ≡ false → Collecting n set p out' r
-    collect_passed f t = next (ap of_bits f) (collected_passed i.collected y t)
-
--- ---- the same, in a loop `for y in sets::members(set) { if .. { out = with(out, y); } }`
-
-pub collect_begins : {n set rest : ℕ} {p : Set} → rest ≡ set → set < 2 ^ 64 → Within n set → Collecting n set p 0 rest
-collect_begins {n} {set} {p = p} e h w = subst (Collecting n set p 0) (sym e) (collect_none h w)
-
-module _ {n set : ℕ} {p : Set} {out rest y r : ℕ} (i : Collecting n set p out rest) (t : Turn rest y r) {out' : ℕ} where
-  follows : {O : Set} → of_bits out' ≡ O → Collected (of_bits set) p O (without (of_bits rest) y) → Collecting n set p out' r
-  follows e c = record { rising = turn_rising i.rising t; collected = subst₂ (Collected (of_bits set) p) (sym e) (sym (turn_set i.rising t)) c }
-
-  pub turn_kept : of_bits out' ≡ with (of_bits out) y → p y ≡ true → Collecting n set p out' r
-  turn_kept e f = follows e (collected_kept i.collected y (turn_first i.rising t).member f)
-
-  pub turn_passed : out' ≡ out → p y ≡ false → Collecting n set p out' r
-  turn_passed e f = follows (ap of_bits e) (collected_passed i.collected y f)
+    pub turn_passed : out' ≡ out → p y ≡ false → Collecting n set p out' r
+    turn_passed e f = follows (ap of_bits e) (collected_passed i.collected y f)

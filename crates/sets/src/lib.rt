@@ -47,14 +47,14 @@ pub fn minus(a: u64, b: u64) -> u64
 pub fn size(set: u64) -> u32
     ensures value { result ≡ count 64 (of_bits set) }
 {
-    u64::count_ones(set)
+    set.count_ones()
 }
 
 // The lowest member of the set, or none.
 pub fn lowest(set: u64) -> NodeNumber
     ensures value { result.0 ≡ model.lowest 64 (of_bits set) }
 {
-    NodeNumber(u64::trailing_zeros(set) as u8)
+    NodeNumber(set.trailing_zeros() as u8)
 }
 
 // The set without its lowest member.
