@@ -12,9 +12,9 @@ use Rattle.std.specs.Prelude.{if◌then◌else◌}
 use Rattle.model.specs.Words.{between}
 use Rattle.model.specs.Answers.{first_of, is_accepted, number_of}
 use Rattle.model.specs.Events.{ReadWord, event_of, is_timer, parts_fit, event_answer, write_event, word_answer, read_event, reading_of}
-use Rattle.model.specs.declared.answer.Answer.{Answer}
+use Rattle.std.specs.Prelude.{Ok, Err}
+use Rattle.model.specs.declared.refusal.Refusal.{Refusal}
 use Rattle.model.specs.declared.event.Event.{Event}
-use Rattle.model.specs.declared.event.Reading.TheVariants.{Read, Refused}
 use Rattle.model.proofs.Laws.{and_left, and_right, between_low, between_high, is_false}
 use Rattle.mekvalgs_event.specs.Parts.{numbers, parts_of, read_parts, event_of_parts, third_fits, parts_are, parts_answer, write_parts}
 use Rattle.mekvalgs_event.specs.declared.Parts.{Parts}
@@ -120,7 +120,7 @@ module _ (k first second : ℕ) where
 
 -- ---- reading
 
-pub read_given : (w : ℕ) (e : Event) → reading_of (Read e) ≡ read_event w → (0 ≡ word_answer w) × (parts_of e ≡ read_parts w)
+pub read_given : (w : ℕ) (e : Event) → reading_of (Ok e) ≡ read_event w → (0 ≡ word_answer w) × (parts_of e ≡ read_parts w)
 unfolding read_event read_parts
 read_given w e h =
     let z : word_answer w ≡ 0 = sym (ap (λ (q : ReadWord). q.answer) h) in
@@ -128,7 +128,7 @@ read_given w e h =
     let i : e ≡ event_of w = cc in
     (sym z, rw z (ap parts_of i))
 
-pub read_refused : (w : ℕ) (a : Answer) → reading_of (Refused a) ≡ read_event w → (number_of a ≡ word_answer w) × (numbers 0 0 0 ≡ read_parts w)
+pub read_refused : (w : ℕ) (a : Refusal) → reading_of (Err a) ≡ read_event w → (number_of a ≡ word_answer w) × (numbers 0 0 0 ≡ read_parts w)
 unfolding read_event read_parts
 read_refused w a h = (ap (λ (q : ReadWord). q.answer) h, by_answer (is_accepted (word_answer w)) (ap (λ (q : ReadWord). q.event) h))
   where

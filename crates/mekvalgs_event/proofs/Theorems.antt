@@ -12,7 +12,7 @@ use Rattle.model.specs.Answers.{first_of}
 use Rattle.model.specs.Events.{word_of, event_of, parts_fit, word_answer, read_event, reading_of}
 use Rattle.model.specs.declared.event.Event.{Event}
 use Rattle.model.specs.declared.event.Event.TheVariants.{On, Off, Notice, Contact, Timer, Deliver, Lose}
-use Rattle.model.specs.declared.event.Reading.TheVariants.{Read}
+use Rattle.std.specs.Prelude.{Ok}
 use Rattle.model.proofs.Laws.{and_left, not_out_false}
 use Rattle.model.proofs.Lists.{first}
 use Rattle.model.proofs.Answers.{LowestOf, lowest_given, none_applies}
@@ -118,7 +118,7 @@ pub word_writes_back : (w : ℕ) → word_answer w ≡ 0 → (parts_answer (read
 unfolding read_event
 word_writes_back w a =
     let e : Event = event_of w in
-    let h : read_event w ≡ reading_of (Read e) = rw a in
+    let h : read_event w ≡ reading_of (Ok e) = rw a in
     let g : EventWord w e = reads_as w e h in
     let n : read_parts w ≡ parts_of e = sym (read_given w e (sym h)).1 in
     let q = written_numbers e g.well in

@@ -2,62 +2,42 @@
 #![tactic(auto)]
 
 ghost use Rattle.std.specs.Prelude.{◌≡◌, true};
-ghost use Rattle.model.specs.Answers.{number_of};
+ghost use Rattle.model.specs.Answers.{answer_number, given_or};
 ghost use Rattle.model.specs.Events.{word_answer};
 ghost use Rattle.mekvalgs_event.specs.Parts.{numbers, parts_of, read_parts, parts_are, event_of_parts};
 ghost use Rattle.mekvalgs_event.specs.Parts.{parts_answer, write_parts};
 
-use model::answer::Answer;
-use model::event::{Event, Reading, Writing};
+use model::event::Event;
+use model::refusal::Refusal;
 use model::values::NodeNumber;
-use word_event::word::EventWord;
+use word_event::word::{EventKind, EventWord};
 use word_event::{read_event, write_event};
-use word_ring::mark;
 
 // The kind; the node or the position; the other node, the timer, or 1 for a polite off or an echo; 0 where the event
 // has none of them.
-#[derive(Clone, Copy)]
+#[derive(Clone, Copy, Debug, PartialEq, Eq)]
 pub struct Parts {
     pub kind: u32,
     pub first: u32,
     pub second: u32,
 }
 
-// What reading an event word gives: the numbers are 0 where refused.
-#[derive(Clone, Copy)]
-pub struct PartsRead {
-    pub answer: Answer,
-    pub parts: Parts,
-}
-
 // The numbers of the event of a word, or refusal 4 or 5.
-pub fn read(word: u32) -> PartsRead
-    ensures answer { number_of result.answer ≡ word_answer word }
-    ensures parts { result.parts ≡ read_parts word }
+pub fn read(word: u32) -> Result<Parts, Refusal>
+    ensures answer { answer_number result ≡ word_answer word }
+    ensures parts { given_or (numbers 0 0 0) result ≡ read_parts word }
 {
-    let reading = read_event(word);
-    match reading {
-        Reading::Read(e) => PartsRead {
-            answer: Answer::Accepted,
-            parts: of_event(e),
-        },
-        Reading::Refused(answer) => PartsRead {
-            answer,
-            parts: make(0, 0, 0),
-        },
-    }
+    let e = read_event(word)?;
+    Ok(of_event(e))
 }
 
 // The word of the event of the numbers, or refusal 4 or 5.
-pub fn write(p: Parts) -> Writing
-    ensures answer { number_of result.answer ≡ parts_answer p }
-    ensures word { result.word ≡ write_parts p }
+pub fn write(p: Parts) -> Result<u32, Refusal>
+    ensures answer { answer_number result ≡ parts_answer p }
+    ensures word { given_or 0 result ≡ write_parts p }
 {
     if !fit(p) {
-        return Writing {
-            answer: Answer::NotAnEvent,
-            word: 0,
-        };
+        return Err(Refusal::NotAnEvent);
     }
     write_event(event(p))
 }
@@ -67,13 +47,13 @@ fn of_event(e: Event) -> Parts
     ensures value { result ≡ parts_of e }
 {
     match e {
-        Event::On(x) => make(EventWord::ON, x.0 as u32, 0),
-        Event::Off(x, polite) => make(EventWord::OFF, x.0 as u32, mark(polite)),
-        Event::Notice(x, z) => make(EventWord::NOTICE, x.0 as u32, z.0 as u32),
-        Event::Contact(x, y) => make(EventWord::CONTACT, x.0 as u32, y.0 as u32),
-        Event::Timer(x, k) => make(EventWord::TIMER, x.0 as u32, k as u32),
-        Event::Deliver(i, echo) => make(EventWord::DELIVER, i as u32, mark(echo)),
-        Event::Lose(i) => make(EventWord::LOSE, i as u32, 0),
+        Event::On(x) => make(EventKind::On as u32, u32::from(x.0), 0),
+        Event::Off(x, polite) => make(EventKind::Off as u32, u32::from(x.0), u32::from(polite)),
+        Event::Notice(x, z) => make(EventKind::Notice as u32, u32::from(x.0), u32::from(z.0)),
+        Event::Contact(x, y) => make(EventKind::Contact as u32, u32::from(x.0), u32::from(y.0)),
+        Event::Timer(x, k) => make(EventKind::Timer as u32, u32::from(x.0), u32::from(k)),
+        Event::Deliver(i, echo) => make(EventKind::Deliver as u32, u32::from(i), u32::from(echo)),
+        Event::Lose(i) => make(EventKind::Lose as u32, u32::from(i), 0),
     }
 }
 
@@ -91,15 +71,15 @@ pub fn make(kind: u32, first: u32, second: u32) -> Parts
 fn fit(p: Parts) -> bool
     ensures value { result ≡ parts_are p }
 {
-    let kind = p.kind;
-    match kind {
-        EventWord::ON => (p.second == 0) & (p.first < 64),
-        EventWord::OFF => (p.second <= 1) & (p.first < 64),
-        EventWord::NOTICE | EventWord::CONTACT => (p.first < 64) & (p.second < 64),
-        EventWord::TIMER => (p.first < 64) & EventWord::is_timer(p.second),
-        EventWord::DELIVER => (p.second <= 1) & (p.first < EventWord::POSITIONS),
-        EventWord::LOSE => (p.second == 0) & (p.first < EventWord::POSITIONS),
-        _ => false,
+    match EventKind::try_from(p.kind) {
+        Ok(EventKind::On) => (p.second == 0) & (p.first < 64),
+        Ok(EventKind::Off) => (p.second <= 1) & (p.first < 64),
+        Ok(EventKind::Notice) => (p.first < 64) & (p.second < 64),
+        Ok(EventKind::Contact) => (p.first < 64) & (p.second < 64),
+        Ok(EventKind::Timer) => (p.first < 64) & EventWord::is_timer(p.second),
+        Ok(EventKind::Deliver) => (p.second <= 1) & (p.first < EventWord::POSITIONS),
+        Ok(EventKind::Lose) => (p.second == 0) & (p.first < EventWord::POSITIONS),
+        Err(_) => false,
     }
 }
 
@@ -108,14 +88,20 @@ fn event(p: Parts) -> Event
     requires parts { parts_are p ≡ true }
     ensures value { result ≡ event_of_parts p }
 {
-    let kind = p.kind;
-    match kind {
-        EventWord::ON => Event::On(NodeNumber(p.first as u8)),
-        EventWord::OFF => Event::Off(NodeNumber(p.first as u8), p.second == 1),
-        EventWord::NOTICE => Event::Notice(NodeNumber(p.first as u8), NodeNumber(p.second as u8)),
-        EventWord::CONTACT => Event::Contact(NodeNumber(p.first as u8), NodeNumber(p.second as u8)),
-        EventWord::TIMER => Event::Timer(NodeNumber(p.first as u8), p.second as u8),
-        EventWord::DELIVER => Event::Deliver(p.first as u16, p.second == 1),
-        _ => Event::Lose(p.first as u16),
+    match EventKind::try_from(p.kind) {
+        Ok(EventKind::On) => Event::On(NodeNumber(p.first as u8)),
+        Ok(EventKind::Off) => Event::Off(NodeNumber(p.first as u8), p.second == 1),
+        Ok(EventKind::Notice) => Event::Notice(
+            NodeNumber(p.first as u8),
+            NodeNumber(p.second as u8),
+        ),
+        Ok(EventKind::Contact) => Event::Contact(
+            NodeNumber(p.first as u8),
+            NodeNumber(p.second as u8),
+        ),
+        Ok(EventKind::Timer) => Event::Timer(NodeNumber(p.first as u8), p.second as u8),
+        Ok(EventKind::Deliver) => Event::Deliver(p.first as u16, p.second == 1),
+        Ok(EventKind::Lose) => Event::Lose(p.first as u16),
+        Err(_) => unreachable!(),
     }
 }

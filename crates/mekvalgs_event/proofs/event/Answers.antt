@@ -1,92 +1,90 @@
+-- In each arm the kind is known; the parts of numbers that are an event's have room.
 use mathlib.Core.Path.{◌≡◌}
-use Prim.Native.Nat.{◌≤◌}
 use native.Mathlib.Omega.{arith}
+use borrow.Author.Rules.{rules}
 use Rattle.mekvalgs_event.specs.Parts.{event_of_parts}
 use Rattle.mekvalgs_event.proofs.Numbers.{kind_low, kind_high, node_low, other_low, timer_low, position_low}
 use Rattle.mekvalgs_event.proofs.event.Goals as goal
 
 pub overflow_cast-result : goal.overflow_cast-result
 overflow_cast-result c =
-    let p = c.args.p in
-    omega (arith, node_low p.kind p.first p.second c.requires.parts (omega arith))
+    let is : c.args.p.kind ≡ 9 = search rules in
+    omega (arith, node_low c.args.p.kind c.args.p.first c.args.p.second c.requires.parts (omega arith))
 
-pub overflow_cast-result-in-10 : goal.overflow_cast-result-in-10
-overflow_cast-result-in-10 c =
-    let p = c.args.p in
-    omega (arith, node_low p.kind p.first p.second c.requires.parts (omega arith))
+pub overflow_cast-result-in-Ok-Off : goal.overflow_cast-result-in-Ok-Off
+overflow_cast-result-in-Ok-Off c =
+    let is : c.args.p.kind ≡ 10 = search rules in
+    omega (arith, node_low c.args.p.kind c.args.p.first c.args.p.second c.requires.parts (omega arith))
 
-pub overflow_cast-result-in-11 : goal.overflow_cast-result-in-11
-overflow_cast-result-in-11 c =
-    let p = c.args.p in
-    omega (arith, node_low p.kind p.first p.second c.requires.parts (omega arith))
+pub overflow_cast-result-in-Ok-Notice : goal.overflow_cast-result-in-Ok-Notice
+overflow_cast-result-in-Ok-Notice c =
+    let is : c.args.p.kind ≡ 11 = search rules in
+    omega (arith, node_low c.args.p.kind c.args.p.first c.args.p.second c.requires.parts (omega arith))
 
-pub overflow_cast-result-in-11-2 : goal.overflow_cast-result-in-11-2
-overflow_cast-result-in-11-2 c =
-    let p = c.args.p in
-    omega (arith, other_low p.kind p.first p.second c.requires.parts (omega arith) (omega arith))
+pub overflow_cast-result-in-Ok-Notice-2 : goal.overflow_cast-result-in-Ok-Notice-2
+overflow_cast-result-in-Ok-Notice-2 c =
+    let is : c.args.p.kind ≡ 11 = search rules in
+    omega (arith, other_low c.args.p.kind c.args.p.first c.args.p.second c.requires.parts (omega arith) (omega arith))
 
-pub overflow_cast-result-in-12 : goal.overflow_cast-result-in-12
-overflow_cast-result-in-12 c =
-    let p = c.args.p in
-    omega (arith, node_low p.kind p.first p.second c.requires.parts (omega arith))
+pub overflow_cast-result-in-Ok-Contact : goal.overflow_cast-result-in-Ok-Contact
+overflow_cast-result-in-Ok-Contact c =
+    let is : c.args.p.kind ≡ 12 = search rules in
+    omega (arith, node_low c.args.p.kind c.args.p.first c.args.p.second c.requires.parts (omega arith))
 
-pub overflow_cast-result-in-12-2 : goal.overflow_cast-result-in-12-2
-overflow_cast-result-in-12-2 c =
-    let p = c.args.p in
-    omega (arith, other_low p.kind p.first p.second c.requires.parts (omega arith) (omega arith))
+pub overflow_cast-result-in-Ok-Contact-2 : goal.overflow_cast-result-in-Ok-Contact-2
+overflow_cast-result-in-Ok-Contact-2 c =
+    let is : c.args.p.kind ≡ 12 = search rules in
+    omega (arith, other_low c.args.p.kind c.args.p.first c.args.p.second c.requires.parts (omega arith) (omega arith))
 
-pub overflow_cast-result-in-13 : goal.overflow_cast-result-in-13
-overflow_cast-result-in-13 c =
-    let p = c.args.p in
-    omega (arith, node_low p.kind p.first p.second c.requires.parts (omega arith))
+pub overflow_cast-result-in-Ok-Timer : goal.overflow_cast-result-in-Ok-Timer
+overflow_cast-result-in-Ok-Timer c =
+    let is : c.args.p.kind ≡ 13 = search rules in
+    omega (arith, node_low c.args.p.kind c.args.p.first c.args.p.second c.requires.parts (omega arith))
 
-pub overflow_cast-result-in-13-2 : goal.overflow_cast-result-in-13-2
-overflow_cast-result-in-13-2 c =
-    let p = c.args.p in
-    omega (arith, timer_low p.kind p.first p.second c.requires.parts (omega arith))
+pub overflow_cast-result-in-Ok-Timer-2 : goal.overflow_cast-result-in-Ok-Timer-2
+overflow_cast-result-in-Ok-Timer-2 c =
+    let is : c.args.p.kind ≡ 13 = search rules in
+    omega (arith, timer_low c.args.p.kind c.args.p.first c.args.p.second c.requires.parts is)
 
-pub overflow_cast-result-in-14 : goal.overflow_cast-result-in-14
-overflow_cast-result-in-14 c =
-    let p = c.args.p in
-    omega (arith, position_low p.kind p.first p.second c.requires.parts (omega arith))
+pub overflow_cast-result-in-Ok-Deliver : goal.overflow_cast-result-in-Ok-Deliver
+overflow_cast-result-in-Ok-Deliver c =
+    let is : c.args.p.kind ≡ 14 = search rules in
+    omega (arith, position_low c.args.p.kind c.args.p.first c.args.p.second c.requires.parts (omega arith))
 
-pub overflow_cast-result-in_default : goal.overflow_cast-result-in_default
-overflow_cast-result-in_default c =
-    let p = c.args.p in
-    let least : 9 ≤ p.kind = kind_low p.kind p.first p.second c.requires.parts in
-    let lose : p.kind ≡ 15 = omega (arith, kind_high p.kind p.first p.second c.requires.parts) in
-    omega (arith, position_low p.kind p.first p.second c.requires.parts (omega arith))
+pub overflow_cast-result-in-Ok-Lose : goal.overflow_cast-result-in-Ok-Lose
+overflow_cast-result-in-Ok-Lose c =
+    let is : c.args.p.kind ≡ 15 = search rules in
+    omega (arith, position_low c.args.p.kind c.args.p.first c.args.p.second c.requires.parts (omega arith))
 
-pub returns-in-9 : goal.returns-in-9
+pub returns-in-Ok-On : goal.returns-in-Ok-On
 unfolding event_of_parts
-returns-in-9 c = record { value = rw c.in-9.is }
+returns-in-Ok-On c = let is : c.args.p.kind ≡ 9 = search rules in record { value = rw is }
 
-pub returns-in-10 : goal.returns-in-10
+pub returns-in-Ok-Off : goal.returns-in-Ok-Off
 unfolding event_of_parts
-returns-in-10 c = record { value = rw c.in-10.is }
+returns-in-Ok-Off c = let is : c.args.p.kind ≡ 10 = search rules in record { value = rw is }
 
-pub returns-in-11 : goal.returns-in-11
+pub returns-in-Ok-Notice : goal.returns-in-Ok-Notice
 unfolding event_of_parts
-returns-in-11 c = record { value = rw c.in-11.is }
+returns-in-Ok-Notice c = let is : c.args.p.kind ≡ 11 = search rules in record { value = rw is }
 
-pub returns-in-12 : goal.returns-in-12
+pub returns-in-Ok-Contact : goal.returns-in-Ok-Contact
 unfolding event_of_parts
-returns-in-12 c = record { value = rw c.in-12.is }
+returns-in-Ok-Contact c = let is : c.args.p.kind ≡ 12 = search rules in record { value = rw is }
 
-pub returns-in-13 : goal.returns-in-13
+pub returns-in-Ok-Timer : goal.returns-in-Ok-Timer
 unfolding event_of_parts
-returns-in-13 c = record { value = rw c.in-13.is }
+returns-in-Ok-Timer c = let is : c.args.p.kind ≡ 13 = search rules in record { value = rw is }
 
-pub returns-in-14 : goal.returns-in-14
+pub returns-in-Ok-Deliver : goal.returns-in-Ok-Deliver
 unfolding event_of_parts
-returns-in-14 c = record { value = rw c.in-14.is }
+returns-in-Ok-Deliver c = let is : c.args.p.kind ≡ 14 = search rules in record { value = rw is }
 
-pub returns-in_default : goal.returns-in_default
+pub returns-in-Ok-Lose : goal.returns-in-Ok-Lose
 unfolding event_of_parts
-returns-in_default c = record {
-  value =
-      let p = c.args.p in
-      let least : 9 ≤ p.kind = kind_low p.kind p.first p.second c.requires.parts in
-      let lose : p.kind ≡ 15 = omega (arith, kind_high p.kind p.first p.second c.requires.parts) in
-      rw lose;
-}
+returns-in-Ok-Lose c = let is : c.args.p.kind ≡ 15 = search rules in record { value = rw is }
+
+pub unreachable-requires : goal.unreachable-requires
+unreachable-requires c =
+    let low = kind_low c.args.p.kind c.args.p.first c.args.p.second c.requires.parts in
+    omega (arith, c.in-Err.ensures.1 low, kind_high c.args.p.kind c.args.p.first c.args.p.second c.requires.parts)
