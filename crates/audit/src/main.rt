@@ -18,20 +18,17 @@ fn run<R: Read, W: Write>(
     input: &mut R,
     output: &mut W,
     words: &mut [u32],
-    counts: &mut [u64],
-    listed: &mut [u32],
     bytes: &mut [u8],
     out: &mut [u8],
 ) -> io::Result<()>
-    requires words { (length words.old ≡ ring_length) × (length counts.old ≡ 16) × (length listed.old ≡ 16) }
+    requires words { length words.old ≡ ring_length }
     requires room { (length bytes.old ≡ 4096) × (length out.old ≡ 3000000) }
 {
     let mut session = Session::new();
     for _ in 0..MOST {
-        let next = chunks::audit_next(input, session, bytes, words, counts, listed, out)?;
+        let next = chunks::audit_next(input, session, bytes, words, out)?;
         session = next.session;
-        let end = session.end;
-        output.write_all(&out[..end])?;
+        output.write_all(&out[..session.end])?;
         if !session.more {
             return Ok(());
         }
@@ -41,16 +38,12 @@ fn run<R: Read, W: Write>(
 
 fn main(rt: HostRuntime) -> io::Result<()> {
     let mut words = [0u32; place::LENGTH];
-    let mut counts = [0u64; 16];
-    let mut listed = [0u32; 16];
     let mut bytes = [0u8; Session::CHUNK];
     let mut out = turn::room();
     run(
         &mut rt.stdin(),
         &mut rt.stdout(),
         &mut words,
-        &mut counts,
-        &mut listed,
         &mut bytes,
         &mut out,
     )

@@ -13,17 +13,16 @@ use Rattle.audit_account.specs.Accounts.{Standing, noted, counted, begun, after_
 use Rattle.audit_account.specs.Whole.{played_all, all_lines}
 use Rattle.audit_account.specs.declared.Account.{Account}
 use Rattle.audit_event.specs.Kept.{Kept, Audits}
-use Rattle.audit_event.specs.declared.Audited.{Audited}
+use Rattle.audit_account.specs.declared.Log.{Log}
 use Rattle.audit_session.specs.Sessions.{standing_of, Holds, AllAudited}
 
 -- ---- what is kept determines the standing
 
-pub standing_is : {s : Standing} {ws counts words : List ℕ} {a : Account} → Kept s ws counts words a → standing_of ws counts words a ≡ s
+pub standing_is : {s : Standing} {ws : List ℕ} {log : Log} → Kept s ws log → standing_of ws log ≡ s
 unfolding standing_of
 standing_is k = λ i. record { ring = k.ring i; account = k.account i; listed = sym k.lists.entries i }
 
-pub own_holds : {s : Standing} {ws counts words groups : List ℕ} {a : Account} → Holds s ws counts words groups a
-    → Holds (standing_of ws counts words a) ws counts words groups a
+pub own_holds : {s : Standing} {ws : List ℕ} {log : Log} → Holds s ws log → Holds (standing_of ws log) ws log
 own_holds h = rw (standing_is h.kept) h
 
 -- ---- each word counts
@@ -47,18 +46,17 @@ all_counted s (w ∷ ws) = omega (arith, all_counted (played s w) ws, one_counte
 -- ---- the words, one after the other
 
 -- those before place i are played
-pub record AuditedTo (s : Standing) (script ws counts words out out' : List ℕ) (r : Audited) (i : ℕ) : Type 0 where
+pub record AuditedTo (s : Standing) (script ws : List ℕ) (log : Log) (out out' : List ℕ) (end i : ℕ) : Type 0 where
   pub within : i ≤ length script
   pub standing : Standing
-  pub holds : Holds standing ws counts words r.groups r.account
+  pub holds : Holds standing ws log
   pub rest : played_all standing (drop i script) ≡ played_all s script
-  pub count : r.account.count ≡ s.account.count + i
-  pub put : PutBefore out out' 0 r.end (all_lines s script) (all_lines standing (drop i script))
-  pub room : r.end ≤ 2914 * i
+  pub count : log.account.count ≡ s.account.count + i
+  pub put : PutBefore out out' 0 end (all_lines s script) (all_lines standing (drop i script))
+  pub room : end ≤ 2914 * i
 
-pub none_audited : (s : Standing) (script : List ℕ) {ws counts words groups : List ℕ} {a : Account} (out : List ℕ) → Holds s ws counts words groups a
-    → AuditedTo s script ws counts words out out (record { account = a; groups = groups; end = 0 }) 0
-none_audited s script {a = a} out h =
+pub none_audited : (s : Standing) (script : List ℕ) {ws : List ℕ} {log : Log} (out : List ℕ) → Holds s ws log → AuditedTo s script ws log out out 0 0
+none_audited s script out h =
     record {
       within = omega arith;
       standing = s;
@@ -69,14 +67,12 @@ none_audited s script {a = a} out h =
       room = omega arith;
     }
 
-module _ {s : Standing} {script ws counts words out out' : List ℕ} {r : Audited} {i : ℕ} (p : AuditedTo s script ws counts words out out' r i) where
-  pub more_audited : {ws' counts' words' out'' : List ℕ} {r' : Audited} → i < length script
-      → Audits p.standing (get_or script i 0) ws' counts' words' r'.groups out' out'' r.end r'.end r'.account
-      → r'.end ≤ r.end + 2914 → AuditedTo s script ws' counts' words' out out'' r' (i + 1)
+module _ {s : Standing} {script ws : List ℕ} {log : Log} {out out' : List ℕ} {end i : ℕ} (p : AuditedTo s script ws log out out' end i) where
+  pub more_audited : {w : ℕ} {ws' : List ℕ} {log' : Log} {out'' : List ℕ} {end' : ℕ} → i < length script → w ≡ get_or script i 0
+      → Audits p.standing w ws' log' out' out'' end end' → end' ≤ end + 2914 → AuditedTo s script ws' log' out out'' end' (i + 1)
   unfolding played_all all_lines
-  more_audited below q room =
-      let w : ℕ = get_or script i 0 in
-      let next : drop i script ≡ w ∷ drop (i + 1) script = next_item script i below in
+  more_audited {w} below e q room =
+      let next : drop i script ≡ w ∷ drop (i + 1) script = next_item script i below ∙ ap (λ (v : ℕ). v ∷ drop (i + 1) script) (sym e) in
       let k = q.kept in
       record {
         within = omega arith;
@@ -91,7 +87,7 @@ module _ {s : Standing} {script ws counts words out out' : List ℕ} {r : Audite
         room = omega (arith, p.room);
       }
 
-  pub all_audited : length script ≤ i → AllAudited s script ws counts words out out' r
+  pub all_audited : length script ≤ i → AllAudited s script ws log out out' end
   unfolding played_all all_lines
   all_audited h =
       let none' : drop i script ≡ [] = drop_of_length-le script h in
@@ -101,6 +97,6 @@ module _ {s : Standing} {script ws counts words out out' : List ℕ} {r : Audite
         room = omega (arith, p.room, p.within);
       }
 
-pub audited_count : {s : Standing} {script ws counts words out out' : List ℕ} {r : Audited} → AllAudited s script ws counts words out out' r
-    → r.account.count ≡ s.account.count + length script
+pub audited_count : {s : Standing} {script ws : List ℕ} {log : Log} {out out' : List ℕ} {end : ℕ} → AllAudited s script ws log out out' end
+    → log.account.count ≡ s.account.count + length script
 audited_count {s} {script} p = ap (λ (b : Account). b.count) p.holds.kept.account ∙ all_counted s script

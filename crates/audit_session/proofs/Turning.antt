@@ -13,7 +13,7 @@ use Rattle.bench_script.proofs.Chunks.{few_words, many_words, no_tail}
 use Rattle.model.specs.Answers.{number_of}
 use Rattle.model.specs.Bench.{little_endian}
 use Rattle.model.specs.Words.{decode}
-use Rattle.model.specs.declared.answer.Answer.TheVariants.{NotAnEvent}
+use Rattle.model.specs.declared.refusal.Refusal.TheVariants.{NotAnEvent}
 use Rattle.model.proofs.Words.{reads_out}
 use Rattle.text_form.specs.Ascii.{ascii}
 use Rattle.text_form.specs.Names.{tail_name}
@@ -22,7 +22,7 @@ use Rattle.audit_account.specs.Accounts.{Standing, answer_text, state_text, even
 use Rattle.audit_account.specs.Whole.{played_all, tail_line}
 use Rattle.audit_account.specs.declared.Account.{Account}
 use Rattle.audit_lines.proofs.Lines.{event_line}
-use Rattle.audit_event.specs.declared.Audited.{Audited}
+use Rattle.audit_account.specs.declared.Log.{Log}
 use Rattle.audit_session.specs.Turns.{is_full, end_of, played_turn}
 use Rattle.audit_session.specs.Sessions.{AllAudited, Stepped}
 use Rattle.audit_session.specs.declared.turn.Session.{Session}
@@ -63,15 +63,14 @@ at_end a e = rw e
 
 -- ---- the events of a chunk
 
-module _ {s : Standing} {script ws counts words out out₁ out₂ : List ℕ} {r : Audited} (chunk : List ℕ) {mid : ℕ}
-    (p : AllAudited s script ws counts words out out₁ r)
-    (tail : (σ : Standing) → decode ws ≡ σ.ring → r.account.count ≡ σ.account.count → Put out₁ out₂ r.end mid (tail_line σ (tail_of chunk))) where
-  tail_put : Put out₁ out₂ r.end mid (tail_line (played_all s script) (tail_of chunk))
+module _ {s : Standing} {script ws : List ℕ} {log : Log} {out out₁ out₂ : List ℕ} {end₁ : ℕ} (chunk : List ℕ) {mid : ℕ}
+    (p : AllAudited s script ws log out out₁ end₁)
+    (tail : (σ : Standing) → decode ws ≡ σ.ring → log.account.count ≡ σ.account.count → Put out₁ out₂ end₁ mid (tail_line σ (tail_of chunk))) where
+  tail_put : Put out₁ out₂ end₁ mid (tail_line (played_all s script) (tail_of chunk))
   tail_put = tail (played_all s script) p.holds.kept.ring (ap (λ (a : Account). a.count) p.holds.kept.account)
 
-  pub turn_played : {out' : List ℕ} {end : ℕ} {session : Session} → Put out₂ out' mid end (end_of (is_full chunk) r.account)
-      → session ≡ record { more = is_full chunk; opened = true; account = r.account; groups = r.groups; end = end }
-      → Stepped (played_turn s script chunk) ws counts words out out' session
+  pub turn_played : {out' : List ℕ} {end : ℕ} {session : Session} → Put out₂ out' mid end (end_of (is_full chunk) log.account)
+      → session ≡ record { more = is_full chunk; opened = true; log = log; end = end } → Stepped (played_turn s script chunk) ws out out' session
   unfolding played_turn
   turn_played t e =
       let k = p.holds.kept in
@@ -82,7 +81,5 @@ module _ {s : Standing} {script ws counts words out out₁ out₂ : List ℕ} {r
         account = k.account;
         put = put_more (put_more p.put tail_put) (rw k.account at t);
         long = (reads_out _ k.reads).long;
-        counts_long = k.lists.counts_long;
-        words_long = k.lists.words_long;
         holds = λ h. p.holds;
       }

@@ -25,29 +25,23 @@ pub fn audit_next<R: Read>(
     session: Session,
     bytes: &mut [u8],
     words: &mut [u32],
-    counts: &mut [u64],
-    listed: &mut [u32],
     out: &mut [u8],
 ) -> io::Result<NextAudited>
-    requires session { Ready (2 ^ 63) session words.old counts.old listed.old }
+    requires session { Ready (2 ^ 63) session words.old }
     requires room { (length bytes.old ≡ 4096) × (length out.old ≡ 3000000) }
     ensures turn { IfOk result (λ next. Stepped
         (audit_turn session.opened
-        (standing_of words.old counts.old listed.old session.account)
+        (standing_of words.old session.log)
         (take next.read bytes.new))
-        words.new counts.new listed.new out.old out.new
+        words.new out.old out.new
         next.session) }
     ensures counts { IfOk result (λ next. IsPrefixLen next.read bytes.new × IsPrefixLen next.session.end out.new) }
     ensures bytes { IfOk result (λ next. Consumes (R.remaining file.old) (R.remaining file.new)
         (take next.read bytes.new)) }
     ensures last { IfOk result (λ next. next.read < 4096 → IsAtEnd (R.remaining file.new)) }
-    ensures err { OnErr result ((words.new ≡ words.old) × (counts.new ≡ counts.old)
-        × (listed.new ≡ listed.old) × (out.new ≡ out.old)) }
+    ensures err { OnErr result ((words.new ≡ words.old) × (out.new ≡ out.old)) }
 {
     let read = streams::read_full(file, bytes)?;
-    let after = step(session, &bytes[..read], words, counts, listed, out);
-    Ok(NextAudited {
-        read,
-        session: after,
-    })
+    let session = step(session, &bytes[..read], words, out);
+    Ok(NextAudited { read, session })
 }

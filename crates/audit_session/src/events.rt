@@ -2,38 +2,21 @@
 ghost use Rattle.std.specs.Prelude.{◌+◌, ◌*◌, ◌^◌, ◌<◌, ◌≤◌, length};
 ghost use Rattle.audit_session.specs.Sessions.{standing_of, Holds, AllAudited};
 
-use audit_account::Account;
-use audit_event::{Audited, audit_word};
+use audit_account::Log;
+use audit_event::audit_word;
 
-// Audits each word of the script on what the one before left, and puts the lines at the start of `out`.
-pub fn audit_all(
-    words: &mut [u32],
-    script: &[u32],
-    account: Account,
-    groups: [u64; 64],
-    counts: &mut [u64],
-    listed: &mut [u32],
-    out: &mut [u8],
-) -> Audited
-    requires holds { Holds (standing_of words.old counts.old listed.old account)
-        words.old counts.old listed.old groups account }
+// Audits each word of the script on what the one before left, puts the lines at the start of `out`, and answers where
+// they end.
+pub fn audit_all(words: &mut [u32], script: &[u32], log: &mut Log, out: &mut [u8]) -> usize
+    requires holds { Holds (standing_of words.old log.old) words.old log.old }
     requires room { (2914 * length script.now ≤ length out.old)
-        × (account.count + length script.now < 2 ^ 64) }
-    ensures audited { AllAudited
-        (standing_of words.old counts.old listed.old account) script.now
-        words.new counts.new listed.new out.old out.new result }
+        × (log.old.account.count + length script.now < 2 ^ 64) }
+    ensures audited { AllAudited (standing_of words.old log.old) script.now
+        words.new log.new out.old out.new result }
 {
-    let mut state = Audited {
-        account,
-        groups,
-        end: 0,
-    };
-    for i in 0..script.len() {
-        let account = state.account;
-        let groups = state.groups;
-        state = audit_word(
-            words, script[i], account, groups, counts, listed, out, state.end,
-        );
+    let mut end = 0;
+    for word in script {
+        end = audit_word(words, *word, log, out, end);
     }
-    state
+    end
 }

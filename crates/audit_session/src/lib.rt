@@ -18,21 +18,19 @@ pub fn step(
     session: Session,
     bytes: &[u8],
     words: &mut [u32],
-    counts: &mut [u64],
-    listed: &mut [u32],
     out: &mut [u8],
 ) -> Session
-    requires session { Ready (2 ^ 63) session words.old counts.old listed.old }
+    requires session { Ready (2 ^ 63) session words.old }
     requires room { (length bytes.now ≤ 4096) × (3000000 ≤ length out.old) }
     ensures turn { Stepped
         (audit_turn session.opened
-        (standing_of words.old counts.old listed.old session.account)
+        (standing_of words.old session.log)
         bytes.now)
-        words.new counts.new listed.new out.old out.new result }
+        words.new out.old out.new result }
 {
     let mut script = [0u32; Session::WORDS];
     let n = loading::load(bytes, &mut script);
-    take_words(session, &script[..n], bytes, words, counts, listed, out)
+    take_words(session, &script[..n], bytes, words, out)
 }
 
 // The words of a chunk.
@@ -41,22 +39,20 @@ fn take_words(
     script: &[u32],
     bytes: &[u8],
     words: &mut [u32],
-    counts: &mut [u64],
-    listed: &mut [u32],
     out: &mut [u8],
 ) -> Session
-    requires session { Ready (2 ^ 63) session words.old counts.old listed.old }
+    requires session { Ready (2 ^ 63) session words.old }
     requires room { (length script.now ≤ 1024) × (3000000 ≤ length out.old) }
     ensures turn { Stepped
         (words_turn session.opened
-        (standing_of words.old counts.old listed.old session.account)
+        (standing_of words.old session.log)
         script.now bytes.now)
-        words.new counts.new listed.new out.old out.new result }
+        words.new out.old out.new result }
 {
     if session.opened {
-        return turn::play(session, script, bytes, words, counts, listed, out);
+        return turn::play(session, script, bytes, words, out);
     }
-    begin(script, bytes, words, counts, listed, out)
+    begin(script, bytes, words, out)
 }
 
 // The first chunk: opens the ring, and audits the events after the keys.
@@ -64,27 +60,17 @@ fn begin(
     script: &[u32],
     bytes: &[u8],
     words: &mut [u32],
-    counts: &mut [u64],
-    listed: &mut [u32],
     out: &mut [u8],
 ) -> Session
-    requires words { (length words.old ≡ ring_length) × (length counts.old ≡ 16) × (length listed.old ≡ 16) }
+    requires words { length words.old ≡ ring_length }
     requires room { (length script.now ≤ 1024) × (3000000 ≤ length out.old) }
     ensures turn { Stepped (first_turn script.now bytes.now)
-        words.new counts.new listed.new out.old out.new result }
+        words.new out.old out.new result }
 {
-    let refusal = answers::number(bench_open::open_script(script, words));
-    if refusal != 0 {
-        return Session::ended(audit_lines::put_no_ring(out, 0, refusal));
+    if let Err(refusal) = bench_open::open_script(script, words) {
+        let number = answers::number::<()>(Err(refusal));
+        return Session::ended(audit_lines::put_no_ring(out, 0, number));
     }
     let first = 1 + ring_head::nodes(words);
-    turn::play(
-        Session::new(),
-        &script[first..],
-        bytes,
-        words,
-        counts,
-        listed,
-        out,
-    )
+    turn::play(Session::new(), &script[first..], bytes, words, out)
 }

@@ -10,20 +10,19 @@ ghost use Rattle.audit_session.specs.Turns.{end_of, played_turn};
 ghost use Rattle.audit_session.specs.Sessions.{standing_of, Holds, Stepped};
 
 use super::events;
-use audit_account::Account;
+use audit_account::{Account, Entry, Log};
 use audit_event::played;
 use audit_lines::Sight;
 use bench_lines::{put_bytes, put_number};
-use model::answer::Answer;
+use model::refusal::Refusal;
 
-// How a session stands: whether there is more to come, whether a ring is open, the account so far, the groups of the
-// ring, and where the bytes end that the last chunk put out.
+// How a session stands: whether there is more to come, whether a ring is open, the log so far, and where the bytes end
+// that the last chunk put out.
 #[derive(Clone, Copy)]
 pub struct Session {
     pub more: bool,
     pub opened: bool,
-    pub account: Account,
-    pub groups: [u64; 64],
+    pub log: Log,
     pub end: usize,
 }
 
@@ -39,40 +38,38 @@ impl Session {
 
     // Before the first chunk.
     pub fn new() -> Session
-        ensures session { (result.opened ≡ false) × (result.account ≡ opened) }
-        ensures groups { result.groups ≡ replicate 64 0 }
+        ensures session { (result.opened ≡ false) × (result.log.account ≡ opened) }
+        ensures lists { (length result.log.listed ≡ 16) × (result.log.groups ≡ replicate 64 0) }
     {
-        let groups = [0u64; 64];
         Session {
             more: true,
             opened: false,
-            account: nothing(),
-            groups,
+            log: nothing(),
             end: 0,
         }
     }
 
     // No ring was opened.
     pub fn ended(end: usize) -> Session
-        ensures session { (result.more ≡ false) × (result.opened ≡ false) × (result.account ≡ opened)
+        ensures session { (result.more ≡ false) × (result.opened ≡ false) × (result.log.account ≡ opened)
             × (result.end ≡ end) }
     {
-        let groups = [0u64; 64];
         Session {
             more: false,
             opened: false,
-            account: nothing(),
-            groups,
+            log: nothing(),
             end,
         }
     }
 }
 
-// The account of no events.
-fn nothing() -> Account
-    ensures value { result ≡ opened }
+// The log of no events.
+#[tactic(auto, unfolding(audit_account::specs::Accounts::opened))]
+fn nothing() -> Log
+    ensures account { result.account ≡ opened }
+    ensures lists { (length result.listed ≡ 16) × (result.groups ≡ replicate 64 0) }
 {
-    Account {
+    let account = Account {
         count: 0,
         point: 0,
         uncovered: 0,
@@ -83,6 +80,11 @@ fn nothing() -> Account
         ons: 0,
         offs: 0,
         notices: 0,
+    };
+    Log {
+        account,
+        listed: [Entry { number: 0, word: 0 }; 16],
+        groups: [0; 64],
     }
 }
 
@@ -92,32 +94,24 @@ pub fn play(
     script: &[u32],
     bytes: &[u8],
     words: &mut [u32],
-    counts: &mut [u64],
-    listed: &mut [u32],
     out: &mut [u8],
 ) -> Session
-    requires session { Holds (standing_of words.old counts.old listed.old session.account)
-        words.old counts.old listed.old session.groups session.account }
+    requires session { Holds (standing_of words.old session.log) words.old session.log }
     requires room { (length script.now ≤ 1024) × (3000000 ≤ length out.old)
-        × (session.account.count + 1025 < 2 ^ 64) }
+        × (session.log.account.count + 1025 < 2 ^ 64) }
     ensures turn { Stepped
-        (played_turn (standing_of words.old counts.old listed.old session.account)
-        script.now bytes.now)
-        words.new counts.new listed.new out.old out.new result }
+        (played_turn (standing_of words.old session.log) script.now bytes.now)
+        words.new out.old out.new result }
 {
-    let before = session.account;
-    let groups = session.groups;
-    let audited = events::audit_all(words, script, before, groups, counts, listed, out);
-    let account = audited.account;
-    let groups = audited.groups;
-    let tail_end = put_tail(words, bytes, account.count, out, audited.end);
+    let mut log = session.log;
+    let audited = events::audit_all(words, script, &mut log, out);
+    let tail_end = put_tail(words, bytes, log.account.count, out, audited);
     let more = bytes.len() == Session::CHUNK;
-    let end = put_end(account, more, out, tail_end);
+    let end = put_end(log.account, more, out, tail_end);
     Session {
         more,
         opened: true,
-        account,
-        groups,
+        log,
         end,
     }
 }
@@ -158,7 +152,7 @@ fn put_tail_line(tail: &[u8], number: u64, sight: Sight, out: &mut [u8], at: usi
     let first = put_number(out, at, number);
     let second = put_bytes(out, first, b" tail ");
     let third = text_describe::put_hex(out, second, tail);
-    audit_lines::put_answered(out, third, Answer::NotAnEvent, sight)
+    audit_lines::put_answered(out, third, Err(Refusal::NotAnEvent), sight)
 }
 
 // The last line, unless there is more to come.

@@ -22,15 +22,11 @@ fn compare<R: Read>(
     requires room { (length bytes.old ≡ 4096) × (length out.old ≡ 3000000) × (length room.old ≡ 3000000) }
 {
     let mut words = [0u32; place::LENGTH];
-    let mut counts = [0u64; 16];
-    let mut listed = [0u32; 16];
     let next = chunks::audit_next(
         script,
         Session::new(),
         bytes,
         &mut words,
-        &mut counts,
-        &mut listed,
         out,
     )?;
     let session = next.session;

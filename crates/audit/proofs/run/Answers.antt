@@ -13,6 +13,6 @@ unfolding standing_of
 loop-preserved g c =
     let i = c.loop.invariant in
     let still =
-    still_ready _ (standing_of c.loop.words c.loop.counts c.loop.listed c.loop.session.account) _ (simp length-take (omega arith))
+    still_ready _ (standing_of c.loop.words c.loop.session.log) _ (simp length-take (omega arith))
     c.in_ok-next.ensures.turn _ i.1.few in
     (search rules, ready_within still (omega arith), search rules, search rules)

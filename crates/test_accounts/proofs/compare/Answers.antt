@@ -9,4 +9,4 @@ long : (n : ℕ) → length {A = ℕ} (replicate n 0) ≡ n
 long n = length-replicate n 0
 
 pub audit_next-requires-clause-session : goal.audit_next-requires-clause-session
-audit_next-requires-clause-session g c = ready_within (ready_first c.new.ensures.session (long 13441, long 16, long 16)) (lit≤ tt)
+audit_next-requires-clause-session g c = ready_within (ready_first c.new.ensures.session (long 13441)) (lit≤ tt)
