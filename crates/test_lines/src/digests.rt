@@ -6,46 +6,26 @@ fn digested(digest: u64, word: u32) -> u64
     requires bounds { digest < 2 ^ 32 }
     ensures bound { result < 2 ^ 32 }
 {
-    (31 * digest + word as u64) % 0x1_0000_0000
+    (31 * digest + u64::from(word)) % 0x1_0000_0000
 }
 
-pub fn digest(words: &[u32]) -> u64
+// The digest of words or bytes.
+pub fn digest<T: Copy + Into<u32>>(items: &[T]) -> u64
     ensures bound { result < 2 ^ 32 }
 {
-    digest_on(0, words)
+    digest_on(0, items)
 }
 
-// The digest of words after others, whose digest is the first.
-pub fn digest_on(first: u64, words: &[u32]) -> u64
+// The digest of words or bytes after others, whose digest is the first.
+pub fn digest_on<T: Copy + Into<u32>>(first: u64, items: &[T]) -> u64
     requires bounds { first < 2 ^ 32 }
     ensures bound { result < 2 ^ 32 }
 {
     let mut digest = first;
-    for i in 0..words.len() {
-        digest = digested(digest, words[i]);
+    for item in items {
+        digest = digested(digest, (*item).into());
     }
     digest
-}
-
-pub fn digest_bytes(bytes: &[u8]) -> u64
-    ensures bound { result < 2 ^ 32 }
-{
-    digest_bytes_on(0, bytes)
-}
-
-pub fn digest_bytes_on(first: u64, bytes: &[u8]) -> u64
-    requires bounds { first < 2 ^ 32 }
-    ensures bound { result < 2 ^ 32 }
-{
-    let mut digest = first;
-    for i in 0..bytes.len() {
-        digest = digested(digest, wide(bytes[i]));
-    }
-    digest
-}
-
-fn wide(byte: u8) -> u32 {
-    byte as u32
 }
 
 // A set as two words, the lower one first.
@@ -62,8 +42,8 @@ pub fn digest_sets(first: u64, sets: &[u64; 64]) -> u64
     ensures bound { result < 2 ^ 32 }
 {
     let mut digest = first;
-    for i in 0..64 {
-        digest = digest_set(digest, sets[i]);
+    for set in sets {
+        digest = digest_set(digest, *set);
     }
     digest
 }

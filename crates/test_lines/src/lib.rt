@@ -9,7 +9,7 @@ use bench_script::loading;
 use std::io;
 use std::io::{Read, Write};
 
-const NEWLINE: u8 = 10;
+const NEWLINE: u8 = b'\n';
 
 // Six words: the number, a, b, c, d, and how many words of a buffer are lent to the call. A program looks at those that
 // it needs.
@@ -23,22 +23,16 @@ pub struct Command {
     pub lent: u32,
 }
 
-#[derive(Clone, Copy)]
-pub enum Next {
-    Command(Command),
-    End,
-}
-
-// The next command of standard input.
-pub fn read<R: Read>(input: &mut R) -> io::Result<Next> {
+// The next command of standard input; at its end there is none.
+pub fn read<R: Read>(input: &mut R) -> io::Result<Option<Command>> {
     let mut bytes = [0u8; 24];
     let read = streams::read_full(input, &mut bytes)?;
     if read < 24 {
-        return Ok(Next::End);
+        return Ok(None);
     }
     let mut words = [0u32; 6];
     loading::load(&bytes, &mut words);
-    Ok(Next::Command(Command {
+    Ok(Some(Command {
         number: words[0],
         a: words[1],
         b: words[2],
@@ -64,8 +58,8 @@ fn put(out: &mut [u8], numbers: &[u64]) -> usize
     ensures bound { result ≤ 105 }
 {
     let mut end = bench_lines::put_number(out, 0, numbers[0]);
-    for i in 1..numbers.len() {
-        end = bench_lines::put_next(out, end, numbers[i]);
+    for n in &numbers[1..] {
+        end = bench_lines::put_next(out, end, *n);
     }
     bench_lines::put_byte(out, end, NEWLINE)
 }

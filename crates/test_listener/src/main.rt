@@ -9,7 +9,7 @@ use model::refusal::Refusal;
 use model::values::NodeNumber;
 use std::io;
 use std::io::Write;
-use test_lines::{Command, Next, digests};
+use test_lines::{Command, digests};
 
 // More commands than any input has.
 const MOST: u32 = 1_000_000;
@@ -45,8 +45,8 @@ fn print<W: Write>(
     record: &ListenerRecord,
 ) -> io::Result<()> {
     let watched = digests::digest_set(0, record.watched);
-    let silences = digests::digest_bytes_on(watched, &record.silences);
-    let digest = digests::digest_bytes_on(silences, &record.windows);
+    let silences = digests::digest_on(watched, &record.silences);
+    let digest = digests::digest_on(silences, &record.windows);
     test_lines::print(
         output,
         &[u64::from(number), u64::from(answer), notices, digest],
@@ -94,8 +94,7 @@ fn main(rt: HostRuntime) -> io::Result<()> {
     let mut output = rt.stdout();
     let mut record = empty();
     for _ in 0..MOST {
-        let next = test_lines::read(&mut input)?;
-        let Next::Command(command) = next else {
+        let Some(command) = test_lines::read(&mut input)? else {
             return Ok(());
         };
         run(&mut output, command, &mut record)?;

@@ -3,5 +3,5 @@ use Prim.Native.Nat.{◌+◌, ◌*◌, ◌≤◌}
 use lib.ListN.{length}
 use Rattle.test_lines.proofs.put.Given as goal
 
-abbrev pub invariant-loop-i : goal.invariant-loop-i
-invariant-loop-i l = (length l.out ≡ length l.initial.out) × (l.i-end ≡ length l.numbers) × (1 ≤ l.i) × (l.i ≤ l.i-end) × (l.end + 1 ≤ 21 * l.i)
+abbrev pub invariant-loop-n : goal.invariant-loop-n
+invariant-loop-n l = (length l.out ≡ length l.initial.out) × (l.end ≤ 20 + 21 * l.n-index)
