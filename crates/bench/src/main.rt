@@ -27,8 +27,7 @@ fn run<R: Read, W: Write>(
     for _ in 0..MOST {
         let next = chunks::play_next(input, session, bytes, words, out)?;
         session = next.session;
-        let end = session.end;
-        output.write_all(&out[..end])?;
+        output.write_all(&out[..session.end])?;
         if !session.more {
             return Ok(());
         }

@@ -25,12 +25,6 @@ pub struct Trip {
     pub same: bool,
 }
 
-fn lesser(a: usize, b: usize) -> usize
-    ensures value { result ≡ a - (a - b) }
-{
-    if a < b { a } else { b }
-}
-
 // Whether the script goes on with these bytes.
 fn is_next(script: &[u8], back: usize, bytes: &[u8]) -> bool
     requires back { back ≤ length script.now }
@@ -49,18 +43,17 @@ fn matched(trip: Trip, read: ChunkRead, script: &[u8], out: &[u8]) -> Trip
     ensures reader { (result.reader ≡ read.reader) × (result.back ≤ length script.now) }
 {
     let reader = read.reader;
-    let end = read.end;
-    if !is_next(script, trip.back, &out[..end]) {
+    if !is_next(script, trip.back, &out[..read.end]) {
         return Trip {
             reader,
-            back: trip.back,
             same: false,
+            ..trip
         };
     }
     Trip {
         reader,
-        back: trip.back + end,
-        same: trip.same,
+        back: trip.back + read.end,
+        ..trip
     }
 }
 
@@ -70,8 +63,7 @@ fn piece(trip: Trip, text: &[u8], script: &[u8], keys: &mut [u32], out: &mut [u8
     ensures ready { Ready (trip.reader.line + length text.now) result script.now
         keys.new out.new }
 {
-    let reader = trip.reader;
-    let read = chunk::read_chunk(reader, text, keys, out);
+    let read = chunk::read_chunk(trip.reader, text, keys, out);
     matched(trip, read, script, out)
 }
 
@@ -82,11 +74,8 @@ fn pieces(trip: Trip, text: &[u8], script: &[u8], keys: &mut [u32], out: &mut [u
         keys.new out.new }
 {
     let mut after = trip;
-    let mut at = 0;
-    while at < text.len() {
-        let end = lesser(at + ChunkRead::CHUNK, text.len());
-        after = piece(after, &text[at..end], script, keys, out);
-        at = end;
+    for part in text.chunks(ChunkRead::CHUNK) {
+        after = piece(after, part, script, keys, out);
     }
     after
 }
@@ -96,8 +85,7 @@ fn ends(trip: Trip, script: &[u8], keys: &mut [u32], out: &mut [u8]) -> bool
     requires ready { Ready (2 ^ 63) trip script.now keys.old out.old }
     ensures buffers { KeysBounded keys.new × (length out.new ≡ 266240) }
 {
-    let reader = trip.reader;
-    let read = chunk::close(reader, keys, out);
+    let read = chunk::close(trip.reader, keys, out);
     let last = matched(trip, read, script, out);
     last.same & !last.reader.fault & (last.back == script.len())
 }
@@ -117,10 +105,9 @@ pub fn comes_back(script: &[u8], text: &mut [u8], keys: &mut [u32], out: &mut [u
     };
     let mut at = 0;
     for _ in 0..CHUNKS {
-        let end = lesser(at + Session::CHUNK, script.len());
+        let end = script.len().min(at + Session::CHUNK);
         session = text_describe::step(session, &script[at..end], text);
-        let size = session.end;
-        trip = pieces(trip, &text[..size], script, keys, out);
+        trip = pieces(trip, &text[..session.end], script, keys, out);
         if !session.more {
             return ends(trip, script, keys, out);
         }
