@@ -1,19 +1,15 @@
 -- A hop: the nearest of the running nodes that are held, where it is nearer.
-use mathlib.Core.Path.{◌≡◌, refl, sym, ap, ap₂, ◌∙◌, fun_ext}
-use mathlib.Core.Bool.{Bool, true, false, ◌&&◌}
+use mathlib.Core.Path.{◌≡◌, sym, ap, ap₂, ◌∙◌, fun_ext}
+use mathlib.Core.Bool.{true, false, ◌&&◌}
 use mathlib.Core.List.{List}
-use Prim.Native.Nat.{ℕ, ◌^◌, ◌≤◌, ◌<◌}
-use native.Mathlib.Omega.{arith}
-use lib.Bits.{bit_and, and_le_r}
+use Prim.Native.Nat.{ℕ, ◌<◌}
+use lib.Bits.{bit_and}
 use lib.Dec.{ltb}
 use lib.ListN.{length, get_or}
-use borrow.Author.Tests.{lt-ltb, le-ltb}
-use Rattle.std.specs.Prelude.{if◌then◌else◌}
-use Rattle.model.specs.Sets.{Set, some, of_bits, none_node}
-use Rattle.model.specs.Leafset.{Table, size, beats, nearest}
+use Rattle.model.specs.Sets.{Set, some, of_bits}
+use Rattle.model.specs.Leafset.{Table, size, nearest}
 use Rattle.model.specs.Ring.{Own, Ring, holds}
-use Rattle.model.specs.Words.{decode_table, decode_node, decode}
-use Rattle.model.specs.Structs.{own_of}
+use Rattle.model.specs.Words.{decode_node, decode}
 use Rattle.model.specs.Route.{held_running, next_of, goes_on}
 use Rattle.model.specs.declared.node.NodeRecord.{NodeRecord}
 use Rattle.model.proofs.Laws.{clash, is_false, and_left, some_in, some_out}
@@ -21,11 +17,11 @@ use Rattle.model.proofs.Decoded.{reads_well}
 use Rattle.sets.specs.Within.{Within}
 use Rattle.sets.proofs.Bits.{and_both}
 use Rattle.ring_pairs.specs.Loaded.{LoadedNode}
-use Rattle.leafset_nearest.specs.Span.{rank_of, span_to, Found}
+use Rattle.leafset_nearest.specs.Span.{rank_of, span_to, Least, found}
 use Rattle.leafset_nearest.specs.declared.Way.TheVariants.{Either}
 use Rattle.leafset_nearest.proofs.Spans.{beats_rank}
 use Rattle.leafset_nearest.proofs.Firsts.{nearest_found}
-use Rattle.call_route.specs.Walks.{Ready, next_or_none}
+use Rattle.call_route.specs.Walks.{Ready}
 
 module _ {ws keys : List ℕ} {running : ℕ} (ready : Ready ws keys running) (key x : ℕ) {q : NodeRecord} (loaded : LoadedNode ws x q) where
   abbrev ρ : Ring
@@ -55,37 +51,28 @@ module _ {ws keys : List ℕ} {running : ℕ} (ready : Ready ws keys running) (k
   pub there_within : Within (length keys) there
   there_within z e = rw keys_table (there_low z e)
 
-  pub there_room : running < 2 ^ 64 → there < 2 ^ 64
-  there_room h = omega (arith, and_le_r q.held running)
-
-  pub nobody_there : ((z : ℕ) → of_bits there z ≡ false) → none_node ≡ next_or_none ρ key x
+  pub nobody_there : ((z : ℕ) → of_bits there z ≡ false) → goes_on ρ key x ≡ false
   unfolding goes_on
   nobody_there none =
       rw (is_false (some (size t) (held_running ρ key x))
       (λ s. let p = some_out (size t) (held_running ρ key x) s in clash p.2 (sym (ap (λ (S : Set). S p.0) there_is) ∙ none p.0)))
 
-  module _ (z : ℕ) (member : of_bits there z ≡ true) {y u v : ℕ} (found : Found (of_bits there) (span_to Either key keys) y)
+  module _ {y u v : ℕ} (nearest_lem : Least (of_bits there) (span_to Either key keys) y)
       (far : u ≡ rank_of key (get_or keys y 0)) (own : v ≡ rank_of key (get_or keys x 0)) where
-    next_is : y ≡ next_of ρ key x
+    pub next_is : y ≡ next_of ρ key x
     unfolding next_of
     next_is =
-        nearest_found t key (of_bits there) there_low (rw keys_table at found)
+        nearest_found t key (of_bits there) there_low (rw keys_table at (found nearest_lem))
         ∙ ap (nearest t key) there_is
 
-    goes_on_is : goes_on ρ key x ≡ ltb u v
+    pub goes_on_is : goes_on ρ key x ≡ ltb u v
     unfolding goes_on
     goes_on_is =
         rw (
-          some_in (size t) (held_running ρ key x) z (there_low z member) (sym (ap (λ (S : Set). S z) there_is) ∙ member),
+          some_in (size t) (held_running ρ key x) y (there_low y nearest_lem.member) (sym (ap (λ (S : Set). S y) there_is) ∙ nearest_lem.member),
           ← next_is,
           beats_rank t key y x,
           far,
           own,
           keys_table,
         )
-
-    pub hops : u < v → y ≡ next_or_none ρ key x
-    hops h = rw (goes_on_is ∙ lt-ltb u v h) next_is
-
-    pub stays : v ≤ u → none_node ≡ next_or_none ρ key x
-    stays h = rw (goes_on_is ∙ le-ltb u v h)

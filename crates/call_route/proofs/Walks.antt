@@ -6,62 +6,46 @@ use Prim.Native.Nat.{ℕ, suc, ◌+◌, ◌-◌, ◌≤◌, ◌<◌}
 use native.Mathlib.Nat.{zero-add}
 use native.Mathlib.Numerals.{add-one}
 use native.Mathlib.Omega.{arith}
-use lib.ListN.{length, get_or, set, drop, length-set}
+use lib.ListN.{length, set, drop, length-set}
 use lib.Seq.{sets, sets-eq}
-use Rattle.std.specs.Prelude.{if◌then◌else◌}
-use Rattle.model.specs.Sets.{none_node}
 use Rattle.model.specs.Leafset.{size}
 use Rattle.model.specs.Ring.{Ring}
 use Rattle.model.specs.Words.{decode}
 use Rattle.model.specs.Route.{goes_on, next_of, route, nearer_than}
-use Rattle.model.proofs.Laws.{decide}
 use Rattle.model.proofs.Routes.{last_more, goes_on_lem, next_nearer, route_from, route_some}
-use Rattle.call_route.specs.Walks.{Ready, next_or_none, Walked}
+use Rattle.call_route.specs.Walks.{Ready, Walked}
 
-module _ (ρ : Ring) (key x : ℕ) (few : size ρ.table ≤ 64) {y : ℕ} (is : y ≡ next_or_none ρ key x) where
-  -- the next node is one of the table, so that none says that there is none
-  none_stops : y ≡ 64 → goes_on ρ key x ≡ false
-  none_stops e =
-      decide (goes_on ρ key x)
-      (λ g. absurd (let h = (goes_on_lem ρ key x g).below in let i : next_of ρ key x ≡ 64 = sym (rw g at is) ∙ e in omega arith))
-      (λ g. g)
+module _ (ρ : Ring) (key x : ℕ) where
+  pub ends : (place : ℕ) (list : List ℕ) → goes_on ρ key x ≡ false → Walked list place (route ρ key x) x place (set list place x)
+  ends place list e =
+      let path : route ρ key x ≡ x ∷ [] = route_from ρ key x ∙ rw e in
+      rw path (record { end = refl; last = refl; written = refl })
 
-  pub goes : ¬ (y ≡ 64) → goes_on ρ key x ≡ true
-  goes n = decide (goes_on ρ key x) (λ g. g) (λ g. absurd (n (rw g at is)))
+  module _ {y : ℕ} (goes : goes_on ρ key x ≡ true) (is : y ≡ next_of ρ key x) where
+    more_path : route ρ key x ≡ x ∷ route ρ key y
+    more_path = route_from ρ key x ∙ rw (goes, ← is)
 
-  next_is : ¬ (y ≡ 64) → y ≡ next_of ρ key x
-  next_is n = rw (goes n) at is
+    pub next_low : y < size ρ.table
+    next_low = rw is (goes_on_lem ρ key x goes).below
 
-  last_path : y ≡ 64 → route ρ key x ≡ x ∷ []
-  last_path e = route_from ρ key x ∙ rw (none_stops e)
+    pub fewer : nearer_than ρ key y < nearer_than ρ key x
+    fewer = rw is (next_nearer ρ key x goes)
 
-  more_path : ¬ (y ≡ 64) → route ρ key x ≡ x ∷ route ρ key y
-  more_path n = route_from ρ key x ∙ rw (goes n, ← next_is n)
+    pub next_room : (place : ℕ) (list : List ℕ) → place + length (route ρ key x) ≤ length list
+        → place + 1 + length (route ρ key y) ≤ length (set list place x)
+    next_room place list h =
+        let l : length (route ρ key x) ≡ suc (length (route ρ key y)) = ap length more_path in
+        omega (arith, length-set list place x)
 
-  pub next_low : ¬ (y ≡ 64) → y < size ρ.table
-  next_low n = rw (next_is n) (goes_on_lem ρ key x (goes n)).below
-
-  pub fewer : ¬ (y ≡ 64) → nearer_than ρ key y < nearer_than ρ key x
-  fewer n = rw (next_is n) (next_nearer ρ key x (goes n))
-
-  pub next_room : (place : ℕ) (list : List ℕ) → ¬ (y ≡ 64) → place + length (route ρ key x) ≤ length list
-      → place + 1 + length (route ρ key y) ≤ length (set list place x)
-  next_room place list n h =
-      let l : length (route ρ key x) ≡ suc (length (route ρ key y)) = ap length (more_path n) in
-      omega (arith, length-set list place x)
-
-  pub ends : (place : ℕ) (list : List ℕ) → y ≡ 64 → Walked list place (route ρ key x) x place (set list place x)
-  ends place list e = rw (last_path e) (record { end = refl; last = refl; written = refl })
-
-  pub goes_further : {place : ℕ} {list : List ℕ} {node last : ℕ} {list' : List ℕ} → ¬ (y ≡ 64)
-      → Walked (set list place x) (place + 1) (route ρ key y) node last list' → Walked list place (route ρ key x) node last list'
-  goes_further {place} {list} n w =
-      rw (more_path n)
-      (record {
-        end = w.end ∙ sym (last_more x (route ρ key y) (route_some ρ key y));
-        last = w.last ∙ omega arith;
-        written = w.written ∙ ap (λ (k : ℕ). sets (set list place x) k (route ρ key y)) (add-one place);
-      })
+    pub goes_further : {place : ℕ} {list : List ℕ} {node last : ℕ} {list' : List ℕ}
+        → Walked (set list place x) (place + 1) (route ρ key y) node last list' → Walked list place (route ρ key x) node last list'
+    goes_further {place} {list} w =
+        rw more_path
+        (record {
+          end = w.end ∙ sym (last_more x (route ρ key y) (route_some ρ key y));
+          last = w.last ∙ omega arith;
+          written = w.written ∙ ap (λ (k : ℕ). sets (set list place x) k (route ρ key y)) (add-one place);
+        })
 
 -- a walk from the list's first place on
 module _ {list path list' : List ℕ} {node last : ℕ} (room : length path ≤ length list) (w : Walked list 0 path node last list') where

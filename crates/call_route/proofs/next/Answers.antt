@@ -1,12 +1,11 @@
-use mathlib.Core.Path.{◌≡◌, ap}
+use mathlib.Core.Path.{◌≡◌, ap, ◌∙◌}
 use native.Mathlib.Omega.{arith}
 use lib.ListN.{length}
+use borrow.Author.Tests.{lt-ltb, le-ltb}
 use Rattle.model.specs.Leafset.{size}
 use Rattle.model.specs.Words.{decode_table}
-use Rattle.sets.proofs.Bits.{none_left, first_bit}
-use Rattle.leafset_nearest.proofs.Pick.{found_least}
 use Rattle.answers.proofs.Valid.{long, few}
-use Rattle.call_route.proofs.Hops.{there_within, there_room, nobody_there, hops, stays}
+use Rattle.call_route.proofs.Hops.{there_within, nobody_there, next_is, goes_on_is}
 use Rattle.call_route.proofs.next.Goals as goal
 
 pub load-own-requires : goal.load-own-requires
@@ -16,33 +15,34 @@ load-own-requires c = record {
       (long _ c.requires.ready.reads, n, omega (arith, few _ c.requires.ready.reads), c.requires.node);
 }
 
-pub returns-then-there-eq0 : goal.returns-then-there-eq0
-returns-then-there-eq0 c = record { next = nobody_there c.requires.ready _ _ c.load-own.ensures.loaded (none_left c.if-there-eq0.true) }
+pub nearest-requires : goal.nearest-requires
+nearest-requires c = record { members = there_within c.requires.ready 0 _ c.load-own.ensures.loaded }
 
-pub nearest-y-requires : goal.nearest-y-requires
-nearest-y-requires c = record { members = there_within c.requires.ready 0 _ c.load-own.ensures.loaded }
-
-pub bounds-keys-at : goal.bounds-keys-at
-bounds-keys-at c =
-    let f = first_bit _ (there_room c.requires.ready 0 _ c.load-own.ensures.loaded c.ranges.running.fits) c.if-there-eq0.false in
-    there_within c.requires.ready 0 _ c.load-own.ensures.loaded _ (found_least _ f.member c.nearest-y.ensures.nearest).member
-
-pub bounds-keys-me : goal.bounds-keys-me
-bounds-keys-me c =
-    c.requires.node
-
-pub returns-then-span : goal.returns-then-span
-returns-then-span c = record {
-  next =
-      let f = first_bit _ (there_room c.requires.ready 0 _ c.load-own.ensures.loaded c.ranges.running.fits) c.if-there-eq0.false in
-      hops c.requires.ready c.args.key.0 c.args.x.0 c.load-own.ensures.loaded _ f.member
-      c.nearest-y.ensures.nearest c.span.ensures.value c.span-2.ensures.value c.if-span.true;
+pub returns-in_err-y : goal.returns-in_err-y
+returns-in_err-y c = record {
+  next = rw c.from_residual.ensures (nobody_there c.requires.ready _ _ c.load-own.ensures.loaded c.in_err-y.ensures.nearest);
 }
 
-pub returns-else-span : goal.returns-else-span
-returns-else-span c = record {
+pub bounds-keys-index : goal.bounds-keys-index
+bounds-keys-index c =
+    rw c.index.ensures.value (there_within c.requires.ready 0 _ c.load-own.ensures.loaded _ c.in_ok-y.ensures.nearest.member)
+
+pub returns-then-there-here : goal.returns-then-there-here
+returns-then-there-here c = record {
   next =
-      let f = first_bit _ (there_room c.requires.ready 0 _ c.load-own.ensures.loaded c.ranges.running.fits) c.if-there-eq0.false in
-      stays c.requires.ready c.args.key.0 c.args.x.0 c.load-own.ensures.loaded _ f.member
-      c.nearest-y.ensures.nearest c.span.ensures.value c.span-2.ensures.value c.if-span.false;
+      let l = c.in_ok-y.ensures.nearest in
+      let far = rw c.index.ensures.value at c.span-there.ensures.value in
+      let own = rw c.index-2.ensures.value at c.span-here.ensures.value in (
+        goes_on_is c.requires.ready c.args.key.0 c.args.x.0 c.load-own.ensures.loaded l far own ∙ lt-ltb _ _ c.if-there-here.true,
+        next_is c.requires.ready c.args.key.0 c.args.x.0 c.load-own.ensures.loaded l far own,
+      );
+}
+
+pub returns-else-there-here : goal.returns-else-there-here
+returns-else-there-here c = record {
+  next =
+      let l = c.in_ok-y.ensures.nearest in
+      let far = rw c.index.ensures.value at c.span-there.ensures.value in
+      let own = rw c.index-2.ensures.value at c.span-here.ensures.value in
+      goes_on_is c.requires.ready c.args.key.0 c.args.x.0 c.load-own.ensures.loaded l far own ∙ le-ltb _ _ c.if-there-here.false;
 }
