@@ -23,8 +23,7 @@ fn run<R: Read, W: Write>(
     for _ in 0..MOST {
         let next = chunks::describe_next(input, session, bytes, out)?;
         session = next.session;
-        let end = session.end;
-        output.write_all(&out[..end])?;
+        output.write_all(&out[..session.end])?;
         if !session.more {
             return Ok(());
         }

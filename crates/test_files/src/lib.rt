@@ -19,7 +19,7 @@ pub fn are_next<R: Read>(file: &mut R, bytes: &[u8], room: &mut [u8]) -> io::Res
 {
     let size = bytes.len();
     let n = streams::read_full(file, &mut room[..size])?;
-    Ok(check::same(bytes, &room[..n]))
+    Ok(bytes == &room[..n])
 }
 
 // Whether the file is at its end.

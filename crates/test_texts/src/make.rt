@@ -44,10 +44,7 @@ fn put_word(word: u32, out: &mut [u8], at: usize) -> usize
     requires room { at + 4 ≤ length out.old }
     ensures end { (result ≡ at + 4) × (length out.new ≡ length out.old) }
 {
-    out[at] = (word % 256) as u8;
-    out[at + 1] = (word / 256 % 256) as u8;
-    out[at + 2] = (word / 0x1_0000 % 256) as u8;
-    out[at + 3] = (word / 0x100_0000) as u8;
+    out[at..at + 4].copy_from_slice(&word.to_le_bytes());
     at + 4
 }
 
@@ -137,8 +134,7 @@ fn event(script: u64, place: u64) -> Event
     let x = NodeNumber(below(script, place + 1, 64) as u8);
     let y = NodeNumber(below(script, place + 2, 64) as u8);
     let position = below(script, place + 3, 1024) as u16;
-    let kind = below(script, place, 7);
-    match kind {
+    match below(script, place, 7) {
         0 => Event::On(x),
         1 => Event::Off(x, position % 2 == 1),
         2 => Event::Notice(x, y),

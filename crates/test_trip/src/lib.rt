@@ -30,11 +30,7 @@ fn is_next(script: &[u8], back: usize, bytes: &[u8]) -> bool
     requires back { back ≤ length script.now }
     ensures within { result ≡ true → back + length bytes.now ≤ length script.now }
 {
-    if bytes.len() > script.len() - back {
-        return false;
-    }
-    let end = back + bytes.len();
-    check::same(&script[back..end], bytes)
+    script[back..].starts_with(bytes)
 }
 
 // The trip after the text gave what stands at the start of `out`.

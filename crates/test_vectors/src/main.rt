@@ -33,8 +33,7 @@ fn compare<R: Read>(
     for _ in 0..MOST {
         let next = chunks::play_next(script, session, bytes, words, out)?;
         session = next.session;
-        let end = session.end;
-        if !test_files::are_next(expected, &out[..end], room)? {
+        if !test_files::are_next(expected, &out[..session.end], room)? {
             return Ok(false);
         }
         if !session.more {
@@ -68,7 +67,7 @@ fn run_argument<R: Runtime>(rt: &R, name: &str) -> io::Result<u64>
 {
     let same = run(rt, name)? & texts::run(rt, name)? & texts::comes_back(rt, name)?;
     test_files::print(rt, name, same)?;
-    Ok(if same { 1 } else { 0 })
+    Ok(u64::from(same))
 }
 
 // Runs the scripts of the arguments after the first, which is the program's own: how many are the same.

@@ -24,8 +24,7 @@ fn compare<R: Read>(
     for _ in 0..MOST {
         let next = chunks::describe_next(script, session, bytes, text)?;
         session = next.session;
-        let end = session.end;
-        if !test_files::are_next(expected, &text[..end], room)? {
+        if !test_files::are_next(expected, &text[..session.end], room)? {
             return Ok(false);
         }
         if !session.more {
