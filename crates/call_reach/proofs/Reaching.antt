@@ -7,9 +7,8 @@ use native.Mathlib.Omega.{arith}
 use lib.ListN.{length, get_or, take, length-take}
 use lib.Seq.{get_or-take}
 use borrow.Author.Tests.{eq-eqb}
-use Rattle.std.specs.Prelude.{if◌then◌else◌}
 use Rattle.model.specs.Key.{clockwise}
-use Rattle.model.specs.Sets.{of_bits, none_node}
+use Rattle.model.specs.Sets.{Set, of_bits, none_node}
 use Rattle.model.specs.Leafset.{size, first_met}
 use Rattle.model.specs.Ring.{Ring, is_running}
 use Rattle.model.specs.Answers.{is_accepted}
@@ -19,11 +18,20 @@ use Rattle.model.proofs.Decoded.{reads_well}
 use Rattle.sets.specs.Within.{InTable}
 use Rattle.model.proofs.Reaches.{reach_from, reach_ends, reach_reads, start_runs, given_reach}
 use Rattle.model.proofs.Theorems.{refused_reach}
-use Rattle.leafset_nearest.specs.Span.{span_of, span_to, Found}
+use Rattle.model.proofs.Laws.{clash}
+use Rattle.leafset_nearest.specs.Span.{span_of, span_to, Found, Nearest}
+use Rattle.std.specs.Prelude.{Option, None, Some}
+use Rattle.std.specs.Option.{IsSome}
+use Rattle.model.specs.declared.values.NodeNumber.{NodeNumber}
 use Rattle.leafset_nearest.specs.declared.Way.{Way}
 use Rattle.leafset_nearest.specs.declared.Way.TheVariants.{Clockwise, CounterClockwise}
 use Rattle.leafset_nearest.proofs.Firsts.{met_found}
 use Rattle.call_reach.specs.Walks.{Distances, From, HopsToLast, InRing}
+
+-- a set with a member has a nearest one
+pub some_nearest : (S : Set) (m : ℕ → ℕ) (y : ℕ) → S y ≡ true → (r : Option NodeNumber) → Nearest S m r → IsSome r
+some_nearest S m y t None f = clash t (f y)
+some_nearest S m y t (Some b) l = refl
 
 module _ {r : Ring} {keys : List ℕ} {running : ℕ} (in_ring : InRing r keys running) where
   low : (y : ℕ) → is_running r y ≡ true → y < size r.table

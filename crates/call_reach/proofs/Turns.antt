@@ -1,20 +1,18 @@
 -- The hops to the last running node before the key: a turn of the loop over the spans, from the greatest down.
 use mathlib.Core.Path.{◌≡◌, refl, sym, ap, ◌∙◌}
 use mathlib.Core.Logic.{◌⊎◌, inl, inr}
-use mathlib.Core.Bool.{true, false}
+use mathlib.Core.Bool.{true}
 use mathlib.Core.List.{List}
 use Prim.Native.Nat.{ℕ, suc, ◌+◌, ◌-◌, ◌*◌, ◌≤◌, ◌<◌, zero-le}
 use native.Mathlib.Nat.{le_antisymm, zero-add}
 use native.Mathlib.Omega.{arith}
-use lib.Dec.{eqb}
 use lib.ListN.{length, get_or}
 use borrow.Author.Tests.{eq-eqb}
-use Rattle.std.specs.Prelude.{if◌then◌else◌}
-use Rattle.model.specs.Key.{places, clockwise}
+use Rattle.model.specs.Key.{places}
 use Rattle.model.specs.Ring.{Ring, is_running}
-use Rattle.model.specs.Reach.{spans, Ending, here, one_more, owner, next, reach, last_before, to_last}
+use Rattle.model.specs.Reach.{spans, Ending, owner, next, reach, last_before, to_last}
 use Rattle.model.specs.WellFormed.{WellFormed}
-use Rattle.model.proofs.Laws.{clash, decide}
+use Rattle.model.proofs.Laws.{decide}
 use Rattle.model.proofs.Reaches.{doubles, first_span, last_span, Present, Hop, hop, last_hop, owner_runs, reach_from, one_hop}
 use Rattle.leafset_nearest.proofs.Spans.{clockwise<}
 use Rattle.call_reach.specs.Walks.{Greatest, From}

@@ -1,12 +1,13 @@
 -- What a reach is walked with, and what a walk gives.
-use Rattle.std.specs.Prelude.{◌≡◌, ◌⊎◌, true, false, List, ℕ, ◌+◌, ◌≤◌, ◌<◌, length, get_or}
+use Rattle.std.specs.Prelude.{Result, Ok, Err, ◌≡◌, ◌⊎◌, true, false, List, ℕ, ◌+◌, ◌≤◌, ◌<◌, length, get_or}
 use Rattle.model.specs.Key.{places, clockwise}
-use Rattle.model.specs.Sets.{of_bits}
+use Rattle.model.specs.Sets.{of_bits, none_node}
 use Rattle.model.specs.Ring.{Ring, is_running}
 use Rattle.model.specs.WellFormed.{WellFormed}
 use Rattle.model.specs.Answers.{number_of}
 use Rattle.model.specs.Reach.{Ending, owner, reach, to_last}
 use Rattle.model.specs.Reach as model
+use Rattle.model.specs.declared.refusal.Refusal.{Refusal}
 use Rattle.call_reach.specs.declared.Reached.{Reached}
 
 -- how far before a place each node of the set lies; the others are beyond
@@ -45,5 +46,6 @@ abbrev pub Walked : List ℕ → ℕ → ℕ → ℕ → Ending → Type 0
 Walked keys running key start ending = (r : Ring) → InRing r keys running → ending ≡ reach r key start
 
 -- what the code's answer says
-abbrev pub reached : Reached → model.Reach
-reached r = record { answer = number_of r.answer; end = r.end.0; hops = r.hops }
+abbrev pub reached : Result Reached Refusal → model.Reach
+reached (Ok q) = record { answer = 0; end = q.end.0; hops = q.hops }
+reached (Err a) = record { answer = number_of a; end = none_node; hops = 0 }

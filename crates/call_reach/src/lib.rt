@@ -3,29 +3,21 @@
 
 ghost use Rattle.std.specs.Prelude.{◌≡◌, true, ◌≤◌, length};
 ghost use Rattle.model.specs.Sets.{of_bits};
-ghost use Rattle.model.specs.Answers.{number_of};
+ghost use Rattle.model.specs.Answers.{answer_number};
 ghost use Rattle.model.specs.Reach as model;
 ghost use Rattle.sets.specs.Within.{Within, InTable};
 ghost use Rattle.call_reach.specs.Walks.{Distances, Greatest, HopsToLast, Walked, reached};
 
 use leafset_nearest::{Way, clockwise, nearest};
-use model::answer::Answer;
+use model::refusal::Refusal;
 use model::values::{Key, NodeNumber};
 use word_ring::limit;
 
 // The end node and the hop count are in the answer.
-#[derive(Clone, Copy)]
+#[derive(Clone, Copy, Debug, PartialEq, Eq)]
 pub struct Reached {
-    pub answer: Answer,
     pub end: NodeNumber,
     pub hops: u32,
-}
-
-// Where a walk ends, and after how many hops.
-#[derive(Clone, Copy)]
-struct End {
-    node: NodeNumber,
-    hops: u32,
 }
 
 // "spans 1, 2, 4 up to 8,388,608, kept as a table of 24 numbers"
@@ -88,70 +80,48 @@ fn hops_to_last(far: &[u32], distance: u32) -> u32
 }
 
 // From a running node to the owner of the key: to the last running node before the key, and one hop on.
-fn walk(keys: &[u32], running: u64, key: Key, start: NodeNumber) -> End
+fn walk(keys: &[u32], running: u64, key: Key, start: NodeNumber) -> Reached
     requires table { InTable keys.now start.0 running }
     requires start { (of_bits running start.0 ≡ true) × (key.0 ≤ 16777215) }
     ensures walked { Walked keys.now running key.0 start.0
-        (record { end = result.node.0; hops = result.hops }) }
+        (record { end = result.end.0; hops = result.hops }) }
 {
-    let owner = nearest(keys, Way::Clockwise, key, running);
+    let owner = nearest(keys, Way::Clockwise, key, running).unwrap();
     if start.0 == owner.0 {
-        return End {
-            node: owner,
+        return Reached {
+            end: owner,
             hops: 0,
         };
     }
-    let last = nearest(
-        keys,
-        Way::CounterClockwise,
-        Key(key.0 + 16_777_215),
-        running,
-    );
-    let at = last.0 as usize;
-    let from = start.0 as usize;
-    let to = Key(keys[at]);
+    let before = Key(key.0 + 16_777_215);
+    let last = nearest(keys, Way::CounterClockwise, before, running).unwrap();
+    let to = Key(keys[last.index()]);
     let far = distances(keys, running, to);
-    let hops = hops_to_last(&far[..keys.len()], clockwise(Key(keys[from]), to));
-    End {
-        node: owner,
+    let hops = hops_to_last(&far[..keys.len()], clockwise(Key(keys[start.index()]), to));
+    Reached {
+        end: owner,
         hops: hops + 1,
     }
 }
 
 // 1, 6, 7 and 8; then 12.
-fn refusal(words: &[u32], start: NodeNumber, key: u32) -> Answer
-    ensures answer { number_of result ≡ model.reach_answer words.now start.0 key }
+fn refusal(words: &[u32], start: NodeNumber, key: u32) -> Result<(), Refusal>
+    ensures answer { answer_number result ≡ model.reach_answer words.now start.0 key }
 {
-    let answer = call_refusals::of_nodes(words, start, start);
-    if answers::is_refusal(answer) {
-        return answer;
-    }
+    call_refusals::of_nodes(words, start, start)?;
     if limit::KEY < key {
-        return Answer::KeyOutOfRange;
+        return Err(Refusal::KeyOutOfRange);
     }
-    Answer::Accepted
+    Ok(())
 }
 
 // The reach from a running node to the owner of the key.
-pub fn reach(words: &[u32], start: NodeNumber, key: u32) -> Reached
+pub fn reach(words: &[u32], start: NodeNumber, key: u32) -> Result<Reached, Refusal>
     ensures reach { reached result ≡ model.reach_of words.now start.0 key }
 {
-    let answer = refusal(words, start, key);
-    if answers::is_refusal(answer) {
-        return Reached {
-            answer,
-            end: NodeNumber::NONE,
-            hops: 0,
-        };
-    }
+    refusal(words, start, key)?;
     let n = ring_head::nodes(words);
     let keys = ring_head::keys(words, n);
     let running = ring_nodes::running(words, n);
-    let last = walk(&keys[..n], running, Key(key), start);
-    let end = last.node;
-    Reached {
-        answer,
-        end,
-        hops: last.hops,
-    }
+    Ok(walk(&keys[..n], running, Key(key), start))
 }

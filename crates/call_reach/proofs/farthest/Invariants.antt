@@ -1,4 +1,4 @@
-use Prim.Native.Nat.{◌-◌, ◌≤◌}
+use Prim.Native.Nat.{◌≤◌}
 use lib.ListN.{length}
 use Rattle.call_reach.specs.Walks.{Greatest}
 use Rattle.call_reach.proofs.farthest.Given as goal

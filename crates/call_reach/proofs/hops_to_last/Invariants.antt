@@ -1,4 +1,4 @@
-use Prim.Native.Nat.{ℕ, ◌+◌, ◌-◌, ◌≤◌}
+use Prim.Native.Nat.{ℕ, ◌+◌, ◌≤◌}
 use Rattle.model.specs.Ring.{Ring}
 use Rattle.call_reach.specs.Walks.{From}
 use Rattle.call_reach.proofs.Turns.{Turn}

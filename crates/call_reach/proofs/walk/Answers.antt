@@ -1,19 +1,27 @@
 use native.Mathlib.Omega.{arith}
 use lib.ListN.{length, length-take}
-use Rattle.leafset_nearest.proofs.Pick.{found_least}
-use Rattle.call_reach.proofs.Reaching.{walk_stays, walk_goes}
+use Rattle.leafset_nearest.specs.Span.{found}
+use Rattle.call_reach.proofs.Reaching.{some_nearest, walk_stays, walk_goes}
 use Rattle.call_reach.proofs.walk.Goals as goal
+
+pub unwrap-owner-requires : goal.unwrap-owner-requires
+unwrap-owner-requires c = some_nearest _ _ c.args.start.0 c.requires.start.0 c.nearest.result c.nearest.ensures.nearest
 
 pub returns-then-start-owner : goal.returns-then-start-owner
 returns-then-start-owner c = record {
   walked =
       λ r in_ring.
-      walk_stays in_ring c.requires.start.1 c.nearest-owner.ensures.nearest c.args.start.0 c.requires.start.0 c.if-start-owner.true;
+      let first = rw c.unwrap-owner.ensures at c.nearest.ensures.nearest in
+      walk_stays in_ring c.requires.start.1 (found first) c.args.start.0 c.requires.start.0 c.if-start-owner.true;
 }
 
-pub bounds-keys-at : goal.bounds-keys-at
-bounds-keys-at c =
-    c.requires.table.within _ (found_least c.args.start.0 c.requires.start.0 c.nearest-last.ensures.nearest).member
+pub unwrap-last-requires : goal.unwrap-last-requires
+unwrap-last-requires c = some_nearest _ _ c.args.start.0 c.requires.start.0 c.nearest-2.result c.nearest-2.ensures.nearest
+
+pub bounds-keys-index : goal.bounds-keys-index
+bounds-keys-index c =
+    let last = rw c.unwrap-last.ensures at c.nearest-2.ensures.nearest in
+    rw c.index.ensures.value (c.requires.table.within _ last.member)
 
 pub slice_bounds-hops_to_last-end : goal.slice_bounds-hops_to_last-end
 slice_bounds-hops_to_last-end c =
@@ -23,6 +31,10 @@ pub returns : goal.returns
 returns c = record {
   walked =
       λ r in_ring.
-      walk_goes in_ring c.requires.start.1 c.nearest-owner.ensures.nearest c.args.start.0 c.requires.start.0 c.if-start-owner.false
-      c.nearest-last.ensures.nearest c.distances-far.ensures.far c.clockwise.ensures.value _ c.hops_to_last-hops.ensures.hops;
+      let first = rw c.unwrap-owner.ensures at c.nearest.ensures.nearest in
+      let last = rw c.unwrap-last.ensures at c.nearest-2.ensures.nearest in
+      let far = rw c.index.ensures.value at c.distances-far.ensures.far in
+      let distance = rw (c.index-2.ensures.value, c.index.ensures.value) at c.clockwise.ensures.value in
+      walk_goes in_ring c.requires.start.1 (found first) c.args.start.0 c.requires.start.0 c.if-start-owner.false
+      (found last) far distance _ c.hops_to_last-hops.ensures.hops;
 }
