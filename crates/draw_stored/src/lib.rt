@@ -7,6 +7,7 @@ ghost use Rattle.draw_svg.specs.Room.{Room};
 
 use bench_script::loading;
 use draw_svg::frame;
+use model::refusal::Refusal;
 use std::io;
 use std::io::Read;
 use word_ring::place;
@@ -14,18 +15,15 @@ use word_ring::place;
 // One word more than any short ring has, so that a longer input is seen to be none.
 const WORDS: usize = 13_314;
 
-const NOT_SHORT: u32 = 19;
-
 // Puts the drawing of the ring whose short edition is lent, or of the refusal.
 fn draw_short(short: &[u32], words: &mut [u32], out: &mut [u8]) -> usize
     requires room { (length words.old ≡ ring_length) × (1740000 ≤ length out.old) }
     ensures room { Room out.old out.new 0 result 1740000 }
 {
-    let answer = call_short::lengthen(short, words);
-    if answers::is_refusal(answer) {
-        return frame::put_refusal(out, answers::number(answer));
+    match call_short::lengthen(short, words) {
+        Ok(()) => draw_ring::put_ring(words, out),
+        Err(refusal) => frame::put_refusal(out, refusal as u32),
     }
-    draw_ring::put_ring(words, out)
 }
 
 // The same from bytes, four a word, lowest first; a tail under 4 bytes makes no short ring.
@@ -34,7 +32,7 @@ fn draw_bytes(bytes: &[u8], out: &mut [u8]) -> usize
     ensures room { Room out.old out.new 0 result 1740000 }
 {
     if bytes.len() % 4 != 0 {
-        return frame::put_refusal(out, NOT_SHORT);
+        return frame::put_refusal(out, Refusal::NotShort as u32);
     }
     let mut short = [0u32; WORDS];
     let mut words = [0u32; place::LENGTH];
