@@ -65,12 +65,10 @@ fn draw_by<R: Read>(
     ensures err { OnErr result (out.new ≡ out.old) }
 {
     let last = play(file, words, bytes, lines)?;
-    let session = last.session;
-    if session.opened {
+    if last.session.opened {
         return Ok(draw_ring::put_ring(words, out));
     }
-    let read = last.read;
-    let refusal = refusal(&bytes[..read], words);
+    let refusal = refusal(&bytes[..last.read], words);
     Ok(frame::put_refusal(out, refusal))
 }
 
