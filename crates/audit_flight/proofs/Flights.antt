@@ -6,6 +6,7 @@ use Prim.Native.Nat.{ℕ, ◌+◌, ◌≤◌, ◌<◌}
 use native.Mathlib.Numerals.{add-one}
 use native.Mathlib.Omega.{arith}
 use lib.Dec.{eqb}
+use mir.Val.{bool_byte}
 use lib.ListN.{length}
 use Rattle.std.specs.Prelude.{if◌then◌else◌}
 use Rattle.model.specs.Fields.{bit, bits}
@@ -15,6 +16,11 @@ use Rattle.model.specs.Ring.{blank, is_running, message_at}
 use Rattle.model.specs.Words.{at, message_place, decode_message_at, decode_message, decode}
 use Rattle.model.proofs.Laws.{count_le, count_cong, length_tabulate, get_d_tabulate}
 use Rattle.audit_account.specs.Points.{is_acknowledgement, is_late_leave, acknowledgements, late_leaves}
+
+-- a truth as a number
+pub byte_bit : (b : Bool) → bool_byte b ≡ bit b
+byte_bit true = refl
+byte_bit false = refl
 
 one_more_lem : (S : Set) (i c : ℕ) (b : Bool) → c ≡ count i S → b ≡ S i → c + bit b ≡ count (i + 1) S
 unfolding count

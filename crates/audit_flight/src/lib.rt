@@ -7,7 +7,8 @@ ghost use Rattle.model.specs.Ring.{is_running};
 ghost use Rattle.model.specs.Words.{decode, reads_as_ring};
 ghost use Rattle.audit_account.specs.Points as points;
 
-use word_ring::{MessageWord, mark, place};
+use model::message::MessageType;
+use word_ring::{MessageWord, place};
 
 // How many are acknowledgements, and how many are of type 13, although their sender runs.
 #[derive(Clone, Copy)]
@@ -31,9 +32,9 @@ pub fn look(words: &[u32], running: u64) -> Flight
     for i in 0..m {
         let message = MessageWord(words[place::MESSAGES + 5 * i]);
         let tag = message.tag();
-        acknowledgements += mark(tag == MessageWord::PONG_REPLACE);
-        let late = (tag == MessageWord::LEAVE) & sets::has(running, message.sender());
-        leaves += mark(late);
+        acknowledgements += u32::from(tag == MessageType::PongReplace as u8);
+        let late = (tag == MessageType::Leave as u8) & sets::has(running, message.sender());
+        leaves += u32::from(late);
     }
     Flight {
         acknowledgements,

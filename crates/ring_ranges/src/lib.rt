@@ -1,4 +1,4 @@
-// A span of words, moved, cleared or copied; all of a ring's, copied.
+// A span of words, moved, cleared or copied.
 #![tactic(auto)]
 
 ghost use Rattle.std.specs.Prelude.{◌≡◌, ◌+◌, ◌-◌, ◌≤◌, length, get_or};
@@ -20,14 +20,6 @@ pub fn clear(words: &mut [u32], from: usize, to: usize)
     ensures value { Patched words.old words.new from to (λ i. 0) }
 {
     words[from..to].fill(0);
-}
-
-// Copies all words.
-pub fn copy(words: &[u32], to: &mut [u32])
-    requires lengths { length to.old ≡ length words.now }
-    ensures words { to.new ≡ words.now }
-{
-    to.copy_from_slice(words);
 }
 
 // Copies `count` words from place `at` on to place `place` on.

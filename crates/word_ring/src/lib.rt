@@ -7,20 +7,12 @@ pub mod limit;
 pub mod place;
 
 ghost use Rattle.std.specs.Prelude.{◌≡◌, ◌^◌, ◌<◌, ◌≤◌};
-ghost use Rattle.model.specs.Fields.{bits, bit, flag};
+ghost use Rattle.model.specs.Fields.{bits, flag};
 ghost use Rattle.model.specs.Structs.{RoomSides};
 ghost use Rattle.model.specs.Words.{sides_of, head_word, key_word, clock_word, pair_word, spare_word};
 ghost use Rattle.model.specs.Words.{message_word, stamp_word, view_word};
 
 use model::values::{Key, NodeNumber, Sides, Stamp};
-
-// A mark as a bit.
-pub fn mark(b: bool) -> u32
-    ensures value { result ≡ bit b }
-    ensures bound { result ≤ 1 }
-{
-    u32::from(b)
-}
 
 // The first word: "table size n (1 to 64) in 4-10, message count m (0 to 1,024) in 11-21", "A in bits 0-3 and B in bits
 // 22-25".
@@ -215,10 +207,6 @@ impl MessageWord {
     pub const RECEIVER: u32 = 0x400;
 
     pub const SUBJECT: u32 = 0x1_0000;
-
-    pub const PONG_REPLACE: u8 = 10;
-
-    pub const LEAVE: u8 = 13;
 
     #[tactic(auto, unfolding(model::specs::Words::message_word))]
     pub fn new(
