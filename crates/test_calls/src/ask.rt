@@ -1,13 +1,12 @@
 // The calls that leave the words as they are.
-use super::events::{node, outcome};
+use super::events::{given, node};
 use super::line::Outcome;
 use super::{command, events};
 use model::values::NodeNumber;
 use test_lines::Command;
 
 pub fn ask(command: Command, words: &[u32]) -> Outcome {
-    let number = command.number;
-    match number {
+    match command.number {
         command::LEAFSET => leafset_of(words, node(command.a)),
         command::CONNECTED => connected(words, node(command.a), node(command.b)),
         command::GROUPS => groups(words),
@@ -17,19 +16,13 @@ pub fn ask(command: Command, words: &[u32]) -> Outcome {
 }
 
 fn leafset_of(words: &[u32], x: NodeNumber) -> Outcome {
-    let reply = call_questions::leafset_of(words, x);
-    let answer = reply.answer;
-    outcome(answer, reply.set)
+    given(call_questions::leafset_of(words, x))
 }
 
 fn connected(words: &[u32], a: NodeNumber, b: NodeNumber) -> Outcome {
-    let reply = call_questions::connected(words, a, b);
-    let answer = reply.answer;
-    outcome(answer, reply.connected as u64)
+    given(call_questions::connected(words, a, b).map(|connected| u64::from(connected)))
 }
 
 fn groups(words: &[u32]) -> Outcome {
-    let reply = call_questions::groups(words);
-    let answer = reply.answer;
-    outcome(answer, reply.groups as u64)
+    given(call_questions::groups(words).map(|groups| u64::from(groups)))
 }

@@ -1,9 +1,12 @@
 // The public calls, by a command.
+ghost use Rattle.std.specs.Prelude.{◌<◌, ◌^◌};
+
 use super::ask::ask;
 use super::events::{node, outcome};
 use super::line::Outcome;
 use super::{command, joins, memory, screens, shorts};
 use call_open::open;
+use model::values::NodeNumber;
 use test_lines::{Command, digests};
 
 pub fn call(
@@ -16,8 +19,7 @@ pub fn call(
     stamps: &mut [u32; 4096],
     spares: &mut [u8; 4096],
 ) -> Outcome {
-    let number = command.number;
-    match number {
+    match command.number {
         command::OPEN => opened(words, command, list),
         command::PLAY => outcome(call_play::play(words, command.a), 0),
         command::LEAFSET..=command::WRITE => ask(command, words),
@@ -46,32 +48,44 @@ fn replayed(words: &mut [u32], command: Command, list: &[u32], places: &mut [u8]
     let end = memory::at_most(command.d, rest);
     let keys = &list[..n];
     let answer = call_play::replay(words, command.a, command.b, keys, &rest[..end], places);
-    outcome(answer, digests::digest_bytes(places))
+    outcome(answer, digests::digest(places))
 }
 
 // The value is the digest of all places, also of those that are not lent.
 fn played_all(words: &mut [u32], command: Command, list: &[u32], places: &mut [u8]) -> Outcome {
     let script = &list[..memory::at_most(command.b, list)];
     let from = memory::at_most(command.a, script);
-    let end = memory::at_most_bytes(command.c, places);
+    let end = memory::at_most(command.c, places);
     let answer = call_play::play_all(words, &script[from..], &mut places[..end]);
-    outcome(answer, digests::digest_bytes(places))
+    outcome(answer, digests::digest(places))
 }
 
 // The value has the digest of all places, also of those that are not lent, then end and hops, two decimal digits each.
 fn routed(words: &[u32], command: Command, places: &mut [u8]) -> Outcome {
-    let end = memory::at_most_bytes(command.c, places);
+    let end = memory::at_most(command.c, places);
     let reply = call_route::route(words, node(command.a), command.b, &mut places[..end]);
-    let answer = reply.answer;
-    let digits = (reply.end.0 as u64) * 100 + reply.hops as u64;
-    outcome(answer, digests::digest_bytes(places) * 10_000 + digits)
+    let digits = match reply {
+        Ok(arrival) => digits(arrival.end, arrival.hops),
+        Err(_) => digits(NodeNumber::NONE, 0),
+    };
+    outcome(reply, digests::digest(places) * 10_000 + digits)
 }
 
 // The value has end and hops, two decimal digits each.
 fn reached(words: &[u32], command: Command) -> Outcome {
     let reply = call_reach::reach(words, node(command.a), command.b);
-    let answer = reply.answer;
-    outcome(answer, (reply.end.0 as u64) * 100 + reply.hops as u64)
+    let digits = match reply {
+        Ok(arrival) => digits(arrival.end, arrival.hops),
+        Err(_) => digits(NodeNumber::NONE, 0),
+    };
+    outcome(reply, digits)
+}
+
+// End and hops, two decimal digits each.
+fn digits(end: NodeNumber, hops: u32) -> u64
+    ensures bound { result < 2 ^ 40 }
+{
+    u64::from(end.0) * 100 + u64::from(hops)
 }
 
 // The value is the digest of the whole second buffer, also of the words that are not lent.

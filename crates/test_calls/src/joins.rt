@@ -2,7 +2,7 @@
 use super::events::outcome;
 use super::line::Outcome;
 use super::memory;
-use model::answer::Answer;
+use model::refusal::Refusal;
 use test_lines::{Command, digests};
 
 pub fn join(words: &[u32], command: Command, second: &[u32], third: &mut [u32]) -> Outcome {
@@ -19,6 +19,6 @@ pub fn join_itself(words: &[u32], command: Command, second: &[u32], third: &mut 
 }
 
 // The value is the digest of the whole second buffer and the whole third one, also of the words that are not lent.
-fn digested(answer: Answer, second: &[u32], third: &[u32]) -> Outcome {
+fn digested(answer: Result<(), Refusal>, second: &[u32], third: &[u32]) -> Outcome {
     outcome(answer, digests::digest_on(digests::digest(second), third))
 }

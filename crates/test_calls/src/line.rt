@@ -27,8 +27,8 @@ pub fn print<W: Write>(
     let changed = memory::differing(before, words);
     let digest = digests::digest(words);
     let numbers = [
-        number as u64,
-        outcome.answer as u64,
+        u64::from(number),
+        u64::from(outcome.answer),
         outcome.value,
         changed,
         digest,

@@ -16,7 +16,7 @@ ghost use Rattle.std.specs.Prelude.{◌≡◌, length};
 
 use std::io;
 use std::io::{Read, Write};
-use test_lines::{Command, Next};
+use test_lines::Command;
 use word_ring::place;
 
 // Each buffer has one word more than a ring.
@@ -40,7 +40,7 @@ fn call<W: Write>(
     requires length { length words.old ≡ 13442 }
 {
     let mut before = [0u32; WORDS];
-    ring_ranges::copy(words, &mut before);
+    before.copy_from_slice(words);
     let end = memory::at_most(command.lent, words);
     let outcome = calls::call(
         command,
@@ -68,14 +68,13 @@ fn run<W: Write>(
 ) -> io::Result<()>
     requires lengths { (length words.old ≡ 13442) × (length second.old ≡ 13442) × (length third.old ≡ 13442) }
 {
-    let number = command.number;
-    match number {
+    match command.number {
         command::FILL_WORDS => memory::fill(words, command.a, command.b, command.c),
         command::FILL_LIST => memory::fill(list, command.a, command.b, command.c),
         command::FILL_SECOND => memory::fill(second, command.a, command.b, command.c),
         command::FILL_THIRD => memory::fill(third, command.a, command.b, command.c),
-        command::KEEP => ring_ranges::copy(words, second),
-        command::TAKE => ring_ranges::copy(third, words),
+        command::KEEP => second.copy_from_slice(words),
+        command::TAKE => words.copy_from_slice(third),
         command::FILL_SCREEN => memory::fill_all(stamps, spares, command.a, command.b),
         _ => {
             return call(
@@ -100,8 +99,7 @@ fn run_all<R: Read, W: Write>(
     requires lengths { (length words.old ≡ 13442) × (length second.old ≡ 13442) × (length third.old ≡ 13442) }
 {
     for _ in 0..MOST {
-        let next = test_lines::read(input)?;
-        let Next::Command(command) = next else {
+        let Some(command) = test_lines::read(input)? else {
             return Ok(());
         };
         run(

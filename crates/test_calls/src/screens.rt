@@ -4,7 +4,7 @@ ghost use Rattle.std.specs.Prelude.{◌<◌, ◌^◌};
 use super::command;
 use super::events::outcome;
 use super::line::Outcome;
-use model::screen::ConductorScreen;
+use model::screen::{ConductorScreen, TechnicianScreen};
 use test_lines::{Command, digests};
 
 pub fn show(
@@ -13,8 +13,7 @@ pub fn show(
     stamps: &mut [u32; 4096],
     spares: &mut [u8; 4096],
 ) -> Outcome {
-    let number = command.number;
-    match number {
+    match command.number {
         command::CONDUCTOR => conductor(words),
         command::TECHNICIAN => technician(words, stamps, spares),
         _ => messages(words),
@@ -23,8 +22,7 @@ pub fn show(
 
 fn conductor(words: &[u32]) -> Outcome {
     let reply = call_screens::conductor(words);
-    let answer = reply.answer;
-    outcome(answer, digest(reply.screen))
+    outcome(reply, digest(reply.unwrap_or(call_screens::empty())))
 }
 
 // The value is the digest of A, B, n, the running nodes, the keys and the leafsets.
@@ -40,12 +38,14 @@ fn digest(screen: ConductorScreen) -> u64
 // The value is the digest of what the conductor's screen has, of the candidates, the stamps and the spares.
 fn technician(words: &[u32], stamps: &mut [u32; 4096], spares: &mut [u8; 4096]) -> Outcome {
     let reply = call_screens::technician(words, stamps, spares);
-    let answer = reply.answer;
-    let screen = reply.screen;
+    let screen = reply.unwrap_or(TechnicianScreen {
+        conductor: call_screens::empty(),
+        candidates: [0; 64],
+    });
     let candidates = digests::digest_sets(digest(screen.conductor), &screen.candidates);
     outcome(
-        answer,
-        digests::digest_bytes_on(digests::digest_on(candidates, stamps), spares),
+        reply,
+        digests::digest_on(digests::digest_on(candidates, &stamps[..]), &spares[..]),
     )
 }
 

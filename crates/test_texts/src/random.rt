@@ -7,9 +7,9 @@ const STEP: u64 = 0x9E37_79B9_7F4A_7C15;
 
 // A few rounds over the number of the script and the place.
 fn mixed(script: u64, place: u64) -> u64 {
-    let mut x = std::num::wrapping_add_u64(script << 32, place);
+    let mut x = (script << 32).wrapping_add(place);
     for _ in 0..ROUNDS {
-        x = std::num::wrapping_add_u64(x ^ (x << 13), STEP);
+        x = (x ^ (x << 13)).wrapping_add(STEP);
         x = x ^ (x >> 7);
         x = x ^ (x << 17);
     }
