@@ -29,6 +29,7 @@ pub fn look(words: &[u32], running: u64) -> Flight
     let m = ring_head::messages(words);
     let mut acknowledgements = 0;
     let mut leaves = 0;
+    // A message has five words: i counts messages, and its place follows.
     for i in 0..m {
         let message = MessageWord(words[place::MESSAGES + 5 * i]);
         let tag = message.tag();

@@ -126,6 +126,6 @@ unfolding entries_text
 put_one_more {es = es} {i = i} {e = e} p h f q l =
     record {
       put = put_as (put_more p.put q) (sym (ap entries_text (take_more es i e h ∙ ap (λ (d : Entry). take i es ++ d ∷ []) (sym f))
-      ∙ entries_append (take i es) _ ∙ ap (λ (l : List ℕ). entries_text (take i es) ++ l) (append-nil _)));
+          ∙ entries_append (take i es) _ ∙ ap (λ (l : List ℕ). entries_text (take i es) ++ l) (append-nil _)));
       room = omega (arith, p.room);
     }

@@ -14,12 +14,7 @@ use bench_script::loading;
 use turn::Session;
 
 // Audits the next chunk of the script, and puts what it prints at the start of `out`.
-pub fn step(
-    session: Session,
-    bytes: &[u8],
-    words: &mut [u32],
-    out: &mut [u8],
-) -> Session
+pub fn step(session: Session, bytes: &[u8], words: &mut [u32], out: &mut [u8]) -> Session
     requires session { Ready (2 ^ 63) session words.old }
     requires room { (length bytes.now ≤ 4096) × (3000000 ≤ length out.old) }
     ensures turn { Stepped
@@ -56,12 +51,7 @@ fn take_words(
 }
 
 // The first chunk: opens the ring, and audits the events after the keys.
-fn begin(
-    script: &[u32],
-    bytes: &[u8],
-    words: &mut [u32],
-    out: &mut [u8],
-) -> Session
+fn begin(script: &[u32], bytes: &[u8], words: &mut [u32], out: &mut [u8]) -> Session
     requires words { length words.old ≡ ring_length }
     requires room { (length script.now ≤ 1024) × (3000000 ≤ length out.old) }
     ensures turn { Stepped (first_turn script.now bytes.now)

@@ -6,6 +6,7 @@ ghost use Rattle.std.specs.Prelude.{◌≡◌, length};
 use std::io;
 use std::io::{Read, Write};
 
+// As in `show` but for the one call: each is a program of its own.
 fn run<R: Read, W: Write>(input: &mut R, output: &mut W, out: &mut [u8]) -> io::Result<()>
     requires room { length out.old ≡ 1740000 }
 {

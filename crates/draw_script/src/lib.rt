@@ -16,7 +16,7 @@ use std::io;
 use std::io::Read;
 use word_ring::place;
 
-// More chunks than any script has.
+// More chunks than any script has: the loop over them is proved to end.
 const MOST: u64 = 0x1000_0000_0000;
 
 // Plays the script of an open file, chunk after chunk. How the last one was played.

@@ -1,5 +1,4 @@
 use borrow.Author.Rules.{rules}
-use native.Mathlib.Omega.{arith}
 use mathlib.Core.Path.{refl, ◌∙◌}
 use Rattle.audit_lines.proofs.Lines.{put_none_yet, put_one_more}
 use Rattle.audit_lines.proofs.put_entries.Goals as goal
