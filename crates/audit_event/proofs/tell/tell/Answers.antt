@@ -18,6 +18,7 @@ returns c =
     record {
       told = λ s w a e l.
           some_told s w a c.ranges.torn.fits c.if-torn-eq0.false e c.counted.ensures.value
-          (put_more (c.put_parted-first.ensures.bytes _ _ a.groups a.parted a.nodes) (put_as c.put_verdict-end.ensures.bytes (ap (verdict_text c.args.account) (sym l.entries))));
+          (put_more (c.put_parted-first.ensures.bytes _ _ a.groups a.parted a.nodes)
+          (put_as c.put_verdict-end.ensures.bytes (ap (verdict_text c.args.account) (sym l.entries))));
       bounds = (c.counted.ensures.bounds, omega (arith, c.put_parted-first.ensures.end, c.put_verdict-end.ensures.end));
     }
