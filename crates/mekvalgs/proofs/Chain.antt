@@ -8,14 +8,16 @@ use Rattle.model.specs.Words.{decode}
 use Rattle.model.specs.Connection.{Connected}
 use Rattle.model.specs.Questions.{connection_answer, connection_of}
 use Rattle.model.proofs.Bits.{is_bit}
+use mathlib.Core.Bool.{true, false}
+use Rattle.std.specs.Prelude.{Ok}
 use Rattle.call_questions.proofs.Asked
 
 module _ (ws : List ℕ) (a b : ℕ) {n v : ℕ} (answer : n ≡ connection_answer ws a b) (value : v ≡ bit (connection_of ws a b)) (accepted : n ≡ 0) where
-  said : connection_of ws a b ≡ eqb v 1
-  said = sym (is_bit (connection_of ws a b)) ∙ ap (λ (k : ℕ). eqb k 1) (sym value)
+  given : connection_of ws a b ≡ eqb v 1
+  given = sym (is_bit (connection_of ws a b)) ∙ ap (λ (k : ℕ). eqb k 1) (sym value)
 
   pub yes_chain : v ≡ 1 → Connected (decode ws) a b
-  yes_chain e = Asked.yes_chain ws a b answer refl accepted (said ∙ rw e)
+  yes_chain e = Asked.yes_chain ws a b {r = Ok true} (sym accepted ∙ answer) (sym (given ∙ rw e)) refl
 
   pub no_chain : v ≡ 0 → Connected (decode ws) a b → ⊥
-  no_chain e = Asked.no_chain ws a b answer refl accepted (said ∙ rw e)
+  no_chain e = Asked.no_chain ws a b {r = Ok false} (sym accepted ∙ answer) (sym (given ∙ rw e)) refl

@@ -1,3 +1,4 @@
 pub mod Far
 pub mod Chain
 pub mod Listening
+pub mod Unwrapped

@@ -26,8 +26,10 @@ ghost use Rattle.mekvalgs.specs.Screens.{screen_in};
 ghost use Rattle.mekvalgs.specs.Listeners.{listener_in};
 
 use call_open::open;
+use call_reach::Reached;
+use call_route::Arrival;
 use model::listener::ListenerRecord;
-use model::screen::ConductorScreen;
+use model::screen::{ConductorScreen, TechnicianScreen};
 use model::values::NodeNumber;
 
 // Writes the initial ring of A, B and the keys.
@@ -85,9 +87,8 @@ pub extern "C" fn mekvalgs_shorten(words: &[u32], edition: &mut [u32], written: 
     ensures ring { words.now ≡ words.now }
 {
     let shortened = call_short::shorten(words, edition);
-    *written = shortened.written;
-    let answer = shortened.answer;
-    answers::number(answer)
+    *written = shortened.unwrap_or(0);
+    answers::number(shortened)
 }
 
 // The ring of a short edition.
@@ -133,9 +134,8 @@ pub extern "C" fn mekvalgs_leafset(words: &[u32], x: u32, set: &mut u64) -> u32
     ensures set { set.new ≡ leafset_of words.now x }
 {
     let asked = call_questions::leafset_of(words, node(x));
-    *set = asked.set;
-    let answer = asked.answer;
-    answers::number(answer)
+    *set = asked.unwrap_or(0);
+    answers::number(asked)
 }
 
 // Whether a and b are connected: 1, or 0.
@@ -147,9 +147,8 @@ pub extern "C" fn mekvalgs_connected(words: &[u32], a: u32, b: u32, connected: &
     ensures no { result ≡ 0 → connected.new ≡ 0 → Connected (decode words.now) a b → ⊥ }
 {
     let asked = call_questions::connected(words, node(a), node(b));
-    *connected = asked.connected as u32;
-    let answer = asked.answer;
-    answers::number(answer)
+    *connected = u32::from(asked.unwrap_or(false));
+    answers::number(asked)
 }
 
 // The number of groups.
@@ -159,9 +158,8 @@ pub extern "C" fn mekvalgs_groups(words: &[u32], groups: &mut u32) -> u32
     ensures groups { groups.new ≡ groups_of words.now }
 {
     let asked = call_questions::groups(words);
-    *groups = asked.groups;
-    let answer = asked.answer;
-    answers::number(answer)
+    *groups = asked.unwrap_or(0);
+    answers::number(asked)
 }
 
 // The route from a running node to the key, into the list.
@@ -182,11 +180,13 @@ pub extern "C" fn mekvalgs_route(
     } ≡ route_buffer words.now start key route.old }
 {
     let routed = call_route::route(words, node(start), key, route);
-    let last = routed.end;
-    *end = last.0 as u32;
-    *hops = routed.hops;
-    let answer = routed.answer;
-    answers::number(answer)
+    let last = routed.unwrap_or(Arrival {
+        end: NodeNumber::NONE,
+        hops: 0,
+    });
+    *end = u32::from(last.end.0);
+    *hops = last.hops;
+    answers::number(routed)
 }
 
 // The reach from a running node to the owner of the key.
@@ -202,11 +202,13 @@ pub extern "C" fn mekvalgs_reach(
         ≡ reach_of words.now start key }
 {
     let reached = call_reach::reach(words, node(start), key);
-    let last = reached.end;
-    *end = last.0 as u32;
-    *hops = reached.hops;
-    let answer = reached.answer;
-    answers::number(answer)
+    let last = reached.unwrap_or(Reached {
+        end: NodeNumber::NONE,
+        hops: 0,
+    });
+    *end = u32::from(last.end.0);
+    *hops = last.hops;
+    answers::number(reached)
 }
 
 // The conductor's screen.
@@ -225,7 +227,7 @@ pub extern "C" fn mekvalgs_conductor(
         running.new keys.new leafsets.new ≡ conductor_of words.now }
 {
     let shown = call_screens::conductor(words);
-    let screen = shown.screen;
+    let screen = shown.unwrap_or(call_screens::empty());
     put_screen(
         screen,
         clockwise,
@@ -235,8 +237,7 @@ pub extern "C" fn mekvalgs_conductor(
         keys,
         leafsets,
     );
-    let answer = shown.answer;
-    answers::number(answer)
+    answers::number(shown)
 }
 
 // The technician's screen, but for the messages.
@@ -263,10 +264,12 @@ pub extern "C" fn mekvalgs_technician(
         × (spares.new ≡ spares_of words.now) }
 {
     let shown = call_screens::technician(words, stamps, spares);
-    let screen = shown.screen;
-    let conductor = screen.conductor;
+    let screen = shown.unwrap_or(TechnicianScreen {
+        conductor: call_screens::empty(),
+        candidates: [0; 64],
+    });
     put_screen(
-        conductor,
+        screen.conductor,
         clockwise,
         counter_clockwise,
         nodes,
@@ -276,8 +279,7 @@ pub extern "C" fn mekvalgs_technician(
     );
     let screen_candidates = screen.candidates;
     *candidates = screen_candidates;
-    let answer = shown.answer;
-    answers::number(answer)
+    answers::number(shown)
 }
 
 // How many words the messages in flight have.
@@ -323,12 +325,11 @@ pub extern "C" fn mekvalgs_read_event(
     ensures parts { numbers kind.new first.new second.new ≡ read_parts word }
 {
     let read = mekvalgs_event::read(word);
-    let p = read.parts;
+    let p = read.unwrap_or(mekvalgs_event::make(0, 0, 0));
     *kind = p.kind;
     *first = p.first;
     *second = p.second;
-    let answer = read.answer;
-    answers::number(answer)
+    answers::number(read)
 }
 
 // The word of the event with these three numbers.
@@ -338,9 +339,8 @@ pub extern "C" fn mekvalgs_write_event(kind: u32, first: u32, second: u32, word:
     ensures word { word.new ≡ write_parts (numbers kind first second) }
 {
     let written = mekvalgs_event::write(mekvalgs_event::make(kind, first, second));
-    *word = written.word;
-    let answer = written.answer;
-    answers::number(answer)
+    *word = written.unwrap_or(0);
+    answers::number(written)
 }
 
 // Watches node x.
@@ -355,11 +355,10 @@ pub extern "C" fn mekvalgs_watch(
     ensures listener { listener_in watched.new silences.new windows.new
         ≡ leaves_record (listener_in watched.old silences.old windows.old) (Watch x) }
 {
-    let called = listener::watch(lent(*watched, *silences, *windows), node(x));
-    let left = called.listener;
-    *watched = left.watched;
-    put_counts(left, silences, windows);
-    let answer = called.answer;
+    let mut listener = lent(*watched, *silences, *windows);
+    let answer = listener::watch(&mut listener, node(x));
+    *watched = listener.watched;
+    put_counts(listener, silences, windows);
     answers::number(answer)
 }
 
@@ -371,11 +370,11 @@ pub extern "C" fn mekvalgs_tick(watched: u64, silences: &mut [u8; 64], windows: 
     ensures listener { listener_in watched silences.new windows.now
         ≡ leaves_record (listener_in watched silences.old windows.now) Tick }
 {
-    let ticked = listener::tick(lent(watched, *silences, *windows));
-    let left = ticked.listener;
-    let left_silences = left.silences;
+    let mut listener = lent(watched, *silences, *windows);
+    let notices = listener::tick(&mut listener);
+    let left_silences = listener.silences;
     *silences = left_silences;
-    ticked.notices
+    notices
 }
 
 // Hears node x.
@@ -391,10 +390,9 @@ pub extern "C" fn mekvalgs_hear(
     ensures listener { listener_in watched silences.new windows.new
         ≡ leaves_record (listener_in watched silences.old windows.old) (Hear x) }
 {
-    let called = listener::hear(lent(watched, *silences, *windows), node(x));
-    let left = called.listener;
-    put_counts(left, silences, windows);
-    let answer = called.answer;
+    let mut listener = lent(watched, *silences, *windows);
+    let answer = listener::hear(&mut listener, node(x));
+    put_counts(listener, silences, windows);
     answers::number(answer)
 }
 

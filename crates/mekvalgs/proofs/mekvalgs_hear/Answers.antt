@@ -4,6 +4,6 @@ use Rattle.mekvalgs.proofs.mekvalgs_hear.Goals as goal
 pub returns : goal.returns
 returns c =
     record {
-      answer = hear_answers c.lent.ensures.value c.args.x c.node.ensures.value c.number.ensures.answer c.hear-called.ensures.answer;
-      listener = hear_leaves c.lent.ensures.value c.args.x c.node.ensures.value c.lent.ensures.whole c.put_counts.ensures.value c.hear-called.ensures.listener;
+      answer = hear_answers c.lent-listener.ensures.value c.args.x c.node.ensures.value c.number.ensures.answer c.hear-answer.ensures.answer;
+      listener = hear_leaves c.lent-listener.ensures.value c.args.x c.node.ensures.value c.lent-listener.ensures.whole c.put_counts.ensures.value c.hear-answer.ensures.listener;
     }

@@ -3,8 +3,8 @@ use Rattle.mekvalgs.proofs.mekvalgs_watch.Goals as goal
 
 pub returns : goal.returns
 returns c =
-    let is = c.lent.ensures.value in
+    let is = c.lent-listener.ensures.value in
     record {
-      answer = watch_answers is c.args.x c.node.ensures.value c.number.ensures.answer c.watch-called.ensures.answer;
-      listener = watch_leaves is c.args.x c.node.ensures.value c.put_counts.ensures.value c.watch-called.ensures.listener;
+      answer = watch_answers is c.args.x c.node.ensures.value c.number.ensures.answer c.watch-answer.ensures.answer;
+      listener = watch_leaves is c.args.x c.node.ensures.value c.put_counts.ensures.value c.watch-answer.ensures.listener;
     }
