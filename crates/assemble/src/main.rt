@@ -69,8 +69,7 @@ fn print<F: Read + Seek, W: Write>(file: &mut F, output: &mut W) -> Result<()> {
 }
 
 // What is wrong with the text.
-fn print_fault<E: Write>(reader: Reader, errors: &mut E) -> Result<()>
-{
+fn print_fault<E: Write>(reader: Reader, errors: &mut E) -> Result<()> {
     let mut line = [0u8; fault::ROOM];
     let end = fault::put_fault(reader, &mut line);
     errors.write_all(&line[..end]).context("standard error")

@@ -37,7 +37,7 @@ fn put_groups(out: &mut [u8], at: usize, groups: u32) -> usize
     bench_lines::put_byte(out, second, NEWLINE)
 }
 
-// Puts the line of each of the n nodes.
+// Puts the line of each of the n nodes; x is the number of a node.
 fn put_nodes(words: &[u32], n: usize, out: &mut [u8], at: usize) -> usize
     requires words { (length words.now ≡ ring_length) × (n ≡ size (decode_table words.now)) × (n ≤ 64)
         × (at + 1450 * n ≤ length out.old) }

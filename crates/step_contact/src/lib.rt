@@ -39,7 +39,10 @@ pub fn on_ping_contact(me: NodeNumber, own: NodeRecord, message: MessageRecord) 
     ensures effect { (t : Table) (time n : ℕ) → OwnFits n own
         → Leaves n me.0 time result (steps.on_ping_contact t me.0 time (own_of own) (message_of message)) }
 {
-    EffectRecord::replying(own, plain(MessageType::PongContact as u8, me, message.sender))
+    EffectRecord::replying(
+        own,
+        plain(MessageType::PongContact as u8, me, message.sender),
+    )
 }
 
 // "on type 2, take the sender in"

@@ -22,13 +22,7 @@ fn compare<R: Read>(
     requires room { (length bytes.old ≡ 4096) × (length out.old ≡ 3000000) × (length room.old ≡ 3000000) }
 {
     let mut words = [0u32; place::LENGTH];
-    let next = chunks::audit_next(
-        script,
-        Session::new(),
-        bytes,
-        &mut words,
-        out,
-    )?;
+    let next = chunks::audit_next(script, Session::new(), bytes, &mut words, out)?;
     let session = next.session;
     let end = session.end;
     if session.more {
