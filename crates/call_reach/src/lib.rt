@@ -35,12 +35,8 @@ fn distances(keys: &[u32], set: u64, to: Key) -> [u32; 64]
     ensures far { Distances keys.now set to.0 result }
 {
     let mut far = [BEYOND; 64];
-    let mut rest = set;
-    while rest != 0 {
-        let y = sets::lowest(rest);
-        let at = y.0 as usize;
-        far[at] = clockwise(Key(keys[at]), to);
-        rest = sets::rest(rest);
+    for y in sets::members(set) {
+        far[y.index()] = clockwise(Key(keys[y.index()]), to);
     }
     far
 }
@@ -50,10 +46,9 @@ fn farthest(far: &[u32], limit: u32) -> u32
     ensures value { Greatest far.now (length far.now) limit result }
 {
     let mut best = 0;
-    for y in 0..far.len() {
-        let d = far[y];
-        let near = if d <= limit { d } else { 0 };
-        best = if best < near { near } else { best };
+    for d in far {
+        let near = if *d <= limit { *d } else { 0 };
+        best = best.max(near);
     }
     best
 }
@@ -67,9 +62,7 @@ fn hops_to_last(far: &[u32], distance: u32) -> u32
     let spans = SPANS;
     let mut left = distance;
     let mut hops = 0;
-    let mut i: usize = 24;
-    while 0 < i {
-        i -= 1;
+    for i in (0..24).rev() {
         let span = spans[i];
         if span <= left {
             left = farthest(far, left - span);
@@ -87,7 +80,7 @@ fn walk(keys: &[u32], running: u64, key: Key, start: NodeNumber) -> Reached
         (record { end = result.end.0; hops = result.hops }) }
 {
     let owner = nearest(keys, Way::Clockwise, key, running).unwrap();
-    if start.0 == owner.0 {
+    if start == owner {
         return Reached {
             end: owner,
             hops: 0,

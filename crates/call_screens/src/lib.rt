@@ -190,7 +190,7 @@ fn put_rows(
     }
 }
 
-// Puts what node x, of n, has noted of each node: its commit stamp, and its spare.
+// Puts what node x, of n, has noted of each node: its commit stamp, and its spare. z has a place in each of four arrays.
 fn put_row(stamps: &mut [u32], spares: &mut [u8], n: usize, x: usize, own: NodeRecord)
     requires lengths { (length stamps.old ≡ 4096) × (length spares.old ≡ 4096) × (x < 64) × RoomNode own }
     ensures stamps { RowPut stamps.old stamps.new x (stamp_at own) }
@@ -216,8 +216,6 @@ fn clear(stamps: &mut [u32], spares: &mut [u8], from: usize)
     ensures stamps { Patched stamps.old stamps.new from 4096 (λ i. 0) }
     ensures spares { Patched spares.old spares.new from 4096 (λ i. 0) }
 {
-    for i in from..4096 {
-        stamps[i] = 0;
-        spares[i] = 0;
-    }
+    stamps[from..].fill(0);
+    spares[from..].fill(0);
 }

@@ -1,22 +1,22 @@
-use Rattle.sets.proofs.Bits.{rising_below}
+use Rattle.sets.proofs.Turns.{begins, turn, turn_below, no_more}
 use Rattle.call_reach.proofs.Passes.{filling_none, filling_place, filling_more, filling_end}
 use Rattle.call_reach.proofs.distances.Goals as goal
 
-pub loop-rest-init : goal.loop-rest-init
-loop-rest-init c = filling_none c.requires.table.0 c.requires.table.1 c.ranges.set.fits
+pub loop-y-init : goal.loop-y-init
+loop-y-init c = rw (begins c.members-y-items.ensures.all c.into_iter-y-iterator.ensures.into_iter_gives) (filling_none c.requires.table.0 c.requires.table.1 c.ranges.set.fits)
 
-pub bounds-keys-at : goal.bounds-keys-at
-bounds-keys-at c =
-    rising_below c.loop-rest.invariant.rising c.loop-rest-test.true _ c.lowest-y.ensures.value
+pub bounds-keys-index : goal.bounds-keys-index
+bounds-keys-index c = rw c.index.ensures.value (turn_below c.loop-y.invariant.rising (turn c.loop-y.y-iterator c.next.new.self c.in-Some.ensures.steps))
 
-pub bounds-far-at : goal.bounds-far-at
-bounds-far-at c =
-    filling_place c.loop-rest.invariant c.loop-rest-test.true _ c.lowest-y.ensures.value
+pub bounds-far-index : goal.bounds-far-index
+bounds-far-index c =
+    let t = turn c.loop-y.y-iterator c.next.new.self c.in-Some.ensures.steps in
+    rw c.index-in-loop-y.ensures.value (filling_place c.loop-y.invariant t.some _ t.is)
 
-pub loop-rest-preserved : goal.loop-rest-preserved
-loop-rest-preserved c =
-    filling_more c.loop-rest.invariant c.loop-rest-test.true _ c.lowest-y.ensures.value
-    c.clockwise.ensures.value c.rest-rest.ensures.rest
+pub loop-y-preserved : goal.loop-y-preserved
+loop-y-preserved c =
+    let t = turn c.loop-y.y-iterator c.next.new.self c.in-Some.ensures.steps in
+    rw c.index-in-loop-y.ensures.value (filling_more c.loop-y.invariant t.some _ t.is (rw c.index.ensures.value at c.clockwise.ensures.value) t.rest)
 
 pub returns : goal.returns
-returns c = record { far = filling_end c.loop-rest.invariant c.loop-rest-test.false }
+returns c = record { far = filling_end c.loop-y.invariant (no_more c.loop-y.y-iterator c.in-None.ensures.steps) }

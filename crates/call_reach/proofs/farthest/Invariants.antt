@@ -1,7 +1,5 @@
-use Prim.Native.Nat.{◌≤◌}
-use lib.ListN.{length}
 use Rattle.call_reach.specs.Walks.{Greatest}
 use Rattle.call_reach.proofs.farthest.Given as goal
 
-abbrev pub invariant-loop-y : goal.invariant-loop-y
-invariant-loop-y l = (l.y ≤ length l.far) × Greatest l.far l.y l.limit l.best
+abbrev pub invariant-loop-d : goal.invariant-loop-d
+invariant-loop-d l = Greatest l.far l.d-index l.limit l.best
