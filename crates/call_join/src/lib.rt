@@ -16,7 +16,7 @@ use model::refusal::Refusal;
 use model::values::{Key, NodeNumber};
 use word_ring::limit;
 
-// Whether one of the n nodes has the key.
+// Whether one of the n nodes has the key; y is the number of a node.
 fn has_key(words: &[u32], n: usize, key: Key) -> bool
     requires words { (length words.now ≡ ring_length) × (n ≡ size (decode_table words.now)) × (n ≤ 64) }
     ensures value { result ≡ some n (λ y. eqb key.0 (model.key (decode_table words.now) y)) }
@@ -28,7 +28,7 @@ fn has_key(words: &[u32], n: usize, key: Key) -> bool
     found
 }
 
-// Whether a node of the first has the key of one of the second.
+// Whether a node of the first, x, has the key of one of the second.
 fn shares_key(first: &[u32], second: &[u32]) -> bool
     requires first { (length first.now ≡ ring_length) × (size (decode_table first.now) ≤ 64) }
     requires second { (length second.now ≡ ring_length) × (size (decode_table second.now) ≤ 64) }

@@ -63,7 +63,7 @@ fn keys_fit(keys: &[u32]) -> bool
     keys.iter().all(|key| *key <= limit::KEY)
 }
 
-// "keys differ"
+// "keys differ": a loop, since the proof over a chain did not close.
 fn keys_differ(keys: &[u32]) -> bool
     ensures value { IsTrue result
         ↔ EachIndex keys.now (λ x. (y : ℕ) → y < x → slice_index keys.now y ≢ slice_index keys.now x) }

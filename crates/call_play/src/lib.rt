@@ -21,7 +21,8 @@ pub fn play(words: &mut [u32], word: u32) -> Result<(), Refusal>
     event_play::play_event(words, event)
 }
 
-// Writes the answer's number to place i, if there is one.
+// Writes the answer's number to place i, if there is one. The index is tested, since a proof knows of what is written
+// through `get_mut` no more than the length.
 fn note(answers: &mut [u8], i: usize, answer: Result<(), Refusal>)
     ensures answer { answers.new ≡ set answers.old i (answer_number answer) }
 {

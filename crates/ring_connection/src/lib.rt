@@ -78,7 +78,7 @@ pub fn connected(words: &[u32], n: usize, a: NodeNumber, b: NodeNumber) -> bool
     sets::has(running, b) & !sets::has(apart(words, running, a), b)
 }
 
-// "the number of connected groups of running stands"
+// "the number of connected groups of running stands": each turn takes a whole group out.
 pub fn groups(words: &[u32], n: usize) -> u32
     requires words { (length words.now ≡ ring_length) × (n ≡ size (decode_table words.now)) × (n ≤ 64) }
     ensures value { result ≡ model.groups (decode words.now) }

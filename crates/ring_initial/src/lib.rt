@@ -41,7 +41,7 @@ fn write_nodes(words: &mut [u32], keys: &[u32])
     }
 }
 
-// Writes the words of the pairs of n nodes.
+// Writes the words of the pairs of n nodes; x is the number of a node.
 fn write_pairs(words: &mut [u32], n: usize)
     requires length { length words.old ≡ ring_length }
     requires bounds { n ≤ 64 }

@@ -66,7 +66,7 @@ fn upper(word: u32) -> u16
     (word >> 16) as u16
 }
 
-// The first words of `count` messages from message `from` on, in two halves.
+// The first words of `count` messages from message `from` on, in two halves. k has a place in three slices.
 fn halve(words: &[u32], base: usize, from: usize, count: usize, lows: &mut [u16], highs: &mut [u16])
     requires words { (base + 5 * (from + count) ≤ length words.now) × (length lows.old ≡ 64)
         × (length highs.old ≡ 64) × (count ≤ 64) }

@@ -91,7 +91,7 @@ fn wrong(
         | (met & receivers[4 * (((first >> 10) % 64) as usize) + i])
 }
 
-// Nothing is wrong in m rests.
+// Nothing is wrong in m rests; k is the number of a message.
 fn nothing_wrong(
     words: &[u32],
     base: usize,

@@ -39,6 +39,7 @@ fn pair_fits(w: u32, p: u32, clock: u32, n: u32, x: u32, z: u32) -> bool
 }
 
 // The pairs of a running x with the nodes from `from` up to `to`, the first word of that with z being at base + 2 * z.
+// z is the number of a node.
 pub fn fitting(words: &[u32], base: usize, x: usize, n: usize, from: usize, to: usize) -> Run
     requires words { (base + 2 * to ≤ length words.now) × (2 * n < length words.now) }
     requires bounds { (n ≤ 64) × (x < n) × (from ≤ to) × (to ≤ n) }
