@@ -190,7 +190,8 @@ fn put_rows(
     }
 }
 
-// Puts what node x, of n, has noted of each node: its commit stamp, and its spare. z has a place in each of four arrays.
+// Puts what node x, of n, has noted of each node: its commit stamp, and its spare. z has a place in each of four
+// arrays.
 fn put_row(stamps: &mut [u32], spares: &mut [u8], n: usize, x: usize, own: NodeRecord)
     requires lengths { (length stamps.old ≡ 4096) × (length spares.old ≡ 4096) × (x < 64) × RoomNode own }
     ensures stamps { RowPut stamps.old stamps.new x (stamp_at own) }

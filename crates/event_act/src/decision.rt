@@ -21,7 +21,8 @@ pub enum Becomes {
     Acts,
 }
 
-// A message taken out, by its position, or none; then the node changed, its clock `time` where it rises; then messages sent by it.
+// A message taken out, by its position, or none; then the node changed, its clock `time` where it rises; then messages
+// sent by it.
 #[derive(Clone, Copy)]
 pub struct Change {
     pub taken: Option<usize>,

@@ -8,7 +8,8 @@ ghost use Rattle.std.specs.Prelude.{◌≡◌, true, List, ℕ, ◌+◌, ◌-◌
 ghost use Rattle.model.specs.Fields.{bits};
 ghost use Rattle.model.specs.Leafset.{size};
 ghost use Rattle.model.specs.Ring.{Ring};
-ghost use Rattle.model.specs.Words.{ring_length, sides_of, head_word, node_place, decode_table, decode, encode, reads_as_ring};
+ghost use Rattle.model.specs.Words.{ring_length, sides_of, head_word, node_place};
+ghost use Rattle.model.specs.Words.{decode_table, decode, encode, reads_as_ring};
 ghost use Rattle.model.specs.Play.{set_messages};
 ghost use Rattle.model.specs.Join.{join};
 ghost use Rattle.ring_head.specs.Parts.{Encodes};

@@ -1,7 +1,8 @@
 // The messages in flight: loaded, counted, removed, appended; one to each node of a set.
 #![tactic(auto)]
 
-ghost use Rattle.std.specs.Prelude.{◌≡◌, [], ◌∷◌, ◌++◌, map, true, ◌+◌, ◌*◌, ◌^◌, ◌<◌, ℕ, ◌-◌, ◌≤◌, length, get_or, set};
+ghost use Rattle.std.specs.Prelude.{◌≡◌, [], ◌∷◌, ◌++◌, map, true, ℕ, length, get_or, set};
+ghost use Rattle.std.specs.Prelude.{◌+◌, ◌-◌, ◌*◌, ◌^◌, ◌<◌, ◌≤◌};
 ghost use Rattle.model.specs.Fields.{bits};
 ghost use Rattle.model.specs.Words.{ring_length, sides_of, head_word, view_word, decode};
 ghost use Rattle.model.specs.Ring.{Ring, sent_by};

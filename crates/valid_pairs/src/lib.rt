@@ -56,7 +56,8 @@ fn running_row(words: &[u32], links: &[u32; 127], spares: &[u32; 127], x: usize,
     }
 }
 
-// The row of a node x that is off: nothing but what a pair without a link and a spare has. z counts as in `running_row`.
+// The row of a node x that is off: nothing but what a pair without a link and a spare has. z counts as in
+// `running_row`.
 fn off_row(words: &[u32], links: &[u32; 127], spares: &[u32; 127], x: usize, n: usize) -> bool
     requires row { GivenRow words.now links.now spares.now x n }
     ensures value { result ≡ no_links words.now n x && no_spares words.now n x }
