@@ -2,11 +2,11 @@
 // in .svg.
 #![tactic(auto)]
 
-ghost use Rattle.std.specs.Prelude.{◌≡◌, ◌≤◌, length, IfOk};
+ghost use Rattle.std.specs.Prelude.{◌≡◌, length};
 
+use std::io;
 use std::io::Read;
 use std::rt::Runtime;
-use std::{env, io};
 
 // Draws: whether the drawing is just what is expected.
 fn compare<R: Read>(
@@ -33,25 +33,6 @@ fn run<R: Runtime>(rt: &R, name: &str) -> io::Result<bool> {
     compare(&mut script, &mut expected, &mut out, &mut room)
 }
 
-// Runs the script of an argument: 1 if its drawing is what is expected, else 0.
-fn run_argument<R: Runtime>(rt: &R, name: &str) -> io::Result<u64>
-    ensures bound { IfOk result (λ same. same ≤ 1) }
-{
-    let same = run(rt, name)?;
-    test_files::print(rt, name, same)?;
-    Ok(if same { 1 } else { 0 })
-}
-
-// Runs the scripts of the arguments after the first, which is the program's own: how many drawings are as expected.
-fn run_all<R: Runtime>(rt: &R) -> io::Result<u64> {
-    let mut same = 0;
-    for name in env::args(rt)?.skip(1) {
-        same += run_argument(rt, name.as_str())?;
-    }
-    Ok(same)
-}
-
 fn main(rt: HostRuntime) -> io::Result<()> {
-    let same = run_all(&rt)?;
-    test_files::print_count(&rt, same)
+    test_files::run_all(&rt, run)
 }

@@ -4,8 +4,8 @@
 ghost use Rattle.std.specs.Prelude.{◌≤◌, length};
 
 use std::io::Read;
-use std::rt::Files;
-use std::{fs, io};
+use std::rt::{Files, Runtime};
+use std::{env, fs, io};
 
 // Opens the file of a name and an ending.
 pub fn open<R: Files + Alloc>(rt: &R, name: &str, ending: &str) -> io::Result<R::File> {
@@ -41,4 +41,18 @@ pub fn print(rt: &impl Print, name: &str, same: bool) -> io::Result<()> {
 // Prints how many gave what is expected.
 pub fn print_count(rt: &impl Print, same: u64) -> io::Result<()> {
     println!(rt; "{same} same")
+}
+
+// Checks each argument after the first, which is the program's own, and prints its line, then how many gave what is
+// expected.
+pub fn run_all<R: Runtime, F: Fn(&R, &str) -> io::Result<bool>>(rt: &R, check: F) -> io::Result<()>
+    requires callable { F.IsAlwaysCallable check }
+{
+    let mut count = 0;
+    for name in env::args(rt)?.skip(1) {
+        let same = check(rt, name.as_str())?;
+        print(rt, name.as_str(), same)?;
+        count += u64::from(same);
+    }
+    print_count(rt, count)
 }

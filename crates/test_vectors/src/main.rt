@@ -4,14 +4,14 @@
 
 mod texts;
 
-ghost use Rattle.std.specs.Prelude.{◌≡◌, ◌≤◌, length, IfOk};
+ghost use Rattle.std.specs.Prelude.{◌≡◌, length};
 ghost use Rattle.model.specs.Words.{ring_length};
 
 use bench_session::chunks;
 use bench_session::turn::Session;
+use std::io;
 use std::io::Read;
 use std::rt::Runtime;
-use std::{env, io};
 use word_ring::place;
 
 // More chunks than any script has.
@@ -61,25 +61,11 @@ fn run<R: Runtime>(rt: &R, name: &str) -> io::Result<bool> {
     )
 }
 
-// Runs the script of an argument: 1 if it printed what is expected, has the text that is expected and came back, else 0.
-fn run_argument<R: Runtime>(rt: &R, name: &str) -> io::Result<u64>
-    ensures bound { IfOk result (λ same. same ≤ 1) }
-{
-    let same = run(rt, name)? & texts::run(rt, name)? & texts::comes_back(rt, name)?;
-    test_files::print(rt, name, same)?;
-    Ok(u64::from(same))
-}
-
-// Runs the scripts of the arguments after the first, which is the program's own: how many are the same.
-fn run_all<R: Runtime>(rt: &R) -> io::Result<u64> {
-    let mut same = 0;
-    for name in env::args(rt)?.skip(1) {
-        same += run_argument(rt, name.as_str())?;
-    }
-    Ok(same)
+// Whether the script of a name prints what is expected, has the text that is expected and comes back from it.
+fn is_same<R: Runtime>(rt: &R, name: &str) -> io::Result<bool> {
+    Ok(run(rt, name)? & texts::run(rt, name)? & texts::comes_back(rt, name)?)
 }
 
 fn main(rt: HostRuntime) -> io::Result<()> {
-    let same = run_all(&rt)?;
-    test_files::print_count(&rt, same)
+    test_files::run_all(&rt, is_same)
 }
