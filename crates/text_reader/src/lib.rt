@@ -247,26 +247,14 @@ fn line_ended(mut reader: Reader) -> Reader
     reader
 }
 
-// The end of a line, and of its last token.
-fn newline_read(reader: Reader) -> Step
-    requires bounds { ReaderBounded reader × (reader.line + 1 < 2 ^ 64) }
-    ensures value { result ≡ form.after (form.token_ended reader) form.line_ended }
+// What a step gives, and its reader changed.
+fn after<F: FnOnce(Reader) -> Reader>(step: Step, change: F) -> Step
+    requires callable { F.pre change step.reader }
+    ensures reader { F.post change step.reader result.reader }
+    ensures given { result.given ≡ step.given }
 {
-    let step = token_ended(reader);
     Step {
-        reader: line_ended(step.reader),
-        given: step.given,
-    }
-}
-
-// The start of a comment, and the end of the token before it.
-fn hash_read(reader: Reader) -> Step
-    requires bounds { ReaderBounded reader }
-    ensures value { result ≡ form.after (form.token_ended reader) form.commented }
-{
-    let step = token_ended(reader);
-    Step {
-        reader: commented(step.reader),
+        reader: change(step.reader),
         given: step.given,
     }
 }
@@ -280,13 +268,13 @@ pub fn byte_read(reader: Reader, byte: u8) -> Step
         return silent(reader);
     }
     if byte == NEWLINE {
-        return newline_read(reader);
+        return after(token_ended(reader), line_ended);
     }
     if reader.comment {
         return silent(reader);
     }
     if byte == HASH {
-        return hash_read(reader);
+        return after(token_ended(reader), commented);
     }
     if byte <= BLANK {
         return token_ended(reader);
