@@ -17,6 +17,7 @@ use model::message::MessageRecord;
 use model::refusal::Refusal;
 use model::values::{NodeNumber, Stamp};
 use records::effect::EffectRecord;
+use records::node::Node;
 
 // "Delivery takes the message out first; to a stand that is off, nothing else happens." An echo leaves it.
 pub fn deliver(words: &[u32], position: u16, echo: bool) -> Result<Change, Refusal>
@@ -57,14 +58,13 @@ fn step(words: &[u32], actor: Actor, message: MessageRecord) -> EffectRecord
     let n = actor.n;
     let sides = ring_head::sides(words);
     let keys = ring_head::keys(words, n);
-    step_dispatch::deliver(
-        &keys[..n],
+    let node = Node {
+        keys: &keys[..n],
         sides,
-        message.receiver,
-        actor.time,
-        actor.own,
-        message,
-    )
+        me: message.receiver,
+        own: &actor.own,
+    };
+    step_dispatch::deliver(&node, actor.time, message)
 }
 
 pub fn lose(words: &[u32], position: u16) -> Result<Change, Refusal>

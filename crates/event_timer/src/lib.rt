@@ -15,6 +15,7 @@ use event_act::{Actor, decision};
 use model::refusal::Refusal;
 use model::values::NodeNumber;
 use records::effect::EffectRecord;
+use records::node::Node;
 
 // Timer k at node x. 1 and above 4 no timer has a step: only the clock rises.
 pub fn timer(words: &[u32], x: NodeNumber, k: u8) -> Result<Change, Refusal>
@@ -37,5 +38,11 @@ fn step(words: &[u32], x: NodeNumber, k: u8, actor: Actor) -> EffectRecord
     let n = actor.n;
     let sides = ring_head::sides(words);
     let keys = ring_head::keys(words, n);
-    step_dispatch::timer(&keys[..n], sides, x, actor.own, k)
+    let node = Node {
+        keys: &keys[..n],
+        sides,
+        me: x,
+        own: &actor.own,
+    };
+    step_dispatch::timer(&node, k)
 }

@@ -3,4 +3,5 @@
 
 pub mod effect;
 pub mod message;
+pub mod node;
 pub mod own;

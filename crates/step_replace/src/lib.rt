@@ -4,33 +4,33 @@
 ghost use Rattle.std.specs.Prelude.{◌≡◌, not, ◌&&◌, ℕ, ◌<◌, ◌^◌, eqb, ltb, length, if◌then◌else◌};
 ghost use Rattle.model.specs.Sets.{of_bits, none_node};
 ghost use Rattle.model.specs.Leafset.{Table};
-ghost use Rattle.model.specs.Structs.{table_of, own_of, spare_at, RoomNode, message_of, stamp_at, RoomMessage};
+ghost use Rattle.model.specs.Structs.{own_of, spare_at, RoomNode, message_of, stamp_at, RoomMessage};
 ghost use Rattle.model.specs.Steps as steps;
 ghost use Rattle.records.specs.Effects.{OwnFits, Leaves, Owns};
-ghost use Rattle.records.specs.Lent.{Lent};
+ghost use Rattle.records.specs.Lent.{IsLent, Takes, TakesOn};
 
 use leafset::{leafset, outside};
 use model::message::{MessageRecord, MessageType};
 use model::node::NodeRecord;
-use model::values::{NodeNumber, Sides, Stamp};
+use model::values::{NodeNumber, Stamp};
 use records::effect::{EffectRecord, Sends};
 use records::message::stamped;
+use records::node::Node;
 use records::own::{hold, release, set_commit};
 
 // "for each held z outside my leafset with a spare, type 9 to the spare, subject z, stamp now"
-pub fn timer3(keys: &[u32], sides: Sides, me: NodeNumber, own: NodeRecord) -> EffectRecord
-    requires lent { Lent keys.now sides me.0 own }
-    ensures effect { (time : ℕ) → Leaves (length keys.now) me.0 time result
-        (steps.timer3 (table_of sides keys.now) me.0 time (own_of own)) }
+pub fn timer3(node: &Node<'_>) -> EffectRecord
+    requires lent { IsLent node.now }
+    ensures effect { (time : ℕ) → Takes node.now time result steps.timer3 }
 {
-    let outside = outside(keys, sides, me, own.held);
-    EffectRecord::sending(own, Sends::ToSpares(spared(own, outside)))
+    let outside = outside(node.keys, node.sides, node.me, node.own.held);
+    EffectRecord::sending(*node.own, Sends::ToSpares(spared(node.own, outside)))
 }
 
 // The members of the set that have a spare.
-fn spared(own: NodeRecord, set: u64) -> u64
-    requires record { RoomNode own }
-    ensures members { (z : ℕ) → of_bits result z ≡ (of_bits set z && not (eqb (spare_at own z) none_node)) }
+fn spared(own: &NodeRecord, set: u64) -> u64
+    requires record { RoomNode own.now }
+    ensures members { (z : ℕ) → of_bits result z ≡ (of_bits set z && not (eqb (spare_at own.now z) none_node)) }
 {
     let mut out = 0;
     for z in sets::members(set) {
@@ -67,7 +67,8 @@ pub fn on_ping_replace(
     EffectRecord::replying(next, answer)
 }
 
-// Whether a stamp is earlier than another of the same clock.
+// Whether a stamp is earlier than another of the same clock. It is a function, so that a wrong order is refused at a
+// goal of its own.
 fn is_before(stamp: Stamp, other: Stamp) -> bool
     ensures value { result ≡ ltb stamp.0 other.0 }
 {
@@ -92,25 +93,17 @@ fn replaced(time: Stamp, own: NodeRecord, y: NodeNumber, z: NodeNumber, stamp: S
 }
 
 // "On 10 from y: if z is held, outside my leafset, and its spare is y, .." replaced.
-pub fn on_pong_replace(
-    keys: &[u32],
-    sides: Sides,
-    me: NodeNumber,
-    time: Stamp,
-    own: NodeRecord,
-    message: MessageRecord,
-) -> EffectRecord
-    requires lent { Lent keys.now sides me.0 own }
-    requires message { (time.0 < 2 ^ 24) × (message.sender.0 < length keys.now)
+pub fn on_pong_replace(node: &Node<'_>, time: Stamp, message: MessageRecord) -> EffectRecord
+    requires lent { IsLent node.now }
+    requires message { (time.0 < 2 ^ 24) × (message.sender.0 < length node.now.keys.now)
         × (message.subject.0 < 64) }
-    ensures effect { Leaves (length keys.now) me.0 time.0 result
-        (steps.on_pong_replace (table_of sides keys.now) me.0 time.0 (own_of own) (message_of message)) }
+    ensures effect { TakesOn node.now time.0 message result steps.on_pong_replace }
 {
-    let outside = outside(keys, sides, me, own.held);
+    let outside = outside(node.keys, node.sides, node.me, node.own.held);
     let z = message.subject;
-    if sets::has(outside, z) && own.spare[z.index()] == message.sender {
-        EffectRecord::quiet(replaced(time, own, message.sender, z, message.stamp))
+    if sets::has(outside, z) && node.own.spare[z.index()] == message.sender {
+        EffectRecord::quiet(replaced(time, *node.own, message.sender, z, message.stamp))
     } else {
-        EffectRecord::quiet(own)
+        EffectRecord::quiet(*node.own)
     }
 }

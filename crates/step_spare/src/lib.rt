@@ -3,49 +3,56 @@
 
 ghost use Rattle.std.specs.Prelude.{ℕ, ◌<◌, length};
 ghost use Rattle.model.specs.Leafset.{Table};
-ghost use Rattle.model.specs.Structs.{table_of, own_of, RoomNode, message_of, RoomMessage};
+ghost use Rattle.model.specs.Structs.{own_of, RoomNode, message_of, RoomMessage};
 ghost use Rattle.model.specs.Steps as steps;
 ghost use Rattle.records.specs.Effects.{OwnFits, Leaves};
-ghost use Rattle.records.specs.Lent.{Lent};
+ghost use Rattle.records.specs.Lent.{IsLent, Takes, TakesOn};
 
 use leafset::{leafset, outside};
 use leafset_choice::closest;
 use model::message::{MessageRecord, MessageType};
 use model::node::NodeRecord;
-use model::values::{NodeNumber, Sides};
+use model::values::NodeNumber;
 use records::effect::{EffectRecord, Sends};
 use records::message::naming;
+use records::node::Node;
 use records::own::set_spare;
 
 // "type 7 to each held stand outside my leafset of the held"
-pub fn timer2(keys: &[u32], sides: Sides, me: NodeNumber, own: NodeRecord) -> EffectRecord
-    requires lent { Lent keys.now sides me.0 own }
-    ensures effect { (time : ℕ) → Leaves (length keys.now) me.0 time result
-        (steps.timer2 (table_of sides keys.now) me.0 time (own_of own)) }
+pub fn timer2(node: &Node<'_>) -> EffectRecord
+    requires lent { IsLent node.now }
+    ensures effect { (time : ℕ) → Takes node.now time result steps.timer2 }
 {
-    let outside = outside(keys, sides, me, own.held);
-    EffectRecord::sending(own, Sends::Each(MessageType::PingAskRepl as u8, outside))
+    let outside = outside(node.keys, node.sides, node.me, node.own.held);
+    EffectRecord::sending(
+        *node.own,
+        Sends::Each(MessageType::PingAskRepl as u8, outside),
+    )
 }
 
 // "On 7 from a: answer 8 whose subject is the member of my leafset, other than a, nearest to a and strictly nearer to
 // a than I am; .. else 64."
-pub fn on_ping_ask_repl(
-    keys: &[u32],
-    sides: Sides,
-    me: NodeNumber,
-    own: NodeRecord,
-    message: MessageRecord,
-) -> EffectRecord
-    requires lent { Lent keys.now sides me.0 own }
-    requires sender { message.sender.0 < length keys.now }
-    ensures effect { (time : ℕ)
-        → Leaves (length keys.now) me.0 time result
-        (steps.on_ping_ask_repl (table_of sides keys.now) me.0 time (own_of own) (message_of message)) }
+pub fn on_ping_ask_repl(node: &Node<'_>, message: MessageRecord) -> EffectRecord
+    requires lent { IsLent node.now }
+    requires sender { message.sender.0 < length node.now.keys.now }
+    ensures effect { (time : ℕ) → TakesOn node.now time message result steps.on_ping_ask_repl }
 {
-    let spare = closest(keys, sides, me, own.held, message.sender).unwrap_or(NodeNumber::NONE);
+    let spare = closest(
+        node.keys,
+        node.sides,
+        node.me,
+        node.own.held,
+        message.sender,
+    )
+    .unwrap_or(NodeNumber::NONE);
     EffectRecord::replying(
-        own,
-        naming(MessageType::PongAskRepl as u8, me, message.sender, spare),
+        *node.own,
+        naming(
+            MessageType::PongAskRepl as u8,
+            node.me,
+            message.sender,
+            spare,
+        ),
     )
 }
 

@@ -16,8 +16,8 @@ keys-keys-requires c = record {
       (long _ c.requires.ring.0, is.nodes, is.few);
 }
 
-pub slice_bounds-deliver-end : goal.slice_bounds-deliver-end
-slice_bounds-deliver-end c = sym (keys_many c.requires.ring.1 _ c.keys-keys.ensures.keys.0)
+pub slice_bounds-node-end : goal.slice_bounds-node-end
+slice_bounds-node-end c = sym (keys_many c.requires.ring.1 _ c.keys-keys.ensures.keys.0)
 
 pub deliver-requires : goal.deliver-requires
 deliver-requires c =

@@ -12,8 +12,8 @@ sides-sides-requires c = record { length = long _ c.requires.ring }
 pub keys-keys-requires : goal.keys-keys-requires
 keys-keys-requires c = record { words = (long _ c.requires.ring, c.requires.actor.nodes, c.requires.actor.few) }
 
-pub slice_bounds-timer-end : goal.slice_bounds-timer-end
-slice_bounds-timer-end c = sym (keys_many c.requires.actor _ c.keys-keys.ensures.keys.0)
+pub slice_bounds-node-end : goal.slice_bounds-node-end
+slice_bounds-node-end c = sym (keys_many c.requires.actor _ c.keys-keys.ensures.keys.0)
 
 pub timer-requires : goal.timer-requires
 timer-requires c = record {

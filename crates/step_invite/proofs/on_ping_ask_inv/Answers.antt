@@ -15,11 +15,12 @@ unfolding steps.on_ping_ask_inv
 returns c = record {
   effect =
       let a = c.args in
+      let node = c.args.node.now in
       let table = other_table c.requires.lent.table c.requires.sender in
       λ time. c.replying.ensures.effect _ _ _ _ _ (c.add_candidate-next.ensures.record _ c.requires.lent.own_fits c.requires.sender)
       (record {
         message = c.viewing.ensures.message.message
-            ∙ ap (steps.viewing 4 a.me.0 a.message.sender.0) (leafset_back a.sides table c.leafset-view.ensures.value);
+            ∙ ap (steps.viewing 4 node.me.0 a.message.sender.0) (leafset_back node.sides table c.leafset-view.ensures.value);
         room = c.viewing.ensures.message.room;
       });
 }

@@ -7,7 +7,7 @@ use Rattle.step_invite.proofs.on_pong_invite.Goals as goal
 pub leafset-near-requires : goal.leafset-near-requires
 leafset-near-requires c =
     let a = c.args in record {
-      table = with_table a.sides c.requires.lent.table a.message.sender.0 _ c.with.ensures.members c.requires.message.1;
+      table = with_table a.node.now.sides c.requires.lent.table a.message.sender.0 _ c.with.ensures.members c.requires.message.1;
       sides = c.requires.lent.sides_room;
     }
 
@@ -16,7 +16,7 @@ unfolding steps.on_pong_invite
 returns-then-not-has c = record {
   effect =
       let a = c.args in
-      let near = near_test a.sides c.requires.lent.table a.message.sender.0 _
+      let near = near_test a.node.now.sides c.requires.lent.table a.message.sender.0 _
       c.with.ensures.members c.requires.message.1 _ c.leafset-near.ensures.value
       in
       rw (sym near ∙ sym c.has.ensures.value ∙ c.if-not-has.true)
@@ -28,7 +28,7 @@ unfolding steps.on_pong_invite
 returns c = record {
   effect =
       let a = c.args in
-      let near = near_test a.sides c.requires.lent.table a.message.sender.0 _
+      let near = near_test a.node.now.sides c.requires.lent.table a.message.sender.0 _
       c.with.ensures.members c.requires.message.1 _ c.leafset-near.ensures.value
       in
       rw (sym near ∙ sym c.has.ensures.value ∙ c.if-not-has.false)

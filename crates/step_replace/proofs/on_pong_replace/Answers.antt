@@ -28,7 +28,7 @@ unfolding steps.on_pong_replace
 returns-then-eq c = record {
   effect =
       let a = c.args in
-      let asked = replace-test a.own _ a.message.sender.0 a.message.subject.0 _ _ _
+      let asked = replace-test a.node.now.own.now _ a.message.sender.0 a.message.subject.0 _ _ _
       c.requires.lent.own_fits.room c.requires.message.2 c.has.ensures.value c.outside-outside.ensures.members (rw c.index.ensures.value at c.eq.ensures)
       in
       rw (sym asked ∙ and_in c.if-has.true c.if-eq.true)
@@ -42,11 +42,11 @@ returns-else-has c = record {
       let a = c.args in
       let room = c.requires.lent.own_fits.room in
       let low = c.requires.message.2 in
-      let S : Set = λ z. of_bits a.own.held z && not (leafset (table_of a.sides a.keys.now) a.me.0 (of_bits a.own.held) z) in
-      let stays : (S a.message.subject.0 && eqb (spare_at a.own a.message.subject.0) a.message.sender.0) ≡ false =
+      let S : Set = λ z. of_bits a.node.now.own.now.held z && not (leafset (table_of a.node.now.sides a.node.now.keys.now) a.node.now.me.0 (of_bits a.node.now.own.now.held) z) in
+      let stays : (S a.message.subject.0 && eqb (spare_at a.node.now.own.now a.message.subject.0) a.message.sender.0) ≡ false =
       elim c.else-has.branch [
         | else-has-via-then-has+else-eq w ↦
-            sym (replace-test a.own S a.message.sender.0 a.message.subject.0 _ _ _ room low c.has.ensures.value c.outside-outside.ensures.members (rw w.index.ensures.value at w.eq.ensures))
+            sym (replace-test a.node.now.own.now S a.message.sender.0 a.message.subject.0 _ _ _ room low c.has.ensures.value c.outside-outside.ensures.members (rw w.index.ensures.value at w.eq.ensures))
             ∙ ap (◌&&◌ c.has.result) w.if-eq.false ∙ and-false c.has.result
         | else-has-via-else-has w ↦
             rw (sym (ap (λ (R : Set). R a.message.subject.0) c.outside-outside.ensures.members) ∙ sym c.has.ensures.value ∙ w.if-has.false) refl

@@ -25,14 +25,14 @@ pub loop-z-preserved-then-ne : goal.loop-z-preserved-then-ne
 loop-z-preserved-then-ne c =
     let t = turn c.loop-z.z-iterator c.next.new.self c.in-Some.ensures.steps in
     turn_kept c.loop-z.invariant t c.with-out.ensures.members
-    (ap (λ (s : ℕ). not (eqb s 64)) (sym (spare_read c.args.own _ c.requires.record (turn_below c.loop-z.invariant.rising t)))
+    (ap (λ (s : ℕ). not (eqb s 64)) (sym (spare_read c.args.own.now _ c.requires.record (turn_below c.loop-z.invariant.rising t)))
     ∙ sym (rw c.index.ensures.value at c.ne.ensures) ∙ c.if-ne.true)
 
 pub loop-z-preserved : goal.loop-z-preserved
 loop-z-preserved c =
     let t = turn c.loop-z.z-iterator c.next.new.self c.in-Some.ensures.steps in
     turn_passed c.loop-z.invariant t refl
-    (ap (λ (s : ℕ). not (eqb s 64)) (sym (spare_read c.args.own _ c.requires.record (turn_below c.loop-z.invariant.rising t)))
+    (ap (λ (s : ℕ). not (eqb s 64)) (sym (spare_read c.args.own.now _ c.requires.record (turn_below c.loop-z.invariant.rising t)))
     ∙ sym (rw c.index.ensures.value at c.ne.ensures) ∙ c.if-ne.false)
 
 pub returns : goal.returns

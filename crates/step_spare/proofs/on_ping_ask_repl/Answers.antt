@@ -15,9 +15,10 @@ pub naming-requires : goal.naming-requires
 naming-requires c = record {
   bounds =
       let a = c.args in
-      let held = of_bits a.own.held in
-      let room : closest (table_of a.sides a.keys.now) a.me.0 held a.message.sender.0 < 2 ^ 7 =
-      closest_room a.sides a.keys.now a.me.0 held a.message.sender.0 c.requires.lent.table.few
+      let node = c.args.node.now in
+      let held = of_bits node.own.now.held in
+      let room : closest (table_of node.sides node.keys.now) node.me.0 held a.message.sender.0 < 2 ^ 7 =
+      closest_room node.sides node.keys.now node.me.0 held a.message.sender.0 c.requires.lent.table.few
       in
       (omega arith, omega arith, omega arith, omega (arith, ap (λ (y : NodeNumber). y.0) c.unwrap_or-spare.ensures ∙ unwrapped c.closest.result ∙ c.closest.ensures.value));
 }
@@ -27,8 +28,9 @@ unfolding steps.on_ping_ask_repl
 returns c = record {
   effect =
       let a = c.args in
+      let node = c.args.node.now in
       λ time. c.replying.ensures.effect _ _ _ _ _ (unchanged c.requires.lent.own_fits) (record {
-        message = c.naming.ensures.message.message ∙ ap (steps.naming 8 a.me.0 a.message.sender.0)
+        message = c.naming.ensures.message.message ∙ ap (steps.naming 8 node.me.0 a.message.sender.0)
             (ap (λ (y : NodeNumber). y.0) c.unwrap_or-spare.ensures ∙ unwrapped c.closest.result ∙ c.closest.ensures.value);
         room = c.naming.ensures.message.room;
       });

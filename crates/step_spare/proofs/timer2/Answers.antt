@@ -10,8 +10,8 @@ pub returns : goal.returns
 unfolding steps.timer2
 returns c = record {
   effect =
-      let a = c.args in
+      let node = c.args.node.now in
       λ time.
       c.sending.ensures.effect _ _ time _ _ (unchanged c.requires.lent.own_fits)
-      (calls a.me.0 time _ _ _ c.requires.lent.table.few (within_part _ _ (of_bits a.own.held) _ c.requires.lent.table.within c.outside-outside.ensures.members) c.outside-outside.ensures.members 7 (lit< tt));
+      (calls node.me.0 time _ _ _ c.requires.lent.table.few (within_part _ _ (of_bits node.own.now.held) _ c.requires.lent.table.within c.outside-outside.ensures.members) c.outside-outside.ensures.members 7 (lit< tt));
 }

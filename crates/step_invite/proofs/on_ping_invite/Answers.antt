@@ -1,0 +1,7 @@
+use Rattle.model.specs.Steps as steps
+use Rattle.records.proofs.Changes.{unchanged}
+use Rattle.step_invite.proofs.on_ping_invite.Goals as goal
+
+pub returns : goal.returns
+unfolding steps.on_ping_invite
+returns c = record { effect = λ t time n fits. c.replying.ensures.effect n _ _ _ _ (unchanged fits) c.plain.ensures.message }
