@@ -16,7 +16,7 @@ use model::refusal::Refusal;
 use model::values::NodeNumber;
 
 // "The leafset question is about one stand's leafset in its held set", bit s for node s. "A refused leafset question
-// returns the empty set".
+// returns the empty set": `given_or 0`.
 pub fn leafset_of(words: &[u32], x: NodeNumber) -> Result<u64, Refusal>
     ensures answer { answer_number result ≡ leafset_answer words.now x.0 }
     ensures set { given_or 0 result ≡ leafset_of words.now x.0 }
@@ -26,7 +26,7 @@ pub fn leafset_of(words: &[u32], x: NodeNumber) -> Result<u64, Refusal>
 }
 
 // "The connection question is about two stands, which may be the same one." A yes says that a chain of steps leads from
-// a to b, a no that none does. A refused "connection question no".
+// a to b, a no that none does. A refused "connection question no": `given_or false`.
 pub fn connected(words: &[u32], a: NodeNumber, b: NodeNumber) -> Result<bool, Refusal>
     ensures answer { answer_number result ≡ connection_answer words.now a.0 b.0 }
     ensures connected { given_or false result ≡ connection_of words.now a.0 b.0 }
@@ -38,7 +38,7 @@ pub fn connected(words: &[u32], a: NodeNumber, b: NodeNumber) -> Result<bool, Re
     Ok(ring_connection::connected(words, n, a, b))
 }
 
-// "the number of connected groups of running stands"; 0 where refused.
+// "the number of connected groups of running stands".
 pub fn groups(words: &[u32]) -> Result<u32, Refusal>
     ensures answer { answer_number result ≡ ring_answer words.now }
     ensures groups { given_or 0 result ≡ groups_of words.now }

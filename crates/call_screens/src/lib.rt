@@ -61,7 +61,8 @@ pub fn messages(words: &[u32]) -> &[u32]
 }
 
 // What is shown where a call is refused.
-pub fn empty() -> ConductorScreen
+#[tactic(auto, unfolding(model::specs::Screens::empty_conductor))]
+pub fn empty_conductor() -> ConductorScreen
     ensures value { result ≡ empty_conductor }
 {
     ConductorScreen {

@@ -227,7 +227,7 @@ pub extern "C" fn mekvalgs_conductor(
         running.new keys.new leafsets.new ≡ conductor_of words.now }
 {
     let shown = call_screens::conductor(words);
-    let screen = shown.unwrap_or(call_screens::empty());
+    let screen = shown.unwrap_or(call_screens::empty_conductor());
     put_screen(
         screen,
         clockwise,
@@ -265,7 +265,7 @@ pub extern "C" fn mekvalgs_technician(
 {
     let shown = call_screens::technician(words, stamps, spares);
     let screen = shown.unwrap_or(TechnicianScreen {
-        conductor: call_screens::empty(),
+        conductor: call_screens::empty_conductor(),
         candidates: [0; 64],
     });
     put_screen(

@@ -20,9 +20,9 @@ fn leafset_of(words: &[u32], x: NodeNumber) -> Outcome {
 }
 
 fn connected(words: &[u32], a: NodeNumber, b: NodeNumber) -> Outcome {
-    given(call_questions::connected(words, a, b).map(|connected| u64::from(connected)))
+    given(call_questions::connected(words, a, b).map(u64::from))
 }
 
 fn groups(words: &[u32]) -> Outcome {
-    given(call_questions::groups(words).map(|groups| u64::from(groups)))
+    given(call_questions::groups(words).map(u64::from))
 }

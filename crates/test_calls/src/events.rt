@@ -25,7 +25,7 @@ pub fn node(number: u32) -> NodeNumber {
 
 // The value has the event's kind and its two parts, four decimal digits each.
 pub fn read(word: u32) -> Outcome {
-    given(word_event::read_event(word).map(|e| spelt(e)))
+    given(word_event::read_event(word).map(spelt))
 }
 
 fn spelt(e: Event) -> u64 {
@@ -45,7 +45,7 @@ fn digits(kind: EventKind, first: u16, second: u16) -> u64 {
 }
 
 pub fn write(command: Command) -> Outcome {
-    given(word_event::write_event(event_of(command)).map(|word| u64::from(word)))
+    given(word_event::write_event(event_of(command)).map(u64::from))
 }
 
 // The event of kind a with the parts b and c; where there is no such kind, an on.

@@ -22,7 +22,7 @@ pub fn show(
 
 fn conductor(words: &[u32]) -> Outcome {
     let reply = call_screens::conductor(words);
-    outcome(reply, digest(reply.unwrap_or(call_screens::empty())))
+    outcome(reply, digest(reply.unwrap_or(call_screens::empty_conductor())))
 }
 
 // The value is the digest of A, B, n, the running nodes, the keys and the leafsets.
@@ -39,7 +39,7 @@ fn digest(screen: ConductorScreen) -> u64
 fn technician(words: &[u32], stamps: &mut [u32; 4096], spares: &mut [u8; 4096]) -> Outcome {
     let reply = call_screens::technician(words, stamps, spares);
     let screen = reply.unwrap_or(TechnicianScreen {
-        conductor: call_screens::empty(),
+        conductor: call_screens::empty_conductor(),
         candidates: [0; 64],
     });
     let candidates = digests::digest_sets(digest(screen.conductor), &screen.candidates);

@@ -57,11 +57,6 @@ pub opening_bytes : (sides : Sides) (ks : List ℕ) (w : ℕ) → w ≡ head_wor
 unfolding given_bytes
 opening_bytes sides ks w e = rw e
 
--- of the first keys, each is below the same bound
-pub first_bounded : (ks : List ℕ) (n : ℕ) → KeysBounded ks → (i : ℕ) → get_or (take n ks) i 0 < 2 ^ 24
-first_bounded ks n k i =
-    elim (cases_lt i n) [ inl h ↦ rw (get_or-take n ks i 0 h) (k.each i) | inr h ↦ rw (get_or-eq_default (take n ks) 0 {n = i} (omega (arith, length-take n ks))) (omega arith) ]
-
 -- the last k of the three bytes of a tail, and how many they are
 pub tail_part : (k v : ℕ) → k ≤ 3 → take (4 - (4 - k)) (drop (4 - k) (to_be_bytes w32 v)) ≡ tail_bytes k v
 unfolding tail_bytes
