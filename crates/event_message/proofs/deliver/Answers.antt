@@ -7,7 +7,6 @@ use Rattle.answers.proofs.Valid.{long, room}
 use Rattle.answers.proofs.Refusals
 use Rattle.event_act.proofs.Decides.{refused_before, refused_with}
 use Rattle.event_message.proofs.Delivery
-use borrow.Author.Tests.{not-true, not-false}
 use Rattle.event_message.proofs.deliver.Goals as goal
 
 pub messages-m-requires : goal.messages-m-requires
