@@ -22,7 +22,10 @@ pub fn show(
 
 fn conductor(words: &[u32]) -> Outcome {
     let reply = call_screens::conductor(words);
-    outcome(reply, digest(reply.unwrap_or(call_screens::empty_conductor())))
+    outcome(
+        reply,
+        digest(reply.unwrap_or(call_screens::empty_conductor())),
+    )
 }
 
 // The value is the digest of A, B, n, the running nodes, the keys and the leafsets.
