@@ -12,9 +12,9 @@ ghost use Rattle.audit_event.specs.Kept.{Few, Fresh, Lists, Around, parting_text
 use super::note;
 use audit_account::{Account, Entry};
 
-const COLON: u8 = 58;
+const COLON: u8 = b':';
 
-const NEWLINE: u8 = 10;
+const NEWLINE: u8 = b'\n';
 
 // Puts the line that names the sides.
 fn put_parted(

@@ -17,7 +17,7 @@ use bench_lines::{put_bytes, put_number};
 use model::refusal::Refusal;
 
 // How a session stands: whether there is more to come, whether a ring is open, the log so far, and where the bytes end
-// that the last chunk put out.
+// that the last chunk put out. All four pairs of the flags occur, and the log and the end hold in each.
 #[derive(Clone, Copy)]
 pub struct Session {
     pub more: bool,

@@ -9,7 +9,7 @@ use super::play;
 use model::refusal::Refusal;
 
 // How a session stands: whether there is more to come, whether a ring is open, how many events were played, and where
-// the bytes end that the last chunk put out.
+// the bytes end that the last chunk put out. All four pairs of the flags occur, and the numbers hold in each.
 #[derive(Clone, Copy)]
 pub struct Session {
     pub more: bool,

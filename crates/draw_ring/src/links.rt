@@ -88,7 +88,7 @@ fn put_back(out: &mut [u8], at: usize, half: Half, holds: bool) -> usize
     draw_svg::put_only_held(out, at, half)
 }
 
-// Puts the links of the holder.
+// Puts the links of the holder; z is the number of a node.
 fn put_links_of(words: &[u32], discs: &[u32], holder: Holder, out: &mut [u8], at: usize) -> usize
     requires nodes { (length words.now ≡ ring_length) × (length discs.now ≤ 64)
         × (holder.x.0 < length discs.now) × (at + 26368 ≤ length out.old) }

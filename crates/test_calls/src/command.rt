@@ -1,4 +1,4 @@
-// The numbers of the commands.
+// The numbers of the commands, as the input has them and the lines print them; every number is one.
 
 // Words a up to b of the buffer become c.
 pub const FILL_WORDS: u32 = 0;

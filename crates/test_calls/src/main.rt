@@ -22,7 +22,7 @@ use word_ring::place;
 // Each buffer has one word more than a ring.
 const WORDS: usize = place::LENGTH + 1;
 
-// More commands than any input has.
+// More commands than any input has: the loop over them is proved to end.
 const MOST: u32 = 1_000_000;
 
 // A call, with its line.

@@ -1,4 +1,5 @@
-// The numbers of the commands. Each looks at a, b and c of its six words.
+// The numbers of the commands, as the input has them and the lines print them; every number is one. Each looks at a, b
+// and c of its six words.
 
 // The record becomes the empty one.
 pub const EMPTY: u32 = 0;

@@ -11,7 +11,7 @@ use std::io;
 use std::io::Write;
 use test_lines::{Command, digests};
 
-// More commands than any input has.
+// More commands than any input has: the loop over them is proved to end.
 const MOST: u32 = 1_000_000;
 
 fn node(number: u32) -> NodeNumber {

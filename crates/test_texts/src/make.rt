@@ -7,17 +7,25 @@ use model::values::{Key, NodeNumber, Sides};
 use word_event::word::EventWord;
 use word_ring::{HeadWord, KeyWord};
 
-// What a script begins with; the styles above these are good openings.
-mod style {
-    pub const NO_OPENING: u64 = 0;
+// What a script begins with.
+#[derive(Clone, Copy, Debug, PartialEq, Eq)]
+enum Style {
+    NoOpening,
+    AnySides,
+    EqualKeys,
+    RunningKeys,
+    Good,
+}
 
-    pub const ANY_SIDES: u64 = 1;
-
-    pub const EQUAL_KEYS: u64 = 2;
-
-    pub const RUNNING_KEYS: u64 = 3;
-
-    pub const COUNT: u64 = 12;
+// The style of a script: two of three are good openings.
+fn style_of(script: u64) -> Style {
+    match below(script, 0, 12) {
+        0 => Style::NoOpening,
+        1 => Style::AnySides,
+        2 => Style::EqualKeys,
+        3 => Style::RunningKeys,
+        _ => Style::Good,
+    }
 }
 
 // Puts the script of a number at the start of `out`: how many bytes it has.
@@ -25,7 +33,7 @@ pub fn make(script: u64, out: &mut [u8]) -> usize
     requires room { length out.old ≡ 16384 }
     ensures room { (result ≤ length out.new) × (length out.new ≡ 16384) }
 {
-    let first = put_opening(script, below(script, 0, style::COUNT), out);
+    let first = put_opening(script, style_of(script), out);
     let second = put_words(script, below(script, 1, most(script)), out, first);
     put_tail(script, below(script, 3, 4), out, second)
 }
@@ -49,11 +57,11 @@ fn put_word(word: u32, out: &mut [u8], at: usize) -> usize
 }
 
 // Puts the opening of a style.
-fn put_opening(script: u64, style: u64, out: &mut [u8]) -> usize
+fn put_opening(script: u64, style: Style, out: &mut [u8]) -> usize
     requires room { 260 ≤ length out.old }
     ensures end { (result ≤ 260) × (length out.new ≡ length out.old) }
 {
-    if style == style::NO_OPENING {
+    if style == Style::NoOpening {
         return 0;
     }
     let n = 1 + below(script, 4, 64);
@@ -62,7 +70,7 @@ fn put_opening(script: u64, style: u64, out: &mut [u8]) -> usize
 }
 
 // The first word of n nodes.
-fn head(script: u64, style: u64, n: u64) -> u32
+fn head(script: u64, style: Style, n: u64) -> u32
     requires nodes { n ≤ 64 }
 {
     let sides = Sides {
@@ -72,34 +80,34 @@ fn head(script: u64, style: u64, n: u64) -> u32
     HeadWord::new(sides, n as u32, 0).0
 }
 
-fn side(script: u64, style: u64, place: u64) -> u32
+fn side(script: u64, style: Style, place: u64) -> u32
     ensures bound { result < 2 ^ 4 }
 {
-    if style == style::ANY_SIDES {
+    if style == Style::AnySides {
         return below(script, place, 16) as u32;
     }
     1 + below(script, place, 8) as u32
 }
 
 // Puts the words of the n keys.
-fn put_keys(script: u64, style: u64, n: u64, out: &mut [u8], at: usize) -> usize
+fn put_keys(script: u64, style: Style, n: u64, out: &mut [u8], at: usize) -> usize
     requires room { (n ≤ 64) × (at ≡ 4) × (260 ≤ length out.old) }
     ensures end { (result ≤ 260) × (length out.new ≡ length out.old) }
 {
     let mut end = at;
     for s in 0..n {
-        let running = (style == style::RUNNING_KEYS) & (s == n - 1);
+        let running = (style == Style::RunningKeys) & (s == n - 1);
         end = put_word(KeyWord::new(key(script, style, s), running).0, out, end);
     }
     end
 }
 
 // The key of node s: its lowest six bits are s, so no two are equal, unless the style wants it.
-fn key(script: u64, style: u64, s: u64) -> Key
+fn key(script: u64, style: Style, s: u64) -> Key
     requires node { s < 64 }
     ensures bound { result.0 < 2 ^ 24 }
 {
-    if style == style::EQUAL_KEYS {
+    if style == Style::EqualKeys {
         return Key((s / 2) as u32);
     }
     Key((below(script, 8 + s, 0x4_0000) * 64 + s) as u32)
@@ -150,10 +158,9 @@ fn put_tail(script: u64, count: u64, out: &mut [u8], at: usize) -> usize
     requires room { (count < 4) × (at ≤ 12260) × (length out.old ≡ 16384) }
     ensures room { (result ≤ length out.new) × (length out.new ≡ 16384) }
 {
-    let mut end = at;
-    for i in 0..count {
-        out[end] = below(script, 100 + i, 256) as u8;
-        end += 1;
+    let end = at + count as usize;
+    for (place, byte) in (100..100 + count).zip(&mut out[at..end]) {
+        *byte = below(script, place, 256) as u8;
     }
     end
 }

@@ -13,7 +13,7 @@ use text_form::Reader;
 // Room for a script.
 pub const SCRIPT: usize = 16_384;
 
-// Chunks of it, and one more.
+// Chunks of it, and one more: after whole chunks comes an empty one, which `chunks` does not give.
 const CHUNKS: u64 = 5;
 
 // How far a trip has come: the reader of the text, how many bytes of the script are back, and whether all that came

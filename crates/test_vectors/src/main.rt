@@ -14,7 +14,7 @@ use std::io::Read;
 use std::rt::Runtime;
 use word_ring::place;
 
-// More chunks than any script has.
+// More chunks than any script has: the loop over them is proved to end.
 const MOST: u64 = 0x1000_0000_0000;
 
 // Plays the script, chunk after chunk: whether it prints just what is expected.

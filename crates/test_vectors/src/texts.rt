@@ -7,7 +7,7 @@ use std::rt::Runtime;
 use text_assemble::chunk::ChunkRead;
 use text_describe::{Session, chunks};
 
-// More chunks than any script has.
+// More chunks than any script has: the loop over them is proved to end.
 const MOST: u64 = 0x1000_0000_0000;
 
 // Describes the script, chunk after chunk: whether it has just the text that is expected.

@@ -51,7 +51,8 @@ pub enum Expected {
 
 // How far a reader has come: the line, from 1; whether it stopped at a fault; whether it is in a comment; the token
 // that is not finished, 0 for none; the line's first word, the place in the line, 0 before that word, and the first
-// part, once there is one; the sides, and how many keys there are.
+// part, once there is one; the sides, and how many keys there are. The fault is a flag, since its line is written from
+// the rest; and a token grows from 0, that of no bytes.
 #[derive(Clone, Copy)]
 pub struct Reader {
     pub line: u64,
