@@ -1,4 +1,4 @@
-use mathlib.Core.Path.{refl, sym, ◌∙◌}
+use mathlib.Core.Path.{sym, ◌∙◌}
 use native.Mathlib.Omega.{arith}
 use lib.ListN.{length-take, length-drop}
 use Rattle.bench_lines.proofs.Puts.{put_within}
@@ -8,7 +8,7 @@ use Rattle.test_trip.proofs.comes_back.Goals as goal
 
 pub loop-init : goal.loop-init
 loop-init c =
-    (search rules, search rules, c.requires.buffers.1, ready_first c.start.ensures.value refl c.requires.buffers.2 c.requires.buffers.3)
+    (search rules, search rules, c.requires.buffers.1, ready_first c.start.ensures.value c.requires.buffers.2 c.requires.buffers.3)
 
 pub step-session-requires : goal.step-session-requires
 step-session-requires c = record { room = (simp (length-take, length-drop) (omega arith), omega arith) }

@@ -6,4 +6,4 @@ use Rattle.test_trip.proofs.comes_back.Given as goal
 
 abbrev pub invariant-loop : goal.invariant-loop
 invariant-loop l =
-    (l.counter ≤ 5) × (l.at ≤ length l.script) × (length l.text ≡ 20000) × Ready (1 + 20000 * l.counter) l.trip l.script l.keys l.out
+    (l.counter ≤ 5) × (l.at ≤ length l.script) × (length l.text ≡ 20000) × Ready (1 + 20000 * l.counter) l.trip.reader l.keys l.out
