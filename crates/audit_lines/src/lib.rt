@@ -18,9 +18,9 @@ use bench_lines::{put_byte, put_bytes, put_number};
 use model::refusal::Refusal;
 use text_event::put_word;
 
-const NEWLINE: u8 = 10;
+const NEWLINE: u8 = b'\n';
 
-const SPACE: u8 = 32;
+const SPACE: u8 = b' ';
 
 // How many uncovered events a verdict lists.
 pub const MOST: u64 = 16;

@@ -32,7 +32,8 @@ pub record Refused (ws ws' script : List ℕ) : Type 0 where
   pub refused : is_accepted (script_answer script) ≡ false
   pub kept : ws' ≡ ws
 
-module _ (ws script : List ℕ) {ws' : List ℕ} {n : ℕ} {A : Type 0} (a : Result A Refusal) (e : written a ws' ≡ open_script ws script) (number : n ≡ answer_number a) where
+module _ (ws script : List ℕ) {ws' : List ℕ} {n : ℕ} {A : Type 0} (a : Result A Refusal) (e : written a ws' ≡ open_script ws script)
+    (number : n ≡ answer_number a) where
   pub the_answer : answer_number a ≡ script_answer script
   unfolding open_script
   the_answer = ap (λ (w : Written). w.answer) e

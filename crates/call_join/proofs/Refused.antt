@@ -50,7 +50,8 @@ module _ (fs ss ts : List ℕ) {a b c : Bool} (ea : a ≡ eqb (length fs) ring_l
 
   pub wrong_length_lem : (a && b && c) ≡ false → 1 ≡ join_answer fs ss ts
   unfolding join_answer
-  wrong_length_lem e = one_short (eqb (length fs) ring_length) (eqb (length ss) ring_length) (eqb (length ts) ring_length) (after_lengths fs ss) (sym lengths ∙ e)
+  wrong_length_lem e = one_short (eqb (length fs) ring_length) (eqb (length ss) ring_length) (eqb (length ts) ring_length) (after_lengths fs ss)
+      (sym lengths ∙ e)
 
   module _ (e : (a && b && c) ≡ true) where
     pub first_long : length fs ≡ ring_length
@@ -62,7 +63,8 @@ module _ (fs ss ts : List ℕ) {a b c : Bool} (ea : a ≡ eqb (length fs) ring_l
     -- what the refusals after the lengths give is the answer
     pub lengths_pass : {k : ℕ} → k ≡ first_of (after_lengths fs ss) → k ≡ join_answer fs ss ts
     unfolding join_answer
-    lengths_pass p = p ∙ all_long (eqb (length fs) ring_length) (eqb (length ss) ring_length) (eqb (length ts) ring_length) (after_lengths fs ss) (sym lengths ∙ e)
+    lengths_pass p = p ∙ all_long (eqb (length fs) ring_length) (eqb (length ss) ring_length) (eqb (length ts) ring_length) (after_lengths fs ss)
+        (sym lengths ∙ e)
 
 -- ---- a loop `found = found | test(i)`
 

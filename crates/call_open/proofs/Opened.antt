@@ -38,7 +38,8 @@ module _ (keys : List ℕ) {b : Bool} where
       (λ e. all_in (length keys) _ (λ x l. all_in (length keys) _ (λ y k. apart x y (h.0 e x l y) (λ q. h.0 e y k x q))))
       (λ e. h.1 (λ x l y k. differs x y k (all_out (length keys) _ (all_out (length keys) _ e x l) y (omega arith))))
     where
-      apart : (x y : ℕ) → (y < x → get_or keys y 0 ≢ get_or keys x 0) → (x < y → get_or keys x 0 ≢ get_or keys y 0) → (eqb x y || not (eqb (get_or keys x 0) (get_or keys y 0))) ≡ true
+      apart : (x y : ℕ) → (y < x → get_or keys y 0 ≢ get_or keys x 0) → (x < y → get_or keys x 0 ≢ get_or keys y 0)
+          → (eqb x y || not (eqb (get_or keys x 0) (get_or keys y 0))) ≡ true
       apart x y below above =
           elim (dec_lt x y) [
             | yes h ↦ or_right _ (ap not (ne_eqb _ _ (above h)))

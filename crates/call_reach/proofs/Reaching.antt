@@ -110,7 +110,8 @@ module _ (ws : List ℕ) (x key : ℕ) where
   reach_refused e n = ap {B = Reach} (λ (a : ℕ). record { answer = a; end = none_node; hops = 0 }) e ∙ sym (refused_reach ws x key n)
 
   module _ (ok : reach_answer ws x key ≡ 0) where
-    module _ {keys : List ℕ} (keys_are : keys ≡ (decode_table ws).keys) (running : ℕ) (running_are : (y : ℕ) → of_bits running y ≡ is_running (decode ws) y) where
+    module _ {keys : List ℕ} (keys_are : keys ≡ (decode_table ws).keys) (running : ℕ)
+        (running_are : (y : ℕ) → of_bits running y ≡ is_running (decode ws) y) where
       pub in_ring : InRing (decode ws) keys running
       unfolding decode
       in_ring = record { well = reads_well ws (reach_reads ws x key ok); keys_are = keys_are; running_are = running_are }

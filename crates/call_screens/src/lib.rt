@@ -178,6 +178,7 @@ fn put_rows(
     let mut leafsets = [0; 64];
     let mut candidates = [0; 64];
     let n = keys.len();
+    // x is the number of a node, and has a place in each array.
     for x in 0..n {
         let node = NodeNumber(x as u8);
         let own = ring_pairs::load(words, n, node);

@@ -151,7 +151,8 @@ module _ (short ws : List ℕ) where
     lengthens e size count is = rw (long, e, is, size, count)
 
   -- what an accepted call leaves reads as a ring
-  pub lengthened_reads : {A : Type 0} (a : Result A Refusal) {ws' : List ℕ} → written a ws' ≡ lengthen_buffer short ws → answer_number a ≡ 0 → reads_as_ring ws' ≡ true
+  pub lengthened_reads : {A : Type 0} (a : Result A Refusal) {ws' : List ℕ} → written a ws' ≡ lengthen_buffer short ws → answer_number a ≡ 0
+      → reads_as_ring ws' ≡ true
   unfolding lengthen_buffer lengthen_answer
   lengthened_reads a e z =
       let ok : first_of (lengthen_refusals short ws) ≡ 0 = sym (ap (λ (w : Written). w.answer) e) ∙ z in

@@ -1,5 +1,6 @@
 -- What is said place by place of a list of keys is a fold over it.
-use Rattle.std.proofs.Common.{inl, inr, subst, ◌+◌, ◌≡◌, ℕ, zero, suc, ◌≤◌, ◌<◌, List, map, length, get_or, take, ap, ◌∙◌, add-one, arith, refl, sym, min, max, ltb}
+use Rattle.std.proofs.Common.{inl, inr, subst, ◌+◌, ◌≡◌, ℕ, zero, suc, ◌≤◌, ◌<◌, List, map, length, get_or, take, ap, ◌∙◌, add-one, arith, refl, sym, min, max}
+use Rattle.std.proofs.Common.{ltb}
 use Rattle.std.specs.List.{fold, count_by}
 use Rattle.std.proofs.lemmas.List.Sums.{fold_more}
 use Rattle.std.proofs.Math.Seq.{take-length}

@@ -48,7 +48,8 @@ refused_before {ws} {e} {d} a is first =
     }
 
 -- one that the `?` passes on
-pub refused_with : {ws : List ℕ} {e : Event} {d : Result Change Refusal} (a : Refusal) → IsErrAnd d (λ x. x ≡ a) → number_of a ≡ first_of (refusals (decode ws) e)
+pub refused_with : {ws : List ℕ} {e : Event} {d : Result Change Refusal} (a : Refusal) → IsErrAnd d (λ x. x ≡ a)
+    → number_of a ≡ first_of (refusals (decode ws) e)
     → Decides ws e d
 refused_with {d} a is n = refused_before a (passed_on d a is) (sym n)
 

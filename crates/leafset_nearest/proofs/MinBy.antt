@@ -75,8 +75,10 @@ module _ {F : Type 0} (g : Mut F (Bor NodeNumber × Unit {0}) ℕ) (f : F) (n bo
 
       go : (o : Ordering) → nat_cmp p.0.1 t.0 ≡ o → q.0.1 ≡ min_by_ordering o p.0.1 t.0 → q.1 ≡ min_by_ordering o p.1 x
           → pick m l (pair q) ≡ pick m k (pair p)
-      go Less c a b = ap₂ (λ (y : NodeNumber) (v : ℕ). pick m l (y.0, v)) b a ∙ pick_same m k l x.0 p.1.0 p.0.1 t.0 e far (omega (arith, ranked p.0.1 t.0 Less (sym c)))
-      go Equal c a b = ap₂ (λ (y : NodeNumber) (v : ℕ). pick m l (y.0, v)) b a ∙ pick_same m k l x.0 p.1.0 p.0.1 t.0 e far (omega (arith, ranked p.0.1 t.0 Equal (sym c)))
+      go Less c a b = ap₂ (λ (y : NodeNumber) (v : ℕ). pick m l (y.0, v)) b a
+          ∙ pick_same m k l x.0 p.1.0 p.0.1 t.0 e far (omega (arith, ranked p.0.1 t.0 Less (sym c)))
+      go Equal c a b = ap₂ (λ (y : NodeNumber) (v : ℕ). pick m l (y.0, v)) b a
+          ∙ pick_same m k l x.0 p.1.0 p.0.1 t.0 e far (omega (arith, ranked p.0.1 t.0 Equal (sym c)))
       go Greater c a b = ap₂ (λ (y : NodeNumber) (v : ℕ). pick m l (y.0, v)) b a ∙ pick_next m k l x.0 p.1.0 p.0.1 t.0 e far (ranked p.0.1 t.0 Greater (sym c))
 
   run : (s : Iter) (xs : List NodeNumber) (t : Iter) (p q : State) → Yields steps s xs t → FoldsTo turns p xs q → p.0.0 ≡ f

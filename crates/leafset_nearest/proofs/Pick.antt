@@ -1,5 +1,6 @@
 -- A pass over the members of a set in rising order that keeps the best so far: what it finds.
-use Rattle.std.proofs.Common.{◌≡◌, ℕ, zero, suc, ◌<◌, ◌≤◌, Bool, true, false, ltb, List, [], ◌∷◌, ◌++◌, sym, refl, ap, ◌∙◌, le_refl, not-suc-le-zero, arith, ltb-false, ltb-true, le-ltb, lt-ltb, if◌then◌else◌}
+use Rattle.std.proofs.Common.{◌≡◌, ℕ, zero, suc, ◌<◌, ◌≤◌, Bool, true, false, ltb, List, [], ◌∷◌, ◌++◌, sym, refl, ap, ◌∙◌, le_refl, not-suc-le-zero, arith}
+use Rattle.std.proofs.Common.{ltb-false, ltb-true, le-ltb, lt-ltb, if◌then◌else◌}
 use native.Mathlib.Decide.{ℕ_discrete}
 use Rattle.model.specs.Sets.{Set, none_node, members}
 use Rattle.model.proofs.Laws.{clash, is_false}

@@ -1,5 +1,6 @@
 -- Laws of the spans.
-use Rattle.std.proofs.Common.{◌≡◌, ℕ, ◌+◌, ◌-◌, ◌*◌, ◌%◌, ◌<◌, ◌≤◌, min, true, ◌&&◌, ◌||◌, eqb, ltb, ◌⊎◌, subst₂, inl, inr, mod-lt, arith, lit<, ltb-false, ltb-true, lt-ltb, eq-eqb, eqb-true, le-leb}
+use Rattle.std.proofs.Common.{◌≡◌, ℕ, ◌+◌, ◌-◌, ◌*◌, ◌%◌, ◌<◌, ◌≤◌, min, true, ◌&&◌, ◌||◌, eqb, ltb, ◌⊎◌, subst₂, inl, inr, mod-lt, arith, lit<, ltb-false}
+use Rattle.std.proofs.Common.{ltb-true, lt-ltb, eq-eqb, eqb-true, le-leb}
 use native.Mathlib.Decide.{dec_lt, ℕ_discrete}
 use native.Mathlib.Nat.{mod-add-mod}
 use borrow.Author.Tests.{lt-leb}

@@ -14,7 +14,8 @@ use mir.Val.{bool_byte}
 use borrow.Author.Tests.{lt-ltb, le-ltb}
 use Rattle.std.specs.Prelude.{if◌then◌else◌}
 use Rattle.model.specs.Sets.{Set, with, put, tabulate, to_bits, of_bits}
-use Rattle.model.specs.Listener.{Watch, Tick, Hear, grown, restarted, ticked, silent, notices_of, watch_answer, hear_answer, listener_of, record_of, leaves_record}
+use Rattle.model.specs.Listener.{Watch, Tick, Hear, grown, restarted, ticked, silent, notices_of, watch_answer, hear_answer, listener_of, record_of}
+use Rattle.model.specs.Listener.{leaves_record}
 use Rattle.model.specs.Answers.{first_of}
 use Rattle.model.specs.declared.listener.ListenerRecord.{ListenerRecord}
 use Rattle.model.proofs.Laws.{tabulate_cong, tabulate_get_d, put_here, put_else}

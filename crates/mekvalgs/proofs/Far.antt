@@ -37,7 +37,8 @@ module _ (ws : List ℕ) where
       later _ _ _
       (decide (reads_as_ring ws) (λ t. later (not_a_ring ws) qs rs (same t)) (λ f. here _ qs (no_ring ws f) ∙ sym (here _ rs (no_ring ws f))))
 
-  same_node_lem : (x : ℕ) → 64 ≤ x → (qs rs : List Refusal) → reads_as_ring ws ≡ true → first_of (no_node (decode ws) 64 ∷ qs) ≡ first_of (no_node (decode ws) x ∷ rs)
+  same_node_lem : (x : ℕ) → 64 ≤ x → (qs rs : List Refusal) → reads_as_ring ws ≡ true
+      → first_of (no_node (decode ws) 64 ∷ qs) ≡ first_of (no_node (decode ws) x ∷ rs)
   same_node_lem x h qs rs reads =
       here _ qs (out_of_table ws 64 (few ws reads)) ∙ sym (here _ rs (out_of_table ws x (omega (arith, few ws reads))))
 
@@ -94,7 +95,8 @@ module _ (ws : List ℕ) where
       (λ h. route_far 64 key list (le_refl 64) ∙ rw (leafset_same x h) (sym (route_far x key list h)))
 
   -- and a reach
-  reach_refused : (x key : ℕ) → is_accepted (leafset_answer ws x) ≡ false → reach_of ws x key ≡ record { answer = leafset_answer ws x; end = none_node; hops = 0 }
+  reach_refused : (x key : ℕ) → is_accepted (leafset_answer ws x) ≡ false
+      → reach_of ws x key ≡ record { answer = leafset_answer ws x; end = none_node; hops = 0 }
   unfolding reach_answer leafset_answer
   reach_refused x key n =
       let same : reach_answer ws x key ≡ leafset_answer ws x = stays (leafset_refusals ws x) (key_out_of_range key ∷ []) n in

@@ -13,7 +13,8 @@ use borrow.Author.Tests.{lt-ltb, le-ltb, eq-eqb, ltb-true, ltb-false}
 use Rattle.std.specs.Prelude.{if◌then◌else◌}
 use Rattle.model.specs.Leafset.{Table, size, key}
 use Rattle.model.specs.Ring.{Node, Message, Ring, blank}
-use Rattle.model.specs.Words.{is_pair, head_word, node_words, pair_words, message_words, node_place, pair_place, message_place, ring_length, belongs, word_at, encode}
+use Rattle.model.specs.Words.{is_pair, head_word, node_words, pair_words, message_words, node_place, pair_place, message_place, ring_length, belongs, word_at}
+use Rattle.model.specs.Words.{encode}
 use Rattle.model.specs.Play.{set_node, set_messages}
 use Rattle.model.proofs.Words.{length_encode, encode_at, node_at, pair_at, message_at_lem, every_place, pair_in, of_node, of_pair}
 use Rattle.model.proofs.Laws.{put_each}

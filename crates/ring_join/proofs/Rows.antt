@@ -98,7 +98,8 @@ module _ (n z : ℕ) (o : Own) where
 
 -- the row of the second's node y: clear among the first's, then its pairs below y and above
 pub row_raised : (ws t v w : List ℕ) (n k y : ℕ) (o : Own) → n + k ≤ 64 → y < k → Stored ws t (n + y) 0 n cleared
-    → Stored t v (n + y) (n + 0) (n + y) (raised_own n o) → Stored v w (n + y) (n + (y + 1)) (n + k) (raised_own n o) → Row ws w (n + y) 0 (n + k) (raised_own n o)
+    → Stored t v (n + y) (n + 0) (n + y) (raised_own n o) → Stored v w (n + y) (n + (y + 1)) (n + k) (raised_own n o)
+    → Row ws w (n + y) 0 (n + k) (raised_own n o)
 row_raised ws t v w n k y o room h across below above =
     row_more ws v w (n + y) 0 (n + y) (n + (y + 1)) (n + k) (raised_own n o) room (omega arith) (omega arith) (omega arith) (λ z p q. omega arith)
     (row_more ws t v (n + y) 0 n (n + 0) (n + y) (raised_own n o) (omega arith) (omega arith) (omega arith) (omega arith) (λ z p q. absurd (omega arith))
@@ -153,7 +154,8 @@ module _ (ws : List ℕ) (n k : ℕ) (s : Second ws n k) (y z : ℕ) (hy : y < k
       → Stored us (two vs (pair_place (n + y) (n + z)) (get_or ws (pair_place y z) 0) w) (n + y) (n + a) (n + (z + 1)) (raised_own n (decode_own ws y))
   raise_more us vs a w long h e r =
       let next : n + z + 1 ≡ n + (z + 1) = omega arith in
-      subst (λ (j : ℕ). Stored us (two vs (pair_place (n + y) (n + z)) (get_or ws (pair_place y z) 0) w) (n + y) (n + a) j (raised_own n (decode_own ws y))) next
+      subst (λ (j : ℕ). Stored us (two vs (pair_place (n + y) (n + z)) (get_or ws (pair_place y z) 0) w) (n + y) (n + a) j
+      (raised_own n (decode_own ws y))) next
       (stored_more us (n + y) (n + a) (raised_own n (decode_own ws y)) vs (n + z) r (get_or ws (pair_place y z) 0) w long
       (omega (arith, s.room)) (omega (arith, s.room)) (omega arith)
       (second_pair ∙ raised_first n z (decode_own ws y))

@@ -69,7 +69,8 @@ module _ (ρ : Ring) (ws : List ℕ) (n m x : ℕ) (is : Encodes ws n m ρ) (hx 
       ap (λ (i : ℕ). get_or ws i 0) (sym (add-zero (node_place x))) ∙ node_word 0 (lit< tt) in
       field 0 24 (2 ^ 5 + bit (ρ.node x).running) (key ρ.table x) 0 (w ∙ omega arith) (lit< tt) (is.room.key_room x)
 
-  pub running_set : (b : Bool) (v : ℕ) → v ≡ key_word (bits 0 24 (get_or ws (node_place x) 0)) b → Encodes (set ws (node_place x) v) n m (update x (set_running b) ρ)
+  pub running_set : (b : Bool) (v : ℕ) → v ≡ key_word (bits 0 24 (get_or ws (node_place x) 0)) b
+      → Encodes (set ws (node_place x) v) n m (update x (set_running b) ρ)
   running_set b v e =
       record {
         room = is.room;

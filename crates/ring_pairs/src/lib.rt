@@ -24,6 +24,7 @@ pub fn load(words: &[u32], n: usize, x: NodeNumber) -> NodeRecord
     let mut spare = [NodeNumber::NONE; 64];
     let mut commit = [Stamp(0); 64];
     let me = x.index();
+    // z has a place in each of two arrays, and its words have another.
     for z in (0..n).rev() {
         let at = place::PAIRS + 2 * (64 * me + z);
         let first = PairWord(words[at]);

@@ -69,7 +69,7 @@ fn lengthen_row(short: &[u32], at: usize, n: usize, x: usize, words: &mut [u32])
     clear(words, row + 2 * n, row + 128);
 }
 
-// Puts the rows of n nodes back, and answers where they end in the short edition.
+// Puts the rows of n nodes back, and answers where they end in the short edition. A row has no words where n is 1, too.
 fn lengthen_rows(short: &[u32], n: usize, words: &mut [u32]) -> usize
     requires words { (length words.old ≡ ring_length) × (n ≤ 64) × (1 ≤ n)
         × (short_row n n ≤ length short.now) }

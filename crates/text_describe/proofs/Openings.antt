@@ -23,7 +23,8 @@ use Rattle.bench_open.proofs.Begins.{head_is, sizes_are, enough, few, keys_long}
 use Rattle.text_form.specs.Names.{sides_name}
 use Rattle.text_form.specs.Describe.{keys_text, opening_text}
 
-pub opens_as : {A : Type 0} (a : Result A Refusal) (old ws : List ℕ) {new : List ℕ} → written a new ≡ open_script old ws → is_ok a ≡ is_accepted (script_answer ws)
+pub opens_as : {A : Type 0} (a : Result A Refusal) (old ws : List ℕ) {new : List ℕ} → written a new ≡ open_script old ws
+    → is_ok a ≡ is_accepted (script_answer ws)
 unfolding open_script
 opens_as (Ok x) old ws e = ap (λ (w : Written). is_accepted w.answer) e
 opens_as (Err x) old ws e = sym (number_high x) ∙ ap (λ (w : Written). is_accepted w.answer) e

@@ -16,7 +16,8 @@ use Rattle.text_form.specs.declared.Reader.{Reader}
 use Rattle.text_form.specs.declared.Step.{Step}
 use Rattle.std.specs.Prelude.{Option, None, Some}
 use Rattle.std.specs.Option.{option_map_or}
-use Rattle.text_form.specs.Assemble.{Progress, start, allowed, command_of, begun_by, expected_at, fits, hash, silent, after, begun, part_read, continued, stopped}
+use Rattle.text_form.specs.Assemble.{Progress, start, allowed, command_of, begun_by, expected_at, fits, hash, silent, after, begun, part_read, continued}
+use Rattle.text_form.specs.Assemble.{stopped}
 use Rattle.text_form.specs.Assemble.{token_ended, complete, line_ended, commented, grown_by, byte_read, advanced, text_read, closed, assemble}
 use Rattle.text_form.proofs.Reading.{reader, read_append, nothing}
 use Rattle.text_form.proofs.Blanks.{newline_stopped, first, closing, ended_read, whole_read}

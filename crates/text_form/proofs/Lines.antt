@@ -232,7 +232,8 @@ module _ (line : ℕ) (s : Stage) (c : Command) (f : ℕ) (sides : Sides) (keys 
 
   module _ (ok : Later s) where
     -- a line of one number
-    one_number : {name : List ℕ} {d : Command} (n : Named name d) (v w : ℕ) → is_later d ≡ true → stage_after d ≡ stage.Events → (r : Written 10 8 (decimal v) v)
+    one_number : {name : List ℕ} {d : Command} (n : Named name d) (v w : ℕ) → is_later d ≡ true → stage_after d ≡ stage.Events
+        → (r : Written 10 8 (decimal v) v)
         → Suits (expected_at (reader line (packed 0 (decimal v)) (stage_after d) d 1 0 sides (length keys))) (packed 0 (decimal v)) v
         → leb (length (parts d)) 1 ≡ true → line_given d 0 v (packed 0 (decimal v)) ≡ given.Word w → Gives (name ++ spaced (v ∷ []) ++ newline ∷ []) w
     unfolding given_keys

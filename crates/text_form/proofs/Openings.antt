@@ -126,7 +126,8 @@ module _ (sides : Sides) (script : List ℕ) where
   more_keys : (n line place f : ℕ) (keys : List ℕ) (k k' : ℕ) (ks : List ℕ) → eqb place 0 ≡ false → leb 1 place ≡ true → length keys + 1 < 64
       → k < 2 ^ 24 → k' < 2 ^ 24
       → ((line place f : ℕ) → eqb place 0 ≡ false → leb 1 place ≡ true
-      → Ends (state line (packed 0 (decimal k')) stage.Keys command.Keys place f sides (keys ++ k ∷ []) script) (keys_text (n + 1) ks) ((keys ++ k ∷ []) ++ k' ∷ ks))
+      → Ends (state line (packed 0 (decimal k')) stage.Keys command.Keys place f sides (keys ++ k ∷ []) script) (keys_text (n + 1) ks)
+      ((keys ++ k ∷ []) ++ k' ∷ ks))
       → Ends (state line (packed 0 (decimal k)) stage.Keys command.Keys place f sides keys script) (keys_text n (k' ∷ ks)) (keys ++ k ∷ k' ∷ ks)
   unfolding keys_text
   more_keys n line place f keys k k' ks in-line some few small small' left =
@@ -161,7 +162,8 @@ module _ (line : ℕ) (a b : ℕ) (la : 1 ≤ a) (ha : a ≤ 8) (lb : 1 ≤ b) (
   none = record { ahead = 0; behind = 0 }
 
   second_side : (bs : List ℕ) → Each Plain bs
-      → Leads (state line (packed 0 (decimal a)) stage.Sides command.Sides 1 0 none [] []) (space ∷ bs) (state line (packed 0 bs) stage.Sides command.Sides 2 a none [] [])
+      → Leads (state line (packed 0 (decimal a)) stage.Sides command.Sides 1 0 none [] []) (space ∷ bs)
+      (state line (packed 0 bs) stage.Sides command.Sides 2 a none [] [])
   unfolding expected_at text_read
   second_side bs h =
       record {
@@ -174,7 +176,8 @@ module _ (line : ℕ) (a b : ℕ) (la : 1 ≤ a) (ha : a ≤ 8) (lb : 1 ≤ b) (
       }
 
   sides_read :
-      Leads (state line 0 stage.Start command.Sides 0 0 none [] []) (sides_name ++ spaced (a ∷ b ∷ [])) (state line (packed 0 (decimal b)) stage.Sides command.Sides 2 a none [] [])
+      Leads (state line 0 stage.Start command.Sides 0 0 none [] []) (sides_name ++ spaced (a ∷ b ∷ []))
+      (state line (packed 0 (decimal b)) stage.Sides command.Sides 2 a none [] [])
   unfolding stage_after opened
   sides_read =
       rw (two_spaced a b, ← append_assoc sides_name (space ∷ decimal a) (space ∷ decimal b))

@@ -18,7 +18,8 @@ use Rattle.text_form.specs.declared.Expected.{Expected}
 use Rattle.text_form.specs.declared.Given.{Given}
 use Rattle.text_form.specs.declared.Given.TheVariants as given
 use Rattle.text_form.specs.declared.Reader.{Reader}
-use Rattle.text_form.specs.Assemble.{Progress, grown, packed, parts, is_sides, is_keys, is_later, allowed, stage_after, opens, command_of, expected_at, value_of}
+use Rattle.text_form.specs.Assemble.{Progress, grown, packed, parts, is_sides, is_keys, is_later, allowed, stage_after, opens, command_of, expected_at}
+use Rattle.text_form.specs.Assemble.{value_of}
 use Rattle.text_form.specs.Assemble.{fits, line_given, hash, silent, begun_by, begun, part_read, continued, token_ended, complete}
 use Rattle.text_form.specs.Assemble.{line_ended, grown_by, byte_read, given_bytes, given_keys, advanced, text_read}
 use Rattle.text_form.proofs.Tokens.{Plain}

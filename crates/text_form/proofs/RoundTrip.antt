@@ -53,7 +53,8 @@ data Stands (ok : Stage → Type 0) (bytes : List ℕ) : Progress → Type 0 whe
       → Stands ok bytes (state line 0 s c 0 f sides keys script)
 
 -- a line that gives the word w
-gives_stands : {ok : Stage → Type 0} (line : ℕ) (c : Command) (f : ℕ) (s : Stage) (sides : Sides) (keys script text : List ℕ) (w : ℕ) {bytes : List ℕ} → ok stage.Events
+gives_stands : {ok : Stage → Type 0} (line : ℕ) (c : Command) (f : ℕ) (s : Stage) (sides : Sides) (keys script text : List ℕ) (w : ℕ) {bytes : List ℕ}
+    → ok stage.Events
     → Gives line s c f sides keys script text w → script ++ unopened s sides keys ≡ bytes
     → Stands ok (bytes ++ word_bytes w) (text_read (state line 0 s c 0 f sides keys script) text)
 unfolding unopened

@@ -274,7 +274,8 @@ pairs_few t =
     (λ f. if_law (λ (n : ℕ). n ≤ 3) (leb (2 ^ 40) t && ltb t (2 ^ 48)) 3 0 (λ g. omega arith) (λ g. omega arith)))
 
 -- what holds of whatever a line can give
-line_law : (P : Given → Type 0) (c : Command) (a v t : ℕ) → P given.Nothing → (is_keys c ≡ true → P (given.Key v)) → ((w : ℕ) → is_keys c ≡ false → P (given.Word w))
+line_law : (P : Given → Type 0) (c : Command) (a v t : ℕ) → P given.Nothing → (is_keys c ≡ true → P (given.Key v))
+    → ((w : ℕ) → is_keys c ≡ false → P (given.Word w))
     → (is_keys c ≡ false → P (given.Tail (pairs_of t) v)) → P (line_given c a v t)
 unfolding line_given
 line_law P command.Sides a v t none key word tail = none
@@ -291,7 +292,8 @@ line_law P command.Lose a v t none key word tail = word _ refl
 line_law P command.Word a v t none key word tail = word v refl
 line_law P command.Tail a v t none key word tail = tail refl
 
-no_key : (c : Command) (p a v t k : ℕ) → is_keys c ≡ false → k ≡ k + length (given_keys (if leb (length (parts c)) p then line_given c a v t else given.Nothing))
+no_key : (c : Command) (p a v t k : ℕ) → is_keys c ≡ false
+    → k ≡ k + length (given_keys (if leb (length (parts c)) p then line_given c a v t else given.Nothing))
 unfolding given_keys
 no_key c p a v t k other =
     if_law (λ (g : Given). k ≡ k + length (given_keys g)) (leb (length (parts c)) p) (line_given c a v t) given.Nothing
@@ -300,7 +302,8 @@ no_key c p a v t k other =
     (λ d. omega arith))
     (λ f. omega arith)
 
-one_key : (c : Command) (p a v t k : ℕ) → is_keys c ≡ true → 1 ≤ p → k + 1 ≡ k + length (given_keys (if leb (length (parts c)) p then line_given c a v t else given.Nothing))
+one_key : (c : Command) (p a v t k : ℕ) → is_keys c ≡ true → 1 ≤ p
+    → k + 1 ≡ k + length (given_keys (if leb (length (parts c)) p then line_given c a v t else given.Nothing))
 unfolding given_keys line_given
 one_key command.Sides p a v t k is h = clash is refl
 one_key command.Keys p a v t k is h = rw (le-leb 1 p h)
@@ -337,7 +340,10 @@ fitting_bounded r b h t fit =
       given =
           if_law GivenBounded (leb (length (parts c)) r.place) (line_given c r.first v t) given.Nothing
           (λ e.
-          line_law GivenBounded c r.first v t nothing_bounded (λ f. record { key = omega (arith, keys_bound c f, value_bounded r b h t fit); tail = omega arith })
+          line_law GivenBounded c r.first v t nothing_bounded (λ f. record {
+            key = omega (arith, keys_bound c f, value_bounded r b h t fit);
+            tail = omega arith;
+          })
           (λ w f. record { key = omega arith; tail = omega arith }) (λ f. record { key = omega arith; tail = pairs_few t }))
           (λ e. nothing_bounded);
     }

@@ -1,5 +1,7 @@
 -- The two words of a pair at once: what the code tests is what `link_reads` and `spare_reads` ask.
-use Rattle.std.proofs.Common.{◌≡◌, ℕ, zero, suc, ◌+◌, ◌-◌, ◌*◌, ◌/◌, ◌%◌, ◌^◌, ◌<◌, ◌≤◌, Bool, true, false, not, ◌&&◌, ◌||◌, eqb, ltb, leb, List, [], ◌∷◌, sym, refl, ap, ◌∙◌, mod-lt, mod-eq_of_lt, div-add-mod', zero-add, add-one, arith, lit<, ltb-true, le-ltb, lt-ltb, eq-eqb, ne_eqb, eqb-true, le-leb, leb-true, if◌then◌else◌}
+use Rattle.std.proofs.Common.{◌≡◌, ℕ, zero, suc, ◌+◌, ◌-◌, ◌*◌, ◌/◌, ◌%◌, ◌^◌, ◌<◌, ◌≤◌, Bool, true, false, not, ◌&&◌, ◌||◌, eqb, ltb, leb, List, [], ◌∷◌, sym}
+use Rattle.std.proofs.Common.{refl, ap, ◌∙◌, mod-lt, mod-eq_of_lt, div-add-mod', zero-add, add-one, arith, lit<, ltb-true, le-ltb, lt-ltb, eq-eqb, ne_eqb}
+use Rattle.std.proofs.Common.{eqb-true, le-leb, leb-true, if◌then◌else◌}
 use native.Mathlib.Decide.{dec_lt, ℕ_discrete}
 use mathlib.Core.Bool.{and-true, and-false}
 use lib.Arith.{mod-mul}

@@ -1,5 +1,7 @@
 -- The tests of a row of pairs: what the code tests of each word is what the regions ask of it.
-use Rattle.std.proofs.Common.{◌≡◌, ℕ, ◌+◌, ◌-◌, ◌*◌, ◌/◌, ◌%◌, ◌^◌, ◌<◌, ◌≤◌, Bool, true, false, not, ◌&&◌, ◌||◌, eqb, ltb, leb, List, [], ◌∷◌, get_or, replicate, sym, refl, ap, ◌∙◌, ap₂, zero-le, mod-lt, mod-eq_of_lt, div-add-mod', arith, lit<, get_or-set_other, get_or-set_same, ltb-true, le-ltb, lt-ltb, eq-eqb, ne_eqb, eqb-true, le-leb, leb-true, if◌then◌else◌}
+use Rattle.std.proofs.Common.{◌≡◌, ℕ, ◌+◌, ◌-◌, ◌*◌, ◌/◌, ◌%◌, ◌^◌, ◌<◌, ◌≤◌, Bool, true, false, not, ◌&&◌, ◌||◌, eqb, ltb, leb, List, [], ◌∷◌, get_or}
+use Rattle.std.proofs.Common.{replicate, sym, refl, ap, ◌∙◌, ap₂, zero-le, mod-lt, mod-eq_of_lt, div-add-mod', arith, lit<, get_or-set_other, get_or-set_same}
+use Rattle.std.proofs.Common.{ltb-true, le-ltb, lt-ltb, eq-eqb, ne_eqb, eqb-true, le-leb, leb-true, if◌then◌else◌}
 use native.Mathlib.Decide.{dec_lt, ℕ_discrete}
 use lib.Arith.{mod-mul}
 use lib.ListN.{length-replicate, get_or-replicate}

@@ -1,5 +1,6 @@
 -- What the code tests of a row of pairs: each word without the bits that it must have.
-use Rattle.std.specs.Prelude.{◌≡◌, ℕ, ◌+◌, ◌/◌, ◌^◌, ◌<◌, ◌≤◌, Bool, true, ◌&&◌, List, [], ◌∷◌, length, replicate, ◌==◌, bit_xor, nat_eq, nat_le, nat_lt, slice_set, if◌then◌else◌}
+use Rattle.std.specs.Prelude.{◌≡◌, ℕ, ◌+◌, ◌/◌, ◌^◌, ◌<◌, ◌≤◌, Bool, true, ◌&&◌, List, [], ◌∷◌, length, replicate, ◌==◌, bit_xor, nat_eq, nat_le, nat_lt}
+use Rattle.std.specs.Prelude.{slice_set, if◌then◌else◌}
 use Rattle.model.specs.Choice.{every}
 use Rattle.model.specs.Sets.{all}
 use Rattle.model.specs.Fields.{bits, flag}

@@ -164,6 +164,7 @@ pub fn pairs_read(words: &[u32], n: usize) -> bool
     spares[63] = 0;
     let mut ok = true;
     let mut bare = true;
+    // x is the number of a node.
     for x in 0..n {
         let row = row_reads(words, &links, &spares, x, n, bare);
         ok &= row.fits;

@@ -24,7 +24,8 @@ use Rattle.model.specs.Words.{format_fits, reads_as_ring}
 use Rattle.model.proofs.Laws.{between_low, between_high, and_left, and_right, and_in, implies_in, implies_out, not_in, not_out, decide, is_false}
 use Rattle.model.proofs.Laws.{same_test, every_in, every_out, all_in, all_out, length_tabulate, get_d_tabulate}
 use Rattle.model.proofs.Lists.{first, rest}
-use Rattle.model.proofs.Words.{node_at, pair_at, message_at_lem, every_place, pair_low, pair_other, ReadsAsRing, reads_in, reads_out, of_node, of_pair, of_message}
+use Rattle.model.proofs.Words.{node_at, pair_at, message_at_lem, every_place, pair_low, pair_other, ReadsAsRing, reads_in, reads_out, of_node, of_pair}
+use Rattle.model.proofs.Words.{of_message}
 use Rattle.valid_messages.specs.Senders.{senders_read}
 use Rattle.valid_messages.specs.Messages.{message_reads, messages_read}
 use Rattle.valid_nodes.specs.Nodes.{clear, key_at, clock_at, head_reads, node_reads, nodes_read}

@@ -40,7 +40,8 @@ returns-then-not-keys_fit c = record {
       let ws = c.args.script.now in
       let head = sym c.head_fits.ensures.value ∙ c.if-not-head_fits.false in
       let sizes = sizes_read ws c.sides-sides.ensures.value c.nodes-n.ensures.value c.sizes_fit.ensures.value ∙ c.if-not-sizes_fit.false in
-      let keys = keys_read ws c.sides-sides.ensures.value c.nodes-n.ensures.value (keys_tested ws _ _ (rw c.nodes-n.ensures.value (enough ws head)) (omega arith) c.keys_fit.ensures.value) ∙ c.if-not-keys_fit.true in
+      let keys = keys_read ws c.sides-sides.ensures.value c.nodes-n.ensures.value
+      (keys_tested ws _ _ (rw c.nodes-n.ensures.value (enough ws head)) (omega arith) c.keys_fit.ensures.value) ∙ c.if-not-keys_fit.true in
       script_refused _ ws BadKey (refused_keys ws head sizes keys);
 }
 
@@ -67,7 +68,8 @@ returns c = record {
       let ws = c.args.script.now in
       let head = sym c.head_fits.ensures.value ∙ c.if-not-head_fits.false in
       let sizes = sizes_read ws c.sides-sides.ensures.value c.nodes-n.ensures.value c.sizes_fit.ensures.value ∙ c.if-not-sizes_fit.false in
-      let keys = keys_read ws c.sides-sides.ensures.value c.nodes-n.ensures.value (keys_tested ws _ _ (rw c.nodes-n.ensures.value (enough ws head)) (omega arith) c.keys_fit.ensures.value) ∙ c.if-not-keys_fit.false in
+      let keys = keys_read ws c.sides-sides.ensures.value c.nodes-n.ensures.value
+      (keys_tested ws _ _ (rw c.nodes-n.ensures.value (enough ws head)) (omega arith) c.keys_fit.ensures.value) ∙ c.if-not-keys_fit.false in
       let table = table_read ws c.sides-sides.ensures.value c.nodes-n.ensures.value c.keys-keys.ensures.keys in
       script_opened _ ws c.requires.length (passed ws head sizes keys) table c.«open».ensures.written;
 }

@@ -8,6 +8,7 @@ returns c =
     let two = put_more c.put_number-first.ensures.bytes c.put_next-second.ensures.bytes in
     let put = put_more (put_more two c.put_next-third.ensures.bytes) c.put_next.ensures.bytes in
     record {
-      bytes = put_as (rw (c.from.ensures, c.from-2.ensures, c.from-3.ensures, c.from-4.ensures) at put) (state_of_node _ _ c.key.ensures.value c.is_running.ensures.value c.clock.ensures.value);
+      bytes = put_as (rw (c.from.ensures, c.from-2.ensures, c.from-3.ensures, c.from-4.ensures) at put)
+          (state_of_node _ _ c.key.ensures.value c.is_running.ensures.value c.clock.ensures.value);
       end = search rules;
     }

@@ -12,7 +12,8 @@ pub sides-theirs-requires : goal.sides-theirs-requires
 sides-theirs-requires c = record { length = long _ c.requires.rings.1 }
 
 pub returns-then-not-ours-theirs : goal.returns-then-not-ours-theirs
-returns-then-not-ours-theirs c = record { answer = sym (here _ _ (sides_differ_lem _ _ _ _ c.sides-ours.ensures.value c.sides-theirs.ensures.value (c.if-not-ours-theirs.true))) }
+returns-then-not-ours-theirs c =
+    record { answer = sym (here _ _ (sides_differ_lem _ _ _ _ c.sides-ours.ensures.value c.sides-theirs.ensures.value (c.if-not-ours-theirs.true))) }
 
 pub nodes-requires : goal.nodes-requires
 nodes-requires c = record { length = long _ c.requires.rings.0 }

@@ -8,4 +8,5 @@ use Rattle.call_join.proofs.Refused.{key_shared}
 use Rattle.call_join.proofs.shares_key.Given as goal
 
 abbrev pub invariant-loop-x : goal.invariant-loop-x
-invariant-loop-x l = (l.x ≤ l.x-end) × (l.x-end ≡ size (decode_table l.first)) × (l.k ≡ size (decode_table l.second)) × (l.found ≡ some l.x (key_shared l.first l.second))
+invariant-loop-x l = (l.x ≤ l.x-end) × (l.x-end ≡ size (decode_table l.first)) × (l.k ≡ size (decode_table l.second)) ×
+    (l.found ≡ some l.x (key_shared l.first l.second))

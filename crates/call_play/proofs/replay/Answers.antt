@@ -11,7 +11,8 @@ returns-in_err-open c = record {
   replayed =
       let r = c.from_residual.result in
       let passed = c.from_residual.ensures.1 in
-      not_opened _ _ r (ap (λ (q : Result _ _). written q c.open.new.words) (passed_on r _ passed) ∙ c.in_err-open.ensures.written) _ _ (passed_refusal r _ passed);
+      not_opened _ _ r (ap (λ (q : Result _ _). written q c.open.new.words) (passed_on r _ passed) ∙ c.in_err-open.ensures.written) _ _
+      (passed_refusal r _ passed);
 }
 
 pub play_each-requires : goal.play_each-requires

@@ -3,7 +3,8 @@ use Rattle.call_reach.proofs.Passes.{filling_none, filling_place, filling_more, 
 use Rattle.call_reach.proofs.distances.Goals as goal
 
 pub loop-y-init : goal.loop-y-init
-loop-y-init c = rw (begins c.members-y-items.ensures.all c.into_iter-y-iterator.ensures.into_iter_gives) (filling_none c.requires.table.0 c.requires.table.1 c.ranges.set.fits)
+loop-y-init c = rw (begins c.members-y-items.ensures.all c.into_iter-y-iterator.ensures.into_iter_gives)
+    (filling_none c.requires.table.0 c.requires.table.1 c.ranges.set.fits)
 
 pub bounds-keys-index : goal.bounds-keys-index
 bounds-keys-index c = rw c.index.ensures.value (turn_below c.loop-y.invariant.rising (turn c.loop-y.y-iterator c.next.new.self c.in-Some.ensures.steps))

@@ -28,7 +28,8 @@ unfolding model.spans
 loop-i-preserved c = (
   omega (arith, c.loop-i.invariant.0, c.loop-i-test.true),
   λ r a x from.
-      turn_past from (c.loop-i.invariant.1 r a x from) (omega (arith, c.loop-i.invariant.0, c.loop-i-test.true)) (omega (arith, c.loop-i-test.true)) c.if-span-left.false refl,
+      turn_past from (c.loop-i.invariant.1 r a x from) (omega (arith, c.loop-i.invariant.0, c.loop-i-test.true))
+      (omega (arith, c.loop-i-test.true)) c.if-span-left.false refl,
 )
 
 pub returns : goal.returns

@@ -35,8 +35,11 @@ bounds-leafsets-x c =
 
 pub loop-x-preserved : goal.loop-x-preserved
 loop-x-preserved c =
-    let l = c.loop-x in
-    (search rules, patched_more _ _ _ _ _ _ _ l.invariant.1 (omega arith) (omega (arith, few _ c.requires.ring, ap length c.requires.table.0)) c.node_leafset.ensures.value refl)
+    let l = c.loop-x in (
+      search rules,
+      patched_more _ _ _ _ _ _ _ l.invariant.1 (omega arith)
+          (omega (arith, few _ c.requires.ring, ap length c.requires.table.0)) c.node_leafset.ensures.value refl,
+    )
 
 pub returns : goal.returns
 returns c = record {

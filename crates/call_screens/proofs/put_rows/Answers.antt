@@ -74,10 +74,12 @@ loop-x-preserved c =
     let row : 64 * (x + 1) ≡ 64 * x + 64 = omega arith in (
       search rules,
       patched_more _ _ _ _ _ _ _ l.invariant.1 (omega arith) in_array
-          (leafset_shown ws c.requires.ring x (held_leafset ws c.requires.ring x c.requires.lent.0 c.load-own.ensures.loaded c.requires.lent.1 c.leafset.ensures.value)) refl,
+          (leafset_shown ws c.requires.ring x
+          (held_leafset ws c.requires.ring x c.requires.lent.0 c.load-own.ensures.loaded c.requires.lent.1 c.leafset.ensures.value)) refl,
       patched_more _ _ _ _ _ _ _ l.invariant.2 (omega arith) in_array (candidates_shown ws x c.load-own.ensures.loaded) refl,
       rw row (patched_join (omega arith) (omega arith) l.invariant.3 c.put_row.ensures.stamps (stamp_shown ws x c.load-own.ensures.loaded)),
-      rw row (patched_join (omega arith) (omega arith) l.invariant.4 c.put_row.ensures.spares (spare_shown ws x c.load-own.ensures.loaded _ (ap length c.requires.lent.0) (search rules))),
+      rw row (patched_join (omega arith) (omega arith) l.invariant.4 c.put_row.ensures.spares
+          (spare_shown ws x c.load-own.ensures.loaded _ (ap length c.requires.lent.0) (search rules))),
     )
 
 pub shape_of-stamps : goal.shape_of-stamps

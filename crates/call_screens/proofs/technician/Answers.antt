@@ -27,5 +27,9 @@ returns c =
     let ok = sym c.in_default.ensures.answer in
     record {
       answer = c.in_default.ensures.answer;
-      shown = (technician_given _ ok c.technician_of.ensures.screen, stamps_given _ ok c.technician_of.ensures.arrays.0, spares_given _ ok c.technician_of.ensures.arrays.1);
+      shown = (
+        technician_given _ ok c.technician_of.ensures.screen,
+        stamps_given _ ok c.technician_of.ensures.arrays.0,
+        spares_given _ ok c.technician_of.ensures.arrays.1,
+      );
     }

@@ -33,7 +33,8 @@ acting-requires c = record {
   counts =
       let a = c.args in
       let ρ = decode a.words.now in
-      act_counts c.requires.ring c.load-a.ensures.actor (contacts ρ a.x.0 a.y.0) (c.contact-effect.ensures.effect ρ.table _ _ c.load-a.ensures.actor.fits) (cons refl nil);
+      act_counts c.requires.ring c.load-a.ensures.actor (contacts ρ a.x.0 a.y.0) (c.contact-effect.ensures.effect ρ.table _ _ c.load-a.ensures.actor.fits)
+      (cons refl nil);
 }
 
 pub returns : goal.returns
@@ -41,7 +42,8 @@ unfolding after
 returns c = record {
   decides =
       let a = c.args in
-      act_decides c.requires.ring c.load-a.ensures.actor (contacts (decode a.words.now) a.x.0 a.y.0) (c.contact-effect.ensures.effect _ _ _ c.load-a.ensures.actor.fits)
+      act_decides c.requires.ring c.load-a.ensures.actor (contacts (decode a.words.now) a.x.0 a.y.0)
+      (c.contact-effect.ensures.effect _ _ _ c.load-a.ensures.actor.fits)
       (Contact a.x a.y) (sym c.in_ok-may_meet.ensures.answer) refl
       c.acting.ensures.decided;
 }

@@ -41,7 +41,8 @@ unfolding after
 returns c = record {
   decides =
       let a = c.args in
-      act_decides c.requires.ring c.load-a.ensures.actor (notices (decode a.words.now) a.x.0 a.z.0) (c.notice-effect.ensures.effect _ _ _ _ c.load-a.ensures.actor.fits)
+      act_decides c.requires.ring c.load-a.ensures.actor (notices (decode a.words.now) a.x.0 a.z.0)
+      (c.notice-effect.ensures.effect _ _ _ _ c.load-a.ensures.actor.fits)
       (Notice a.x a.z) (sym c.in_ok-may_meet.ensures.answer) refl
       c.acting.ensures.decided;
 }

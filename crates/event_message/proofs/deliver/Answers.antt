@@ -62,7 +62,14 @@ load-actor-requires c =
     }
 
 pub step-effect-requires : goal.step-effect-requires
-step-effect-requires c = record { ring = (c.requires.ring, c.load-actor.ensures.actor, Delivery.loaded_delivered c.load-message.ensures.loaded (omega (arith, c.messages-m.ensures.value)) c.requires.ring c.load-actor.ensures.actor.nodes) }
+step-effect-requires c =
+    record {
+      ring = (
+        c.requires.ring,
+        c.load-actor.ensures.actor,
+        Delivery.loaded_delivered c.load-message.ensures.loaded (omega (arith, c.messages-m.ensures.value)) c.requires.ring c.load-actor.ensures.actor.nodes,
+      );
+    }
 
 pub acting-requires : goal.acting-requires
 acting-requires c = record {

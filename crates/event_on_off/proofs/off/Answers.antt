@@ -20,7 +20,8 @@ pub nodes-n-requires : goal.nodes-n-requires
 nodes-n-requires c = record { length = long _ c.requires.ring }
 
 pub returns-then-n-index : goal.returns-then-n-index
-returns-then-n-index c = record { decides = refused_before _ refl (here _ _ (Refusals.out_of_table _ _ (omega (arith, c.nodes-n.ensures.value, c.index.ensures.value)))) }
+returns-then-n-index c =
+    record { decides = refused_before _ refl (here _ _ (Refusals.out_of_table _ _ (omega (arith, c.nodes-n.ensures.value, c.index.ensures.value)))) }
 
 pub is_running-requires : goal.is_running-requires
 is_running-requires c =
@@ -71,9 +72,11 @@ decided-requires c = record {
       let ws : List ℕ = c.args.words.now in
       let x : ℕ = c.args.x.0 in
       let in_table : x < size (decode_table ws) = omega (arith, c.nodes-n.ensures.value, c.index.ensures.value) in
-      let left = c.leaving-effect.ensures.effect (decode_table ws) x 0 (few ws c.requires.ring) (loaded_fits ws x c.requires.ring _ c.load-own.ensures.loaded) in
+      let left = c.leaving-effect.ensures.effect (decode_table ws) x 0 (few ws c.requires.ring)
+      (loaded_fits ws x c.requires.ring _ c.load-own.ensures.loaded) in
       change_counts (stopping c.args.x c.leaving-effect.result) left
-      (leaver_sends (decode_table ws) 0 in_table (loaded_well ws x c.requires.ring _ c.load-own.ensures.loaded)) c.requires.ring c.messages-m.ensures.value tt tt in_table;
+      (leaver_sends (decode_table ws) 0 in_table
+      (loaded_well ws x c.requires.ring _ c.load-own.ensures.loaded)) c.requires.ring c.messages-m.ensures.value tt tt in_table;
 }
 
 pub returns : goal.returns
@@ -83,7 +86,8 @@ returns c = record {
       let ws : List ℕ = c.args.words.now in
       let x : ℕ = c.args.x.0 in
       let in_table : x < size (decode_table ws) = omega (arith, c.nodes-n.ensures.value, c.index.ensures.value) in
-      let left = c.leaving-effect.ensures.effect (decode_table ws) x 0 (few ws c.requires.ring) (loaded_fits ws x c.requires.ring _ c.load-own.ensures.loaded) in
+      let left = c.leaving-effect.ensures.effect (decode_table ws) x 0 (few ws c.requires.ring)
+      (loaded_fits ws x c.requires.ring _ c.load-own.ensures.loaded) in
       let on = sym c.is_running.ensures.value ∙ c.if-not-is_running.false in
       let change = stopping c.args.x c.leaving-effect.result in
       decides ws (Off c.args.x c.args.polite) (may_stop ws x in_table on)

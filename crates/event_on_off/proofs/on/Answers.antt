@@ -19,7 +19,8 @@ pub nodes-requires : goal.nodes-requires
 nodes-requires c = record { length = long _ c.requires.ring }
 
 pub returns-then-nodes-index : goal.returns-then-nodes-index
-returns-then-nodes-index c = record { decides = refused_before _ refl (here _ _ (Refusals.out_of_table _ _ (omega (arith, c.nodes.ensures.value, c.index.ensures.value)))) }
+returns-then-nodes-index c =
+    record { decides = refused_before _ refl (here _ _ (Refusals.out_of_table _ _ (omega (arith, c.nodes.ensures.value, c.index.ensures.value)))) }
 
 pub is_running-requires : goal.is_running-requires
 is_running-requires c =

@@ -37,4 +37,7 @@ loop-preserved c =
     rw (c.without-left.ensures.members, c.span-limit.ensures.value, c.index.ensures.value) (taken_more c.loop.invariant l)
 
 pub returns : goal.returns
-returns c = record { limit = let e : c.loop.counter ≡ c.args.many = omega (arith, c.loop-test.false, c.loop.auto.counter-end) in rw (← e) (taken_limit c.loop.invariant) }
+returns c = record {
+  limit = let e : c.loop.counter ≡ c.args.many = omega (arith, c.loop-test.false, c.loop.auto.counter-end) in
+      rw (← e) (taken_limit c.loop.invariant);
+}

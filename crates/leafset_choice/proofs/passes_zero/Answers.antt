@@ -3,7 +3,8 @@ use Rattle.leafset_choice.proofs.passes_zero.Goals as goal
 
 pub returns-in_default : goal.returns-in_default
 returns-in_default c = record {
-  value = λ sides. passes_nobody sides _ _ _ c.requires.table.few c.requires.table.within c.successor.result c.in_default.not-Some (c.successor.ensures.value sides);
+  value = λ sides. passes_nobody sides _ _ _ c.requires.table.few c.requires.table.within c.successor.result c.in_default.not-Some
+      (c.successor.ensures.value sides);
 }
 
 pub bounds-keys-index-2 : goal.bounds-keys-index-2

@@ -10,7 +10,8 @@ pub min_by_key-requires-clause-callable : goal.min_by_key-requires-clause-callab
 min_by_key-requires-clause-callable c =
     let a = c.args in
     callable _ _ (length a.keys.now) beyond (span_to a.way a.from.0 a.keys.now)
-    (λ y h p e. let k = rw (← e) at h in search (rules, tests)) (λ y k h e. search (rules, tests)) (λ y. span< a.way a.from.0 (get_or a.keys.now y 0)) c.members.result
+    (λ y h p e. let k = rw (← e) at h in
+    search (rules, tests)) (λ y k h e. search (rules, tests)) (λ y. span< a.way a.from.0 (get_or a.keys.now y 0)) c.members.result
     (subst (Within (length a.keys.now)) (sym c.members.ensures.all) c.requires.members)
 
 pub returns : goal.returns
@@ -19,5 +20,7 @@ returns c = record {
       let a = c.args in
       subst (λ set. Nearest (of_bits set) (span_to a.way a.from.0 a.keys.now) c.min_by_key.result) c.members.ensures.all
       (found_nearest _ _ (length a.keys.now) beyond (span_to a.way a.from.0 a.keys.now)
-      (λ y h p e. let k = rw (← e) at h in search (rules, tests)) (λ y k h e. search (rules, tests)) (λ y. span< a.way a.from.0 (get_or a.keys.now y 0)) c.members.result c.min_by_key.result c.min_by_key.ensures.ran);
+      (λ y h p e. let k = rw (← e) at h in
+      search (rules, tests)) (λ y k h e. search (rules, tests))
+      (λ y. span< a.way a.from.0 (get_or a.keys.now y 0)) c.members.result c.min_by_key.result c.min_by_key.ensures.ran);
 }

@@ -15,7 +15,10 @@ overflow_add-notices c =
     let l = c.loop-s in
     let q = c.args.listener.now in
     let notice = counted_notice q l.invariant.silences c.has-is_watched.ensures.value c.count.ensures.reached in
-    record { fits = notices_fit (notices_of (listener_of q) Tick) l.s l.invariant.notices (rw notice at (notice_bit _ l.s (search rules) c.from.ensures)) (search rules) }
+    record {
+      fits = notices_fit (notices_of (listener_of q) Tick) l.s l.invariant.notices (rw notice at (notice_bit _ l.s (search rules) c.from.ensures))
+          (search rules);
+    }
 
 pub loop-s-preserved : goal.loop-s-preserved
 loop-s-preserved c =
@@ -24,7 +27,8 @@ loop-s-preserved c =
     let notice = counted_notice q l.invariant.silences c.has-is_watched.ensures.value c.count.ensures.reached in
     record {
       notices = more_notices (notices_of (listener_of q) Tick) l.s l.invariant.notices (rw notice at (notice_bit _ l.s (search rules) c.from.ensures));
-      silences = counting_more q l.invariant.silences (search rules) (counted_silence q l.invariant.silences c.has-is_watched.ensures.value c.count.ensures.silence);
+      silences = counting_more q l.invariant.silences (search rules)
+          (counted_silence q l.invariant.silences c.has-is_watched.ensures.value c.count.ensures.silence);
     }
 
 pub returns-clause-listener : goal.returns-clause-listener

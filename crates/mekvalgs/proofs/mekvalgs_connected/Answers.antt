@@ -14,8 +14,11 @@ returns c =
     let ws : List ℕ = c.args.words.now in
     let a : ℕ = c.args.a in
     let b : ℕ = c.args.b in
-    let answer = c.number.ensures.answer ∙ c.connected-asked.ensures.answer ∙ ap₂ (connection_answer ws) c.node.ensures.value c.node-2.ensures.value ∙ connection_cut ws a b in
-    let value = c.from.ensures ∙ ap bit (c.unwrap_or.ensures ∙ unwrapped c.connected-asked.result false ∙ c.connected-asked.ensures.connected ∙ ap₂ (connection_of ws) c.node.ensures.value c.node-2.ensures.value ∙ connection_of_cut ws a b) in
+    let answer = c.number.ensures.answer ∙ c.connected-asked.ensures.answer ∙ ap₂ (connection_answer ws) c.node.ensures.value c.node-2.ensures.value
+    ∙ connection_cut ws a b in
+    let value = c.from.ensures
+    ∙ ap bit (c.unwrap_or.ensures ∙ unwrapped c.connected-asked.result false ∙ c.connected-asked.ensures.connected
+    ∙ ap₂ (connection_of ws) c.node.ensures.value c.node-2.ensures.value ∙ connection_of_cut ws a b) in
     record {
       answer = answer;
       connected = value;

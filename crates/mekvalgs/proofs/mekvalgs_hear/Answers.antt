@@ -5,5 +5,6 @@ pub returns : goal.returns
 returns c =
     record {
       answer = hear_answers c.lent-listener.ensures.value c.args.x c.node.ensures.value c.number.ensures.answer c.hear-answer.ensures.answer;
-      listener = hear_leaves c.lent-listener.ensures.value c.args.x c.node.ensures.value c.lent-listener.ensures.whole c.put_counts.ensures.value c.hear-answer.ensures.listener;
+      listener = hear_leaves c.lent-listener.ensures.value c.args.x c.node.ensures.value c.lent-listener.ensures.whole
+          c.put_counts.ensures.value c.hear-answer.ensures.listener;
     }

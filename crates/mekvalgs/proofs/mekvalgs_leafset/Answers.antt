@@ -12,5 +12,6 @@ returns c =
     let x : ℕ = c.args.x in
     record {
       answer = c.number.ensures.answer ∙ c.leafset_of-asked.ensures.answer ∙ ap (leafset_answer ws) c.node.ensures.value ∙ leafset_cut ws x;
-      set = c.unwrap_or.ensures ∙ unwrapped c.leafset_of-asked.result 0 ∙ c.leafset_of-asked.ensures.set ∙ ap (leafset_of ws) c.node.ensures.value ∙ leafset_of_cut ws x;
+      set = c.unwrap_or.ensures ∙ unwrapped c.leafset_of-asked.result 0 ∙ c.leafset_of-asked.ensures.set ∙ ap (leafset_of ws) c.node.ensures.value
+          ∙ leafset_of_cut ws x;
     }

@@ -13,7 +13,8 @@ returns c =
     record {
       answer = c.number.ensures.answer ∙ c.technician-shown.ensures.answer;
       shown = (
-        ap screen c.put_screen.ensures.value ∙ c.unwrap_or-screen.ensures ∙ unwrapped c.technician-shown.result _ ∙ rw c.empty_conductor.ensures.value refl ∙ shown.0,
+        ap screen c.put_screen.ensures.value ∙ c.unwrap_or-screen.ensures ∙ unwrapped c.technician-shown.result _
+            ∙ rw c.empty_conductor.ensures.value refl ∙ shown.0,
         shown.1,
         shown.2,
       );

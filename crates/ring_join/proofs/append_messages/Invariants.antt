@@ -7,4 +7,5 @@ use Rattle.ring_join.proofs.Messages.{Appended}
 use Rattle.ring_join.proofs.append_messages.Given as goal
 
 abbrev pub invariant-loop-k : goal.invariant-loop-k
-invariant-loop-k l = (l.k ≤ l.k-end) × (l.k-end ≡ length (decode l.second).messages) × (length l.joined ≡ 13441) × Appended l.initial.joined l.joined l.m l.n (decode l.second).messages l.k
+invariant-loop-k l = (l.k ≤ l.k-end) × (l.k-end ≡ length (decode l.second).messages) ×
+    (length l.joined ≡ 13441) × Appended l.initial.joined l.joined l.m l.n (decode l.second).messages l.k

@@ -23,7 +23,11 @@ pub add_nodes-requires : goal.add_nodes-requires
 add_nodes-requires c = record {
   second = (
     search rules,
-    record { reads = c.requires.rings.1; nodes = c.nodes-k.ensures.value; room = omega (arith, c.nodes-n.ensures.value, c.nodes-k.ensures.value, c.requires.room.0) },
+    record {
+      reads = c.requires.rings.1;
+      nodes = c.nodes-k.ensures.value;
+      room = omega (arith, c.nodes-n.ensures.value, c.nodes-k.ensures.value, c.requires.room.0);
+    },
   );
 }
 

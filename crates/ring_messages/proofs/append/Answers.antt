@@ -29,5 +29,6 @@ returns c = record {
       let h : 8321 + 5 * c.args.m + 5 ≤ length v = omega arith in
       appended ρ _ v _ n _ _ _ c.requires.words.1 is c.set_count.ensures.words
       (patched_five v _ c.new.result.0 c.new-2.result.0 c.view_word.result c.view_word-2.result c.view_word-3.result h)
-      (five_words c.args.message _ _ _ _ _ w c.new.ensures.value c.new-2.ensures.value c.view_word.ensures.value c.view_word-2.ensures.value c.view_word-3.ensures.value);
+      (five_words c.args.message _ _ _ _ _ w c.new.ensures.value c.new-2.ensures.value
+      c.view_word.ensures.value c.view_word-2.ensures.value c.view_word-3.ensures.value);
 }

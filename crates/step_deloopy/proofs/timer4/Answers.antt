@@ -37,7 +37,8 @@ returns c = record {
       λ sides time.
       rw (sym (c.passes_zero.ensures.value sides) ∙ c.if-not-passes_zero.false)
       (c.replying.ensures.effect _ _ _ _ _ (unchanged c.requires.record) (record {
-        message = c.naming.ensures.message.message ∙ ap (λ (y : ℕ). steps.naming 11 a.me.0 y a.me.0) (ap number_or_none (sym c.unwrap-next.ensures) ∙ c.successor.ensures.value sides);
+        message = c.naming.ensures.message.message
+            ∙ ap (λ (y : ℕ). steps.naming 11 a.me.0 y a.me.0) (ap number_or_none (sym c.unwrap-next.ensures) ∙ c.successor.ensures.value sides);
         room = c.naming.ensures.message.room;
       }));
 }

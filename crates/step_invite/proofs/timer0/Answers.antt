@@ -26,8 +26,10 @@ returns c = record {
       let node = c.args.node.now in
       let fits = c.requires.lent.own_fits in
       let few = c.requires.lent.table.few in
-      let set = invited_set node.sides c.requires.lent.table node.own.now.candidates fits.candidates_within _ _ c.minus.ensures.members c.leafset-near.ensures.value in
-      let low = invited_low node.sides c.requires.lent.table node.own.now.candidates fits.candidates_within _ _ c.minus.ensures.members c.leafset-near.ensures.value in
+      let set = invited_set node.sides c.requires.lent.table node.own.now.candidates fits.candidates_within _ _
+      c.minus.ensures.members c.leafset-near.ensures.value in
+      let low = invited_low node.sides c.requires.lent.table node.own.now.candidates fits.candidates_within _ _
+      c.minus.ensures.members c.leafset-near.ensures.value in
       -- that no candidate is left is met before that nobody is within the table
       let emptied : Within _ _ → Owns _ _ (steps.set_candidates (of_bits 0) (own_of node.own.now)) = c.set_candidates.ensures.record _ fits in
       λ time.

@@ -21,7 +21,15 @@ replace-test : (q : NodeRecord) (S : Set) (y z out : ℕ) (b d : Bool) → RoomN
 replace-test q S y z out b d room h e f g = ap₂ ◌&&◌ (e ∙ ap (λ (R : Set). R z) f) (g ∙ ap (λ (s : ℕ). eqb s y) (spare_read q z room h))
 
 pub replaced-requires : goal.replaced-requires
-replaced-requires c = record { «record» = (c.requires.message.0, omega (arith, c.requires.message.1), c.requires.message.2, wider c.requires.lent.own_fits c.requires.lent.table.few) }
+replaced-requires c =
+    record {
+      «record» = (
+        c.requires.message.0,
+        omega (arith, c.requires.message.1),
+        c.requires.message.2,
+        wider c.requires.lent.own_fits c.requires.lent.table.few,
+      );
+    }
 
 pub returns-then-eq : goal.returns-then-eq
 unfolding steps.on_pong_replace
@@ -42,11 +50,13 @@ returns-else-has c = record {
       let a = c.args in
       let room = c.requires.lent.own_fits.room in
       let low = c.requires.message.2 in
-      let S : Set = λ z. of_bits a.node.now.own.now.held z && not (leafset (table_of a.node.now.sides a.node.now.keys.now) a.node.now.me.0 (of_bits a.node.now.own.now.held) z) in
+      let S : Set = λ z. of_bits a.node.now.own.now.held z && not
+      (leafset (table_of a.node.now.sides a.node.now.keys.now) a.node.now.me.0 (of_bits a.node.now.own.now.held) z) in
       let stays : (S a.message.subject.0 && eqb (spare_at a.node.now.own.now a.message.subject.0) a.message.sender.0) ≡ false =
       elim c.else-has.branch [
         | else-has-via-then-has+else-eq w ↦
-            sym (replace-test a.node.now.own.now S a.message.sender.0 a.message.subject.0 _ _ _ room low c.has.ensures.value c.outside-outside.ensures.members (rw w.index.ensures.value at w.eq.ensures))
+            sym (replace-test a.node.now.own.now S a.message.sender.0 a.message.subject.0 _ _ _ room low
+            c.has.ensures.value c.outside-outside.ensures.members (rw w.index.ensures.value at w.eq.ensures))
             ∙ ap (◌&&◌ c.has.result) w.if-eq.false ∙ and-false c.has.result
         | else-has-via-else-has w ↦
             rw (sym (ap (λ (R : Set). R a.message.subject.0) c.outside-outside.ensures.members) ∙ sym c.has.ensures.value ∙ w.if-has.false) refl

@@ -11,7 +11,14 @@ release-requires c =
     }
 
 pub set_commit-requires : goal.set_commit-requires
-set_commit-requires c = record { «record» = (c.requires.record.1, c.requires.record.0, (c.release.ensures.record 64 (c.hold-next.ensures.record 64 c.requires.record.3 c.requires.record.1).fits).fits.room) }
+set_commit-requires c =
+    record {
+      «record» = (
+        c.requires.record.1,
+        c.requires.record.0,
+        (c.release.ensures.record 64 (c.hold-next.ensures.record 64 c.requires.record.3 c.requires.record.1).fits).fits.room,
+      );
+    }
 
 pub returns-then-is_before : goal.returns-then-is_before
 returns-then-is_before c = record {

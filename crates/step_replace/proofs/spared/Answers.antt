@@ -10,7 +10,8 @@ use Rattle.step_replace.proofs.spared.Goals as goal
 
 pub loop-z-init : goal.loop-z-init
 loop-z-init c =
-    collect_begins (begins c.members-z-items.ensures.all c.into_iter-z-iterator.ensures.into_iter_gives) c.ranges.set.fits (λ y. bit_below 64 c.args.set y c.ranges.set.fits)
+    collect_begins (begins c.members-z-items.ensures.all c.into_iter-z-iterator.ensures.into_iter_gives) c.ranges.set.fits
+    (λ y. bit_below 64 c.args.set y c.ranges.set.fits)
 
 pub bounds-own-index : goal.bounds-own-index
 bounds-own-index c =

@@ -19,13 +19,15 @@ returns c = record {
       let node = c.args.node.now in
       let q = c.requires.lent.table in
       let some = of_bits c.outside-outside.result in
-      let low = within_part _ _ some _ (within_part _ _ (of_bits node.own.now.held) _ q.within c.outside-outside.ensures.members) (fun_ext c.spared.ensures.members) in
+      let low = within_part _ _ some _ (within_part _ _ (of_bits node.own.now.held) _ q.within c.outside-outside.ensures.members)
+      (fun_ext c.spared.ensures.members) in
       λ time.
       c.sending.ensures.effect _ _ time _ _ (unchanged c.requires.lent.own_fits)
       (requested node.me.0 time node.own.now _ _ q.few low
       (fun_ext (λ z. c.spared.ensures.members z ∙ ap (λ (S : Set). S z && not (eqb (spare_at node.own.now z) 64)) c.outside-outside.ensures.members))
       (λ z e.
       let other = not (eqb (spare_at node.own.now z) 64) in
-      let one = eqb-false (spare_at node.own.now z) 64 (not_out (eqb (spare_at node.own.now z) 64) (and_right (some z) other (sym (c.spared.ensures.members z) ∙ e))) in
+      let one = eqb-false (spare_at node.own.now z) 64
+      (not_out (eqb (spare_at node.own.now z) 64) (and_right (some z) other (sym (c.spared.ensures.members z) ∙ e))) in
       omega (arith, c.requires.lent.spare_high z)));
 }

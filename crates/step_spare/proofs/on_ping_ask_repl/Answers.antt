@@ -19,8 +19,12 @@ naming-requires c = record {
       let held = of_bits node.own.now.held in
       let room : closest (table_of node.sides node.keys.now) node.me.0 held a.message.sender.0 < 2 ^ 7 =
       closest_room node.sides node.keys.now node.me.0 held a.message.sender.0 c.requires.lent.table.few
-      in
-      (omega arith, omega arith, omega arith, omega (arith, ap (λ (y : NodeNumber). y.0) c.unwrap_or-spare.ensures ∙ unwrapped c.closest.result ∙ c.closest.ensures.value));
+      in (
+        omega arith,
+        omega arith,
+        omega arith,
+        omega (arith, ap (λ (y : NodeNumber). y.0) c.unwrap_or-spare.ensures ∙ unwrapped c.closest.result ∙ c.closest.ensures.value),
+      );
 }
 
 pub returns : goal.returns

@@ -13,5 +13,7 @@ returns c = record {
       let node = c.args.node.now in
       λ time.
       c.sending.ensures.effect _ _ time _ _ (unchanged c.requires.lent.own_fits)
-      (calls node.me.0 time _ _ _ c.requires.lent.table.few (within_part _ _ (of_bits node.own.now.held) _ c.requires.lent.table.within c.outside-outside.ensures.members) c.outside-outside.ensures.members 7 (lit< tt));
+      (calls node.me.0 time _ _ _ c.requires.lent.table.few
+      (within_part _ _ (of_bits node.own.now.held) _ c.requires.lent.table.within c.outside-outside.ensures.members)
+      c.outside-outside.ensures.members 7 (lit< tt));
 }

@@ -5,7 +5,8 @@ use Rattle.text_describe.proofs.Described.{tail_none, tail_line_lem}
 use Rattle.text_describe.proofs.put_tail.Goals as goal
 
 pub returns-then-is_empty : goal.returns-then-is_empty
-returns-then-is_empty c = record { bytes = put_as (put_none _ _) (sym (tail_none c.args.tail.now (eqb-true _ 0 (sym c.is_empty.ensures ∙ c.if-is_empty.true)))) }
+returns-then-is_empty c =
+    record { bytes = put_as (put_none _ _) (sym (tail_none c.args.tail.now (eqb-true _ 0 (sym c.is_empty.ensures ∙ c.if-is_empty.true)))) }
 
 pub returns : goal.returns
 returns c = record {

@@ -9,7 +9,8 @@ returns-then-not-parts_fit c = record { answer = rw (sym c.parts_fit.ensures.val
 
 pub returns-then-same_node : goal.returns-then-same_node
 unfolding event_answer first_of
-returns-then-same_node c = record { answer = rw (sym c.parts_fit.ensures.value ∙ c.if-not-parts_fit.false, sym c.same_node.ensures.value ∙ c.if-same_node.true) }
+returns-then-same_node c =
+    record { answer = rw (sym c.parts_fit.ensures.value ∙ c.if-not-parts_fit.false, sym c.same_node.ensures.value ∙ c.if-same_node.true) }
 
 pub returns : goal.returns
 unfolding event_answer first_of

@@ -33,8 +33,13 @@ write_node-requires c = record {
   words =
       let ws : List ℕ = c.args.words.now in
       let nodes = c.nodes-n.ensures.value in
-      let words = long ws c.requires.change.fits.reads in
-      (search rules, omega (arith, nodes, few ws c.requires.change.fits.reads), omega (arith, nodes, c.requires.change.fits.member), c.requires.change.fits.time_room, c.requires.change.fits.own_room);
+      let words = long ws c.requires.change.fits.reads in (
+        search rules,
+        omega (arith, nodes, few ws c.requires.change.fits.reads),
+        omega (arith, nodes, c.requires.change.fits.member),
+        c.requires.change.fits.time_room,
+        c.requires.change.fits.own_room,
+      );
 }
 
 pub send-sent-requires : goal.send-sent-requires
@@ -43,7 +48,12 @@ send-sent-requires c =
     let words = long ws c.requires.change.fits.reads in
     let ring = read_is ws c.requires.change.fits.reads _ _ c.nodes-n.ensures.value c.messages-m.ensures.value in
     let out = c.take_out-left.ensures.ring (decode ws) _ ring in record {
-      words = (search rules, omega (arith, few ws c.requires.change.fits.reads, c.requires.change.fits.member), c.requires.change.fits.time_room, first_room ws c.args.change c.requires.change out);
+      words = (
+        search rules,
+        omega (arith, few ws c.requires.change.fits.reads, c.requires.change.fits.member),
+        c.requires.change.fits.time_room,
+        first_room ws c.args.change c.requires.change out,
+      );
       sends = (c.requires.change.fits.own_room, c.requires.change.fits.first_fits);
     }
 
@@ -55,7 +65,12 @@ send-requires c =
     let out = c.take_out-left.ensures.ring (decode ws) _ ring in
     let node = node_written ws c.args.change c.requires.change (c.write_node.ensures.ring _ _ out) refl in
     let first = c.send-sent.ensures.ring _ _ node in record {
-      words = (search rules, omega (arith, few ws c.requires.change.fits.reads, c.requires.change.fits.member), c.requires.change.fits.time_room, second_room ws c.args.change c.requires.change first);
+      words = (
+        search rules,
+        omega (arith, few ws c.requires.change.fits.reads, c.requires.change.fits.member),
+        c.requires.change.fits.time_room,
+        second_room ws c.args.change c.requires.change first,
+      );
       sends = (c.requires.change.fits.own_room, c.requires.change.fits.second_fits);
     }
 

@@ -32,7 +32,8 @@ loop-z-preserved c =
     let h : l.z < c.args.k = omega (arith, c.loop-z-test.true, c.requires.bounds.2) in (
       search rules,
       search rules,
-      raise_more _ _ _ c.requires.second.1 _ _ c.requires.bounds.0 h (c.requires.bounds.3 _ l.invariant.0 c.loop-z-test.true) _ _ _ _ c.requires.second.0 l.invariant.0 c.raised_spare.ensures.value l.invariant.2,
+      raise_more _ _ _ c.requires.second.1 _ _ c.requires.bounds.0 h
+          (c.requires.bounds.3 _ l.invariant.0 c.loop-z-test.true) _ _ _ _ c.requires.second.0 l.invariant.0 c.raised_spare.ensures.value l.invariant.2,
       l.invariant.3,
       l.invariant.4,
       simp length-set l.invariant.5,

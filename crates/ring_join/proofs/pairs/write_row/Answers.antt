@@ -7,7 +7,14 @@ use borrow.Author.Rules.{rules}
 use Rattle.ring_join.proofs.pairs.write_row.Goals as goal
 
 pub clear-requires : goal.clear-requires
-clear-requires c = record { words = (c.requires.second.0, omega (arith, c.requires.second.1.room, c.requires.second.2), search rules, omega (arith, c.requires.second.1.room)) }
+clear-requires c = record {
+  words = (
+    c.requires.second.0,
+    omega (arith, c.requires.second.1.room, c.requires.second.2),
+    search rules,
+    omega (arith, c.requires.second.1.room),
+  );
+}
 
 pub raise_pairs-requires : goal.raise_pairs-requires
 raise_pairs-requires c =
