@@ -213,7 +213,7 @@ pub fn put_end(out: &mut [u8], at: usize, account: Account) -> usize
     put_byte(out, fourth, NEWLINE)
 }
 
-// Puts the line of a script that opens no ring.
+// Puts the line of a script that opens no ring. The number of the refusal is what is printed.
 pub fn put_no_ring(out: &mut [u8], at: usize, refusal: u32) -> usize
     requires room { at + 70 ≤ length out.old }
     ensures bytes { Put out.old out.new at result (no_ring_text refusal) }

@@ -13,8 +13,8 @@ use model::values::NodeNumber;
 use word_event::word::{EventKind, EventWord};
 use word_event::{read_event, write_event};
 
-// The kind; the node or the position; the other node, the timer, or 1 for a polite off or an echo; 0 where the event
-// has none of them.
+// The numbers that C gives and takes: the kind; the node or the position; the other node, the timer, or 1 for a polite
+// off or an echo; 0 where the event has none of them.
 #[derive(Clone, Copy, Debug, PartialEq, Eq)]
 pub struct Parts {
     pub kind: u32,

@@ -1,5 +1,6 @@
 -- Event words: writing one, and reading one.
-use Rattle.std.specs.Prelude.{ℕ, ◌≡◌, ◌+◌, ◌-◌, ◌*◌, ◌^◌, Bool, false, not, ◌&&◌, List, [], ◌∷◌, get_or, ltb, leb, eqb, Result, Ok, Err, MatchResult, if◌then◌else◌}
+use Rattle.std.specs.Prelude.{ℕ, ◌≡◌, ◌+◌, ◌-◌, ◌*◌, ◌^◌, Bool, false, not, ◌&&◌, List, [], ◌∷◌, get_or, ltb, leb, eqb, if◌then◌else◌}
+use Rattle.std.specs.Prelude.{Result, Ok, Err, MatchResult}
 use Rattle.model.specs.Fields.{bits, bit, flag, kind, of_kind}
 use Rattle.model.specs.Answers.{Refusal, first_of, is_accepted, number_of}
 use Rattle.model.specs.declared.event.Event.{Event}

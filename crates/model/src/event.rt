@@ -9,6 +9,7 @@ pub enum Event {
     Off(NodeNumber, bool),
     Notice(NodeNumber, NodeNumber),
     Contact(NodeNumber, NodeNumber),
+    // Any number: that it is one of the timers is tested where the event is written.
     Timer(NodeNumber, u8),
     // Whether it is an echo: the message stays.
     Deliver(u16, bool),

@@ -9,7 +9,8 @@ pub struct Key(pub u32);
 #[derive(Clone, Copy, Debug, PartialEq, Eq, PartialOrd, Ord)]
 pub struct Stamp(pub u32);
 
-// The number of a node, document 01's stand; 64 is none.
+// The number of a node, document 01's stand; 64 is none. Words are loaded as they stand, with other numbers above 63
+// too, so that records hold the number and no Option.
 #[derive(Clone, Copy, Debug, PartialEq, Eq, PartialOrd, Ord)]
 pub struct NodeNumber(pub u8);
 

@@ -1,4 +1,4 @@
-// Messages by value, by the fields that their type uses.
+// Messages by value, by the fields that their type uses. The type is a number of four bits, as it is loaded.
 ghost use Rattle.std.specs.Prelude.{◌<◌, ◌^◌};
 ghost use Rattle.model.specs.Sets.{of_bits};
 ghost use Rattle.model.specs.Steps as steps;

@@ -33,7 +33,7 @@ pub fn notice(own: NodeRecord, z: NodeNumber) -> EffectRecord
     EffectRecord::quiet(forget(own, z))
 }
 
-// On 1: "its receiver answers type 2".
+// On 1: "its receiver answers type 2". What it shares with `step_invite::on_ping_invite` is `replying`.
 pub fn on_ping_contact(me: NodeNumber, own: NodeRecord, message: MessageRecord) -> EffectRecord
     requires bounds { (me.0 < 64) × (message.sender.0 < 64) }
     ensures effect { (t : Table) (time n : ℕ) → OwnFits n own

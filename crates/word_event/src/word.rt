@@ -49,7 +49,7 @@ impl EventWord {
     // A message's position has ten bits.
     pub const POSITIONS: u32 = 0x400;
 
-    // The timers are 0, 2, 3 and 4.
+    // The timers are 0, 2, 3 and 4. An event to be written may have any number.
     pub fn is_timer(k: u32) -> bool
         ensures value { result ≡ is_timer k }
     {

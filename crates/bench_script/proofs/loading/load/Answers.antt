@@ -9,7 +9,8 @@ pub loop-i-preserved : goal.loop-i-preserved
 loop-i-preserved c =
     let fours = c.as_chunks.ensures in
     let word = word_of_four c.args.bytes.now _ c.loop-i.i (omega (arith, fours.front_len)) fours.front c.from_le_bytes.ensures in
-    filled_more c.args.bytes.now c.args.words.now c.loop-i.words c.loop-i.i _ (omega (arith, fours.front_len)) (omega (arith, fours.front_len)) word c.loop-i.invariant
+    filled_more c.args.bytes.now c.args.words.now c.loop-i.words c.loop-i.i _ (omega (arith, fours.front_len)) (omega (arith, fours.front_len)) word
+    c.loop-i.invariant
 
 pub returns : goal.returns
 returns c = record {
