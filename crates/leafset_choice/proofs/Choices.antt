@@ -12,7 +12,7 @@ use lib.ListN.{length, get_or}
 use Rattle.model.specs.Key.{clockwise}
 use Rattle.model.specs.Sets.{Set, some, of_bits}
 use Rattle.model.specs.Leafset.{Table, successor, passes_zero}
-use Rattle.model.proofs.Laws.{is_false, and_left, some_in, some_out}
+use Rattle.model.proofs.Laws.{clash, is_false, and_left, some_in, some_out}
 use Rattle.sets.specs.Within.{InTable}
 use Rattle.model.specs.Structs.{table_of}
 use Rattle.model.specs.declared.values.Sides.{Sides}
@@ -37,18 +37,22 @@ module _ (sides : Sides) (keys : List ℕ) where
       let f = picked (span_to Clockwise (get_or keys x 0) keys) S beyond (λ y e. span< Clockwise (get_or keys x 0) (get_or keys y 0)) (length keys) low in
       rw (← successor_found x S low f) (low _ (found_least y e f).member)
 
-  -- passing zero, at a successor and at none
-  pub passes_found : (x : ℕ) (held : Set) (b u v : ℕ) → held b ≡ true → b < length keys → b ≡ successor t x held
+  -- passing zero, where somebody is held
+  pub passes_found : (x : ℕ) (held : Set) (some : (y : ℕ) × (y < length keys) × (held y ≡ true)) (b u v : ℕ) → b ≡ successor t x held
       → u ≡ clockwise (get_or keys x 0) 0 → v ≡ clockwise (get_or keys x 0) (get_or keys b 0) → ltb u v ≡ passes_zero t x held
   unfolding passes_zero
-  passes_found x held b u v h l e f g = rw (some_in (length keys) held b l h, ← e, f, g)
+  passes_found x held s b u v e f g = rw (some_in (length keys) held s.0 s.1 s.2, ← e, f, g)
 
-  pub passes_nobody : (x : ℕ) (held : Set) → length keys ≤ 64 → ((y : ℕ) → held y ≡ true → y < length keys)
-      → (r : Option NodeNumber) → ((y : NodeNumber) → r ≡ Some y → ⊥) → number_or_none r ≡ successor t x held → false ≡ passes_zero t x held
+  pub passes_nobody : (x : ℕ) (held : Set) → ((y : ℕ) → held y ≡ false) → false ≡ passes_zero t x held
   unfolding passes_zero
-  passes_nobody x held few low None f e =
-      rw (is_false (some (length keys) held) (λ s. let p = some_out (length keys) held s in omega (arith, few, e, successor_low x held low p.0 p.2)))
-  passes_nobody x held few low (Some y) f e = absurd (f y refl)
+  passes_nobody x held f = rw (is_false (some (length keys) held) (λ s. let p = some_out (length keys) held s in clash p.2 (f p.0)))
+
+  -- where there is no successor
+  pub passes_none : (x : ℕ) (held : Set) → length keys ≤ 64 → ((y : ℕ) → held y ≡ true → y < length keys)
+      → (r : Option NodeNumber) → ((y : NodeNumber) → r ≡ Some y → ⊥) → number_or_none r ≡ successor t x held → false ≡ passes_zero t x held
+  passes_none x held few low None f e =
+      passes_nobody x held (λ y. is_false (held y) (λ h. omega (arith, few, e, successor_low x held low y h)))
+  passes_none x held few low (Some y) f e = absurd (f y refl)
 
 module _ (sides : Sides) {keys : List ℕ} {x held : ℕ} (q : InTable keys x held) where
   -- the successor of a node that holds somebody, as one that passes zero does

@@ -8,10 +8,7 @@ use native.Mathlib.Omega.{arith}
 use native.Mathlib.Decide.{dec_lt}
 use lib.Dec.{eqb, ltb}
 use lib.ListN.{length, get_or}
-use borrow.Author.Tests.{lt-ltb, ltb-true, ltb-false}
-use Rattle.std.specs.Bool.{then_some}
-use Rattle.model.specs.declared.values.NodeNumber.{NodeNumber}
-use Rattle.sets.specs.Numbers.{number_or_none}
+use borrow.Author.Tests.{lt-ltb, ltb-true}
 use Rattle.model.specs.Key.{distance}
 use Rattle.model.specs.Sets.{Set, without, none_node, some, lowest, to_bits, of_bits}
 use Rattle.model.specs.Leafset.{leafset, nearest, closest}
@@ -60,7 +57,7 @@ module _ (sides : Sides) {keys : List ℕ} {x held : ℕ} (q : InTable keys x he
           | no h ↦ omega arith
         ]
 
-    closest_found : far b < far x → b ≡ closest (table_of sides keys) x (of_bits held) a
+    pub closest_found : far b < far x → b ≡ closest (table_of sides keys) x (of_bits held) a
     closest_found h =
         closest_is (found (record {
           member = and_in l.member (lt-ltb (far b) (far x) h);
@@ -68,19 +65,12 @@ module _ (sides : Sides) {keys : List ℕ} {x held : ℕ} (q : InTable keys x he
           lowest = λ y q g. l.lowest y (and_left (of_bits others y) (ltb (far y) (far x)) q) g;
         }))
 
-    closest_none : far x ≤ far b → none_node ≡ closest (table_of sides keys) x (of_bits held) a
+    pub closest_none : far x ≤ far b → none_node ≡ closest (table_of sides keys) x (of_bits held) a
     closest_none h =
         closest_is (nobody (λ y. is_false (enough y) (λ q.
         lt_irrefl (far y)
         (le_trans (ltb-true (far y) (far x) (and_right (of_bits others y) (ltb (far y) (far x)) q))
         (le_trans h (first_far y (and_left (of_bits others y) (ltb (far y) (far x)) q)))))))
-
-    pub closest_kept : {u v : ℕ} (y : NodeNumber) → y.0 ≡ b → u ≡ far b → v ≡ far x
-        → number_or_none (then_some (ltb u v) y) ≡ closest (table_of sides keys) x (of_bits held) a
-    closest_kept {u} {v} y e f g =
-        decide (ltb u v)
-        (λ t. rw t (e ∙ closest_found (omega (arith, ltb-true u v t, f, g))))
-        (λ t. rw t (closest_none (omega (arith, ltb-false u v t, f, g))))
 
 -- a spare has room in its bits
 lowest_room : (n : ℕ) (S : Set) → n ≤ 64 → lowest n S < 2 ^ 7

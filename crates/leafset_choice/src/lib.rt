@@ -49,10 +49,11 @@ pub fn closest(
     requires table { InTable keys.now x.0 held × RoomSides sides × (a.0 < length keys.now) }
     ensures value { number_or_none result
         ≡ model.closest (table_of sides keys.now) x.0 (of_bits held) a.0 }
+    ensures member { IfSome result (λ y. y.0 < length keys.now) }
 {
     let others = sets::without(leafset(keys, sides, x, held), a);
     let from = Key(keys[a.index()]);
     let y = nearest(keys, Way::Either, from, others)?;
     let is_nearer = distance(from, Key(keys[y.index()])) < distance(from, Key(keys[x.index()]));
-    is_nearer.then_some(y)
+    if is_nearer { Some(y) } else { None }
 }
