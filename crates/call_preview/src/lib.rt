@@ -20,7 +20,7 @@ fn preview_event(words: &[u32], e: Event, second: &mut [u32]) -> Result<(), Refu
         ≡ shown_in second.old (event_on words.now e) }
 {
     let change = event_play::decide(words, e)?;
-    second.copy_from_slice(words);
+    ring_ranges::copy(words, second);
     write::write(second, change);
     Ok(())
 }

@@ -1,4 +1,4 @@
-// A span of words, moved, cleared or copied.
+// A span of words, moved, cleared or copied; all of a ring's, copied.
 #![tactic(auto)]
 
 ghost use Rattle.std.specs.Prelude.{◌≡◌, ◌+◌, ◌-◌, ◌≤◌, length, get_or};
@@ -11,7 +11,19 @@ pub fn move_down(words: &mut [u32], from: usize, to: usize)
     ensures value { Patched words.old words.new from to
         (λ i. get_or words.old (i + 5) 0) }
 {
-    words.copy_within(from + 5..to + 5, from);
+    shift(&mut words[from..to + 5]);
+}
+
+// Moves the words down by five; the last five stay. On a slice of its own this is one move of memory; the kit's
+// `copy_within` goes word by word, at a distance that it is given.
+fn shift(part: &mut [u32])
+    requires length { 5 ≤ length part.old }
+    ensures value { Patched part.old part.new 0 (length part.old - 5)
+        (λ i. get_or part.old (i + 5) 0) }
+{
+    for i in 0..part.len() - 5 {
+        part[i] = part[i + 5];
+    }
 }
 
 // Writes 0 from `from` up to `to`.
@@ -20,6 +32,14 @@ pub fn clear(words: &mut [u32], from: usize, to: usize)
     ensures value { Patched words.old words.new from to (λ i. 0) }
 {
     words[from..to].fill(0);
+}
+
+// Copies all words.
+pub fn copy(words: &[u32], to: &mut [u32])
+    requires lengths { length to.old ≡ length words.now }
+    ensures words { to.new ≡ words.now }
+{
+    to.copy_from_slice(words);
 }
 
 // Copies `count` words from place `at` on to place `place` on.

@@ -19,12 +19,12 @@ returns-in_err-change c = record {
       refuses r c.args.second.now _ _ (refuses_with _ n) (passed_answer r _ c.from_residual.ensures.1 n);
 }
 
-pub copy_from_slice-requires : goal.copy_from_slice-requires
-copy_from_slice-requires c = c.requires.length ∙ sym (long _ c.requires.ring)
+pub copy-requires : goal.copy-requires
+copy-requires c = record { lengths = c.requires.length ∙ sym (long _ c.requires.ring) }
 
 pub write-requires : goal.write-requires
 write-requires c = record {
-  change = subst (λ (ws : List ℕ). Writable ws c.in_ok-change.change) (sym c.copy_from_slice.ensures.after) c.in_ok-change.ensures.decides.writable;
+  change = subst (λ (ws : List ℕ). Writable ws c.in_ok-change.change) (sym c.copy.ensures.words) c.in_ok-change.ensures.decides.writable;
 }
 
 pub returns : goal.returns
@@ -32,7 +32,7 @@ returns c = record {
   written =
       let a = c.args in
       let d = c.in_ok-change.ensures.decides in
-      let left = rw c.copy_from_slice.ensures.after at c.write.ensures.words in
+      let left = rw c.copy.ensures.words at c.write.ensures.words in
       accepts (Ok (tt {0})) a.second.now _ _ _ (sym d.answer) d.answer
       (ap (λ (q : Written). q.words) (is_written a.words.now a.e c.in_ok-change.change d.answer d.leaves left));
 }
