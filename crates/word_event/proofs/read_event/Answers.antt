@@ -3,7 +3,7 @@ use mathlib.Core.Path.{◌≡◌, sym, ap, ◌∙◌}
 use Prim.Native.Nat.{ℕ}
 use borrow.Author.Tests.{eq-eqb, ne_eqb}
 use mathlib.Core.List.{[]}
-use Rattle.std.specs.Prelude.{Result, Err}
+use Rattle.std.specs.Prelude.{Result, Ok, Err}
 use Rattle.model.specs.Answers.{number_of, first_of}
 use Rattle.model.specs.Events.{word_of, event_of, event_answer, word_answer, read_event, reading_of}
 use Rattle.model.specs.declared.event.Event.{Event}
@@ -43,5 +43,5 @@ unfolding read_event
 returns c = record {
   value =
       let same = same_word c.event-e.ensures.value c.new.ensures.value c.if-new-word.false in
-      rw (same, sym c.in_ok-check.ensures.answer, c.event-e.ensures.value);
+      rw (same, sym c.in_ok-check.ensures.answer) (ap (λ e. reading_of (Ok e)) c.event-e.ensures.value);
 }
