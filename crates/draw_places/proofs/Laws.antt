@@ -1,7 +1,8 @@
 -- What is said place by place of a list of keys is a fold over it.
 use Rattle.std.proofs.Common.{inl, inr, subst, ◌+◌, ◌≡◌, ℕ, zero, suc, ◌≤◌, ◌<◌, List, map, length, get_or, take, ap, ◌∙◌, add-one, arith, refl, sym, min, max}
-use Rattle.std.proofs.Common.{ltb}
-use Rattle.std.specs.List.{fold, count_by}
+use Rattle.std.proofs.Common.{Bool, true, false, ap₂, if◌then◌else◌}
+use mir.Val.{bool_byte}
+use Rattle.std.specs.List.{fold}
 use Rattle.std.proofs.lemmas.List.Sums.{fold_more}
 use Rattle.std.proofs.Math.Seq.{take-length}
 use denote.Param.Members.{Mut}
@@ -10,9 +11,9 @@ use Rattle.std.specs.Array.{IsFromFnResult, IsFromFnResultFrom}
 use Rattle.std.proofs.lemmas.Bool.{cases_lt}
 use lib.ListN.{length-take, length-map}
 use lib.Seq.{ext_get_or, get_or-take}
-use Rattle.model.specs.Sets.{count}
+use Rattle.model.specs.Sets.{Set, count}
 use Rattle.model.proofs.Laws.{map_at}
-use Rattle.draw_places.specs.Places.{rank_of, lowest_of, greatest, pushed_by, pushed_most}
+use Rattle.draw_places.specs.Places.{lowest_of, greatest, pushed_by, pushed_most}
 
 module _ {B : Type 0} (h : B → ℕ → B) (a : B) (xs : List ℕ) (F : ℕ → B) (none : F 0 ≡ a) (more : (n : ℕ) → F (suc n) ≡ h (F n) (get_or xs n 0)) where
   part_folded : (n : ℕ) → n ≤ length xs → F n ≡ fold h a (take n xs)
@@ -24,9 +25,18 @@ module _ {B : Type 0} (h : B → ℕ → B) (a : B) (xs : List ℕ) (F : ℕ →
   folded : F (length xs) ≡ fold h a xs
   folded = rw take-length at (part_folded (length xs) (omega arith))
 
-pub rank_counted : (keys : List ℕ) (key : ℕ) → rank_of keys key ≡ count_by (λ x. ltb x key) keys
-unfolding rank_of count
-rank_counted keys key = folded _ 0 keys (λ n. count n (λ y. ltb (get_or keys y 0) key)) refl (λ n. refl)
+-- one key more is counted
+pub counted_more : (S : Set) (n k b : ℕ) → k ≡ count n S → b ≡ bool_byte (S n) → k + b ≡ count (n + 1) S
+unfolding count
+counted_more S n k b e f = ap₂ (λ (x y : ℕ). x + y) e (f ∙ as_bit (S n)) ∙ sym (rw add-one refl)
+  where
+    as_bit : (c : Bool) → bool_byte c ≡ (if c then 1 else 0)
+    as_bit true = refl
+    as_bit false = refl
+
+pub byte_low : (c : Bool) (b : ℕ) → b ≡ bool_byte c → b ≤ 1
+byte_low true b e = omega (arith, e)
+byte_low false b e = omega (arith, e)
 
 pub lowest_folded : (keys : List ℕ) → lowest_of (length keys) keys ≡ fold min 4294967295 keys
 unfolding lowest_of

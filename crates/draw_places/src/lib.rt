@@ -26,14 +26,18 @@ fn distances(n: u32, many: u32) -> u32
     TURN / 2 / n * many
 }
 
-// How many of the keys are lower.
-#[tactic(auto, using(crate::proofs::Laws::rank_counted))]
+// How many of the keys are lower: a sum, since `filter` and `count` go key by key, and this takes most of a drawing of
+// many nodes.
 fn rank(keys: &[u32], key: u32) -> u32
     requires few { length keys.now ≤ 64 }
     ensures value { result ≡ rank_of keys.now key }
     ensures bound { result ≤ length keys.now }
 {
-    keys.iter().filter(|other| **other < key).count() as u32
+    let mut rank = 0;
+    for other in keys {
+        rank += u32::from(*other < key);
+    }
+    rank
 }
 
 // The lowest of the keys.
