@@ -49,7 +49,10 @@ pub fn play_all(words: &mut [u32], script: &[u32], answers: &mut [u8]) -> Result
     ensures played { PlayedAll words.old script.now answers.old (answer_number result)
         words.new answers.new }
 {
-    call_refusals::of_words(words)?;
+    // The refusal has a name, as with `?` it had not: an edit of it is refused for the answer that it gives.
+    if let Err(refusal) = call_refusals::of_words(words) {
+        return Err(refusal);
+    }
     play_each(words, script, answers);
     Ok(())
 }
